@@ -357,26 +357,26 @@ impl<A: Allocator + Copy> Frames<A> {
 
 impl<A: Allocator + Copy + Send + Sync> Frames<A> {
     /// Carries out moves: the pages go on their way to their new frames, a crew copies them, and meanwhile what is left to
-    /// do for accesses to other pages is done; then they have arrived. Returns the address spaces, and the answers in the
-    /// list that it is given, which has room for them.
+    /// do for accesses to other pages is done; then they have arrived. Returns the answers, in the list that it is given,
+    /// which has room for them.
     pub fn carry_out<R: Threads + Wait + Sync, G: Gate + Sync>(
         &mut self,
         crew: &Crew<R, G>,
         alloc: A,
-        spaces: AddressSpaces<A>,
+        spaces: &mut AddressSpaces<A>,
         moves: &[Taken],
         dues: Vec<PendingAccess<'_, A>, A>,
         answers: Vec<AccessAnswer<A>, A>,
-    ) -> (AddressSpaces<A>, Vec<AccessAnswer<A>, A>)
+    ) -> Vec<AccessAnswer<A>, A>
         // The moves
-        requires remap { CanRemap spaces moves.now }
+        requires remap { CanRemap spaces.old moves.now }
         requires can { CanCopy self.old.frames moves.now }
         requires populated { AllByRecursion (HasBoth self.old.frames) moves.now }
         requires few { length moves.now ≤ self.old.room }
 
         // What is left to do
         requires due { AllByRecursion
-            (CanDo (all_moved spaces moves.now).place (emptied self.old.frames moves.now))
+            (CanDo (all_moved spaces.old moves.now).place (emptied self.old.frames moves.now))
             (map pending_shown dues.items) }
         requires room { AllByRecursion HasRoom dues.items }
 
@@ -385,27 +385,25 @@ impl<A: Allocator + Copy + Send + Sync> Frames<A> {
         requires space { vec_len dues ≤ vec_capacity answers }
 
         // Afterwards
-        ensures spaces { result.0 ≡ all_moved spaces moves.now }
+        ensures spaces { spaces.new ≡ all_moved spaces.old moves.now }
         ensures frames { self.new
             ≡ record (self.old) {
-              frames = (all_stored_after_copy (all_moved spaces moves.now).place
+              frames = (all_stored_after_copy (all_moved spaces.old moves.now).place
                   (with_copies self.old.frames moves.now)
                   (map pending_shown dues.entry.items)).store;
               room = self.new.room;
             } }
-        ensures answers { map answer_shown result.1.items
-            ≡ (all_stored_after_copy (all_moved spaces moves.now).place
+        ensures answers { map answer_shown result.items
+            ≡ (all_stored_after_copy (all_moved spaces.old moves.now).place
             (with_copies self.old.frames moves.now)
             (map pending_shown dues.entry.items)).answers }
     {
         let mut jobs = mem::replace(&mut self.jobs, Vec::new(alloc));
-        let store = mem::replace(&mut self.frames, FrameStore::none(alloc));
-        let mut run = RunInFlight::begin(spaces, store, moves, &mut jobs);
+        let mut run = RunInFlight::begin(alloc, spaces, &mut self.frames, moves, &mut jobs);
         let (mut copied, answers) = run.copy_beside(crew, alloc, jobs, dues, answers);
-        let (spaces, store) = run.finish(&mut copied);
-        self.frames = store;
+        run.finish(spaces, &mut self.frames, &mut copied);
         self.jobs = copied;
-        (spaces, answers)
+        answers
     }
 }
 

@@ -16,10 +16,8 @@ use nm_crew::{Crew, Gate};
 use nm_memory::{AccessAnswer, PendingAccess};
 use nm_plan::{Plan, Taken, plan};
 use nm_runs::{Class, Run, classify, classify_here};
-use nm_spaces::AddressSpaces;
 use nm_types::{Errno, Geometry, NodeId, PageView};
 use std::alloc::{AllocError, Allocator};
-use std::mem;
 use std::sync::Wait;
 use std::thread::Threads;
 
@@ -93,12 +91,8 @@ impl<A: Allocator + Copy + Send + Sync> Inner<A> {
         ensures left { self.new.left ≡ frames_left moves.now }
     {
         self.frames.vacate_each(moves);
-        let spaces = mem::replace(&mut self.spaces, AddressSpaces::none(self.alloc));
-        let (spaces, answers) = self
-            .frames
-            .carry_out(crew, self.alloc, spaces, moves, dues, answers);
-        self.spaces = spaces;
-        answers
+        self.frames
+            .carry_out(crew, self.alloc, &mut self.spaces, moves, dues, answers)
     }
 
     /// Ends a run: its moves and failures are counted, and the frames that its pages left become free. Returns the

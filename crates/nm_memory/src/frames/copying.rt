@@ -33,7 +33,7 @@ impl<'r, A: Allocator + Copy> Reach<'r, A> {
             ≡ store_after_copy self.old.spaces.now.spaces.place self.old.store (pending_shown due.entry) }
         ensures answer { answer_shown result
             ≡ answer_from_store self.old.spaces.now.spaces.place self.old.store
-                (pending_shown due.entry) }
+            (pending_shown due.entry) }
     {
         match due {
             PendingAccess::Known(answer) => answer,

@@ -48,55 +48,65 @@ impl<'m, A: Allocator + Copy> Model for RunInFlight<'m, A> {
 }
 
 impl<'m, A: Allocator + Copy> RunInFlight<'m, A> {
-    /// Begins a run of these moves: every entry that names a frame that a page leaves is held, on its way to the frame
-    /// that the page takes, and the bytes of both frames go out, as a job at the end of a list that has room for it. Does
-    /// not allocate.
+    /// Begins a run of these moves, for which it takes the address spaces and the bytes out: every entry that names a frame
+    /// that a page leaves is held, on its way to the frame that the page takes, and the bytes of both frames go out, as a
+    /// job at the end of a list that has room for it. Does not allocate.
     pub(super) fn begin(
-        spaces: AddressSpaces<A>,
-        mut store: FrameStore<A>,
+        alloc: A,
+        spaces: &mut AddressSpaces<A>,
+        frames: &mut FrameStore<A>,
         moves: &'m [Taken],
         jobs: &mut Vec<CopyJob<A>, A>,
     ) -> Self
-        requires remap { CanRemap spaces moves.now }
-        requires can { CanCopy store moves.now }
-        requires populated { AllByRecursion (HasBoth store) moves.now }
+        requires remap { CanRemap spaces.old moves.now }
+        requires can { CanCopy frames.old moves.now }
+        requires populated { AllByRecursion (HasBoth frames.old) moves.now }
         requires room { vec_len jobs.old + length moves.now ≤ vec_capacity jobs.old }
 
         // The run
         ensures entries { (pid v : ℕ) →
             entry_at result.tables pid v
-            ≡ option_map (held_by (map (laid_for store) moves.now)) (entry_here spaces pid v) }
-        ensures spaces { result.spaces ≡ all_moved spaces moves.now }
-        ensures store { result.store ≡ emptied store moves.now }
+            ≡ option_map (held_by (map (laid_for frames.old) moves.now))
+            (entry_here spaces.old pid v) }
+        ensures spaces { result.spaces ≡ all_moved spaces.old moves.now }
+        ensures store { result.store ≡ emptied frames.old moves.now }
         ensures moves { result.moves ≡ moves.now }
 
         // Its jobs
-        ensures jobs { jobs.new.items ≡ jobs.old.items ++ jobs_of (vec_len jobs.old) store moves.now }
+        ensures jobs { jobs.new.items
+            ≡ jobs.old.items ++ jobs_of (vec_len jobs.old) frames.old moves.now }
         ensures room { vec_capacity jobs.new ≡ vec_capacity jobs.old }
     {
+        let mut store = mem::replace(frames, FrameStore::none(alloc));
         take_out_each(&mut store, moves, jobs);
         RunInFlight {
-            spaces: spaces.hold(moves),
+            spaces: mem::replace(spaces, AddressSpaces::none(alloc)).hold(moves),
             store,
             moves,
         }
     }
 
-    /// Ends the run: the bytes of its jobs, which the list loses, are put back home, and each held entry names the frame
-    /// that its page was on its way to. Does not allocate.
-    pub(super) fn finish(self, copied: &mut Vec<CopyJob<A>, A>) -> (AddressSpaces<A>, FrameStore<A>)
+    /// Ends the run, and puts back what it took out: the bytes of its jobs, which the list loses, are home again, and each
+    /// held entry names the frame that its page was on its way to. Does not allocate.
+    pub(super) fn finish(
+        self,
+        spaces: &mut AddressSpaces<A>,
+        frames: &mut FrameStore<A>,
+        copied: &mut Vec<CopyJob<A>, A>,
+    )
         requires { CanRefill self.store copied.old.items }
-        ensures spaces { result.0 ≡ self.entry.spaces }
-        ensures store { result.1 ≡ refilled self.entry.store copied.old.items }
+        ensures spaces { spaces.new ≡ self.entry.spaces }
+        ensures frames { frames.new ≡ refilled self.entry.store copied.old.items }
         ensures empty { copied.new.items ≡ [] }
     {
         let RunInFlight {
-            spaces,
+            spaces: held,
             mut store,
             moves,
         } = self;
         put_back_each(&mut store, copied);
-        (spaces.settle(moves), store)
+        *frames = store;
+        *spaces = held.settle(moves);
     }
 }
 

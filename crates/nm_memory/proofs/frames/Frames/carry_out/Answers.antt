@@ -18,12 +18,11 @@ use Rattle.nm_memory.proofs.Copies.Populated.{after_populated}
 use Rattle.nm_memory.proofs.frames.Frames.carry_out.Goals as goal
 
 pub begin-run-requires-clause-can : goal.begin-run-requires-clause-can
-begin-run-requires-clause-can g c = subst (λ (s : Store). CanCopy s c.args.moves.now) (sym c.replace-store.ensures.value) (subst (λ (v : FramesView). CanCopy v.frames c.args.moves.now) (sym c.self.view_is) c.requires.can)
+begin-run-requires-clause-can g c = subst (λ (v : FramesView). CanCopy v.frames c.args.moves.now) (sym c.self.view_is) c.requires.can
 
 pub begin-run-requires-clause-populated : goal.begin-run-requires-clause-populated
 begin-run-requires-clause-populated g c =
-    subst (λ (s : Store). AllByRecursion (HasBoth s) c.args.moves.now) (sym c.replace-store.ensures.value)
-    (subst (λ (v : FramesView). AllByRecursion (HasBoth v.frames) c.args.moves.now) (sym c.self.view_is) c.requires.populated)
+    subst (λ (v : FramesView). AllByRecursion (HasBoth v.frames) c.args.moves.now) (sym c.self.view_is) c.requires.populated
 
 pub copy_beside-copied-requires-clause-tickets : goal.copy_beside-copied-requires-clause-tickets
 copy_beside-copied-requires-clause-tickets g c κs within t job at =
@@ -32,8 +31,8 @@ copy_beside-copied-requires-clause-tickets g c κs within t job at =
     let none = ap (λ jobs. jobs.items) c.replace-jobs.ensures.value ∙ c.self.invariant.2 in
     let first : vec_len c.replace-jobs.result ≡ 0 = c.replace-jobs.result.ok.0 ∙ ap length none in
     let laid =
-    c.begin-run.ensures.jobs ∙ ap (λ l. l ++ jobs_of {A = g.row.A.Denot} (vec_len c.replace-jobs.result) c.replace-store.result moves) none
-    ∙ ap (λ n. jobs_of {A = g.row.A.Denot} n c.replace-store.result moves) first ∙ ap (λ (s : Store). jobs_of {A = g.row.A.Denot} 0 s moves) c.replace-store.ensures.value in
+    c.begin-run.ensures.jobs ∙ ap (λ l. l ++ jobs_of {A = g.row.A.Denot} (vec_len c.replace-jobs.result) k.frames moves) none
+    ∙ ap (λ n. jobs_of {A = g.row.A.Denot} n k.frames moves) first in
     let is = tickets_from g.row.A.Denot moves 0 k.frames t job (ap (λ l. slice_get l t) (sym laid) ∙ at) in
     omega (arith, is)
 
@@ -42,24 +41,24 @@ copy_beside-copied-requires-clause-due g c κs within =
     let k = c.self.inside in
     let moves = c.args.moves.now in
     let dues = map pending_shown c.args.dues.items in
-    let place = (all_moved c.args.spaces moves).place in
-    let gone = c.begin-run.ensures.store ∙ ap (λ (s : Store). emptied s moves) c.replace-store.ensures.value in
+    let place = (all_moved c.args.spaces.now moves).place in
+    let gone = c.begin-run.ensures.store in
     subst (λ (y : AddressSpacesView). AllByRecursion (CanDo y.place c.begin-run.result.store) dues) (sym c.begin-run.ensures.spaces)
     (subst (λ (s : Store). AllByRecursion (CanDo place s) dues) (sym gone)
     (subst (λ (v : FramesView). AllByRecursion (CanDo place (emptied v.frames moves)) dues) (sym c.self.view_is) c.requires.due))
 
-pub finish-spaces-requires : goal.finish-spaces-requires
-finish-spaces-requires g c =
+pub finish-requires : goal.finish-requires
+finish-requires g c =
     let k = c.self.inside in
     let moves = c.args.moves.now in
     let dues = map pending_shown c.args.dues.items in
-    let place = (all_moved c.args.spaces moves).place in
+    let place = (all_moved c.args.spaces.now moves).place in
     let none = ap (λ jobs. jobs.items) c.replace-jobs.ensures.value ∙ c.self.invariant.2 in
     let first : vec_len c.replace-jobs.result ≡ 0 = c.replace-jobs.result.ok.0 ∙ ap length none in
     let laid =
-    c.begin-run.ensures.jobs ∙ ap (λ l. l ++ jobs_of {A = g.row.A.Denot} (vec_len c.replace-jobs.result) c.replace-store.result moves) none
-    ∙ ap (λ n. jobs_of {A = g.row.A.Denot} n c.replace-store.result moves) first ∙ ap (λ (s : Store). jobs_of {A = g.row.A.Denot} 0 s moves) c.replace-store.ensures.value in
-    let gone = c.begin-run.ensures.store ∙ ap (λ (s : Store). emptied s moves) c.replace-store.ensures.value in
+    c.begin-run.ensures.jobs ∙ ap (λ l. l ++ jobs_of {A = g.row.A.Denot} (vec_len c.replace-jobs.result) k.frames moves) none
+    ∙ ap (λ n. jobs_of {A = g.row.A.Denot} n k.frames moves) first in
+    let gone = c.begin-run.ensures.store in
     let can = subst (λ (v : FramesView). CanCopy v.frames moves) (sym c.self.view_is) c.requires.can in
     let doable = subst (λ (v : FramesView). AllByRecursion (CanDo place (emptied v.frames moves)) dues) (sym c.self.view_is) c.requires.due in
     let there =
@@ -75,13 +74,13 @@ invariant_of-self g c =
     let k = c.self.inside in
     let moves = c.args.moves.now in
     let dues = map pending_shown c.args.dues.items in
-    let place = (all_moved c.args.spaces moves).place in
+    let place = (all_moved c.args.spaces.now moves).place in
     let none = ap (λ jobs. jobs.items) c.replace-jobs.ensures.value ∙ c.self.invariant.2 in
     let first : vec_len c.replace-jobs.result ≡ 0 = c.replace-jobs.result.ok.0 ∙ ap length none in
     let laid =
-    c.begin-run.ensures.jobs ∙ ap (λ l. l ++ jobs_of {A = g.row.A.Denot} (vec_len c.replace-jobs.result) c.replace-store.result moves) none
-    ∙ ap (λ n. jobs_of {A = g.row.A.Denot} n c.replace-store.result moves) first ∙ ap (λ (s : Store). jobs_of {A = g.row.A.Denot} 0 s moves) c.replace-store.ensures.value in
-    let gone = c.begin-run.ensures.store ∙ ap (λ (s : Store). emptied s moves) c.replace-store.ensures.value in
+    c.begin-run.ensures.jobs ∙ ap (λ l. l ++ jobs_of {A = g.row.A.Denot} (vec_len c.replace-jobs.result) k.frames moves) none
+    ∙ ap (λ n. jobs_of {A = g.row.A.Denot} n k.frames moves) first in
+    let gone = c.begin-run.ensures.store in
     let can = subst (λ (v : FramesView). CanCopy v.frames moves) (sym c.self.view_is) c.requires.can in
     let doable = subst (λ (v : FramesView). AllByRecursion (CanDo place (emptied v.frames moves)) dues) (sym c.self.view_is) c.requires.due in
     let there =
@@ -90,7 +89,7 @@ invariant_of-self g c =
     ∙ ap (λ (s : Store). (all_stored_after_copy place s dues).store) gone in
     let are = c.copy_beside-copied.ensures.jobs ∙ ap (map copied) laid in
     let home = home_again place dues moves 0 k.frames c.copy_beside-copied.new.self.store c.copy_beside-copied.result.0.items can doable there are in
-    let is = c.finish-spaces.ensures.store ∙ home.is in
+    let is = c.finish.ensures.frames ∙ home.is in
     let after = with_copies k.frames moves in (
       c.self.invariant.0,
       record {
@@ -98,7 +97,7 @@ invariant_of-self g c =
         buffers = ap (λ (s : Store). length s) is ∙ done_as_many place dues after ∙ copies_as_many moves k.frames ∙ c.self.invariant.1.buffers;
         home = λ f below. subst (λ (s : Store). IsHome s f) (sym is) (done_home place dues after f (copies_home moves k.frames f (c.self.invariant.1.home f below)));
       },
-      c.finish-spaces.ensures.empty,
+      c.finish.ensures.empty,
       subst (λ (s : Store). AllByRecursion (IsPopulated s) k.vacated.items) (sym is)
           (after_populated k.vacated.items place dues moves (emptied k.frames moves) k.frames
           (subst (λ (v : FramesView). AllByRecursion (HasBoth v.frames) moves) (sym c.self.view_is) c.requires.populated)
@@ -110,13 +109,13 @@ returns-clause-frames g c =
     let k = c.self.inside in
     let moves = c.args.moves.now in
     let dues = map pending_shown c.args.dues.items in
-    let place = (all_moved c.args.spaces moves).place in
+    let place = (all_moved c.args.spaces.now moves).place in
     let none = ap (λ jobs. jobs.items) c.replace-jobs.ensures.value ∙ c.self.invariant.2 in
     let first : vec_len c.replace-jobs.result ≡ 0 = c.replace-jobs.result.ok.0 ∙ ap length none in
     let laid =
-    c.begin-run.ensures.jobs ∙ ap (λ l. l ++ jobs_of {A = g.row.A.Denot} (vec_len c.replace-jobs.result) c.replace-store.result moves) none
-    ∙ ap (λ n. jobs_of {A = g.row.A.Denot} n c.replace-store.result moves) first ∙ ap (λ (s : Store). jobs_of {A = g.row.A.Denot} 0 s moves) c.replace-store.ensures.value in
-    let gone = c.begin-run.ensures.store ∙ ap (λ (s : Store). emptied s moves) c.replace-store.ensures.value in
+    c.begin-run.ensures.jobs ∙ ap (λ l. l ++ jobs_of {A = g.row.A.Denot} (vec_len c.replace-jobs.result) k.frames moves) none
+    ∙ ap (λ n. jobs_of {A = g.row.A.Denot} n k.frames moves) first in
+    let gone = c.begin-run.ensures.store in
     let can = subst (λ (v : FramesView). CanCopy v.frames moves) (sym c.self.view_is) c.requires.can in
     let doable = subst (λ (v : FramesView). AllByRecursion (CanDo place (emptied v.frames moves)) dues) (sym c.self.view_is) c.requires.due in
     let there =
@@ -125,22 +124,22 @@ returns-clause-frames g c =
     ∙ ap (λ (s : Store). (all_stored_after_copy place s dues).store) gone in
     let are = c.copy_beside-copied.ensures.jobs ∙ ap (map copied) laid in
     let home = home_again place dues moves 0 k.frames c.copy_beside-copied.new.self.store c.copy_beside-copied.result.0.items can doable there are in
-    let room = min (vec_capacity k.vacated) (vec_capacity c.finish-spaces.new.copied) in
+    let room = min (vec_capacity k.vacated) (vec_capacity c.finish.new.copied) in
     let fields : Store → FramesView = λ s. record { layout = k.geometry; frames = s; free = k.nodes.lists; vacated = k.vacated.items; room = room } in
-    ap fields (c.finish-spaces.ensures.store ∙ home.is) ∙ ap (λ (v : FramesView). record v { frames = (all_stored_after_copy place (with_copies v.frames moves) dues).store; room = room }) c.self.view_is
+    ap fields (c.finish.ensures.frames ∙ home.is) ∙ ap (λ (v : FramesView). record v { frames = (all_stored_after_copy place (with_copies v.frames moves) dues).store; room = room }) c.self.view_is
 
 pub returns-clause-answers : goal.returns-clause-answers
 returns-clause-answers g c =
     let k = c.self.inside in
     let moves = c.args.moves.now in
     let dues = map pending_shown c.args.dues.items in
-    let place = (all_moved c.args.spaces moves).place in
+    let place = (all_moved c.args.spaces.now moves).place in
     let none = ap (λ jobs. jobs.items) c.replace-jobs.ensures.value ∙ c.self.invariant.2 in
     let first : vec_len c.replace-jobs.result ≡ 0 = c.replace-jobs.result.ok.0 ∙ ap length none in
     let laid =
-    c.begin-run.ensures.jobs ∙ ap (λ l. l ++ jobs_of {A = g.row.A.Denot} (vec_len c.replace-jobs.result) c.replace-store.result moves) none
-    ∙ ap (λ n. jobs_of {A = g.row.A.Denot} n c.replace-store.result moves) first ∙ ap (λ (s : Store). jobs_of {A = g.row.A.Denot} 0 s moves) c.replace-store.ensures.value in
-    let gone = c.begin-run.ensures.store ∙ ap (λ (s : Store). emptied s moves) c.replace-store.ensures.value in
+    c.begin-run.ensures.jobs ∙ ap (λ l. l ++ jobs_of {A = g.row.A.Denot} (vec_len c.replace-jobs.result) k.frames moves) none
+    ∙ ap (λ n. jobs_of {A = g.row.A.Denot} n k.frames moves) first in
+    let gone = c.begin-run.ensures.store in
     let can = subst (λ (v : FramesView). CanCopy v.frames moves) (sym c.self.view_is) c.requires.can in
     let doable = subst (λ (v : FramesView). AllByRecursion (CanDo place (emptied v.frames moves)) dues) (sym c.self.view_is) c.requires.due in
     let there =
