@@ -358,7 +358,7 @@ impl<A: Allocator + Copy> Frames<A> {
 impl<A: Allocator + Copy + Send + Sync> Frames<A> {
     /// Carries out moves: the pages go on their way to their new frames, a crew copies them, and meanwhile what is left to
     /// do for accesses to other pages is done; then they have arrived. Returns the answers, in the list that it is given,
-    /// which has room for them.
+    /// which has room for them. Where no page moves and nothing is left to do, nothing goes on its way.
     pub fn carry_out<R: Threads + Wait + Sync, G: Gate + Sync>(
         &mut self,
         crew: &Crew<R, G>,
@@ -398,6 +398,9 @@ impl<A: Allocator + Copy + Send + Sync> Frames<A> {
             (with_copies self.old.frames moves.now)
             (map pending_shown dues.entry.items)).answers }
     {
+        if moves.is_empty() && dues.is_empty() {
+            return answers;
+        }
         let mut jobs = mem::replace(&mut self.jobs, Vec::new(alloc));
         let mut run = RunInFlight::begin(alloc, spaces, &mut self.frames, moves, &mut jobs);
         let (mut copied, answers) = run.copy_beside(crew, alloc, jobs, dues, answers);

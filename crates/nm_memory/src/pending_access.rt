@@ -4,7 +4,8 @@ use crate::answers::AccessAnswer;
 use nm_types::Page;
 use std::alloc::Allocator;
 
-/// What is left to do for an access after its touch. None of it allocates. The bytes that an access writes are its own.
+/// What is left to do for an access after its touch. None of it allocates. The bytes that an access writes are
+/// borrowed from it.
 #[derive(Drop)]
 pub enum PendingAccess<'d, A: Allocator + Copy> {
     /// Nothing: its answer is known.
