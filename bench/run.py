@@ -4,9 +4,10 @@
 The sizes are 1, 2, 4 and 8 times the smallest; the table has seconds of processor time (the best of five runs), peak memory, and
 how the time grows. With `--against PROGRAM` it plays each kind at its largest size on that program and on the built one in turn,
 and writes the least seconds and the peak memory of both, so that a regression can be seen. With `--instructions` it counts the
-program's instructions with valgrind in place of its time: that shows how the work grows whatever else the machine does and
-whatever its caches hold, and takes tens of times as long. Arguments select kinds; the default is all. `./build` makes the
-program."""
+program's instructions with valgrind in place of its time, with `--against` those of both programs at the smallest size: that
+shows how the work grows whatever else the machine does and whatever its caches hold, and takes tens of times as long. Arguments
+select kinds; the default is all. `./build` makes the program; `--program PROGRAM` takes another in its place, such as one that
+bench/unproved.py makes."""
 import argparse
 import math
 import os
@@ -27,7 +28,7 @@ def make_trace(kind, size, path, script=(traces.__file__,)):
         subprocess.run([sys.executable, *script, kind, str(size)], stdout=trace, check=True)
 
 
-def run_once(path, program=PROGRAM, *words):
+def run_once(path, program, *words):
     """Seconds of processor time, user and system, and peak memory in KiB of one run with these arguments."""
     with open(path, "rb") as trace, open(os.devnull, "wb") as out:
         child = subprocess.Popen([program, *words], stdin=trace, stdout=out)
@@ -37,9 +38,9 @@ def run_once(path, program=PROGRAM, *words):
     return used.ru_utime + used.ru_stime, used.ru_maxrss
 
 
-def count_once(path):
+def count_once(path, program):
     """Instructions of one run, as callgrind counts them."""
-    words = ["valgrind", "--tool=callgrind", "--callgrind-out-file=/dev/null", PROGRAM, "--workers", "1"]
+    words = ["valgrind", "--tool=callgrind", "--callgrind-out-file=/dev/null", program, "--workers", "1"]
     with open(path, "rb") as trace:
         ran = subprocess.run(words, stdin=trace, stdout=subprocess.DEVNULL, stderr=subprocess.PIPE, text=True)
     counted = re.search(r"Collected : (\d+)", ran.stderr)
@@ -56,7 +57,7 @@ def exponent(costs):
     return sum((x - mean_x) * (y - mean_y) for x, y in points) / sum((x - mean_x) ** 2 for x, _ in points)
 
 
-def compare(other, kinds):
+def compare(other, built, kinds):
     """Plays the greatest trace of each kind on two programs in turn, and writes a table."""
     print("| Trace | Size | Other, seconds | Built, seconds | Built by other | Other, memory | Built, memory |")
     print("|---|---|---|---|---|---|---|")
@@ -65,11 +66,25 @@ def compare(other, kinds):
         for kind in kinds:
             size = traces.KINDS[kind] * 8
             make_trace(kind.__name__, size, path)
-            runs = [(run_once(path, other), run_once(path)) for _ in range(9)]
+            runs = [(run_once(path, other), run_once(path, built)) for _ in range(9)]
             seconds = [min(run[k][0] for run in runs) for k in (0, 1)]
             memory = [max(run[k][1] for run in runs) / 1024 for k in (0, 1)]
             print("| `%s` | %d | %.2f | %.2f | %.2f | %.0f MiB | %.0f MiB |" % (
                 kind.__name__, size, seconds[0], seconds[1], seconds[1] / seconds[0], memory[0], memory[1]))
+
+
+def compare_counts(other, built, kinds):
+    """Counts the instructions of two programs on the smallest trace of each kind, and writes a table."""
+    print("| Trace | Size | Other, millions of instructions | Built | Built by other |")
+    print("|---|---|---|---|---|")
+    with tempfile.TemporaryDirectory() as folder:
+        path = os.path.join(folder, "trace.json")
+        for kind in kinds:
+            size = traces.KINDS[kind]
+            make_trace(kind.__name__, size, path)
+            counts = [count_once(path, program) for program in (other, built)]
+            print("| `%s` | %d | %.1f | %.1f | %.2f |" % (
+                kind.__name__, size, counts[0] / 1e6, counts[1] / 1e6, counts[1] / counts[0]), flush=True)
 
 
 def measure(kinds, make, play, runs):
@@ -93,7 +108,7 @@ def measure(kinds, make, play, runs):
                     kind.__name__, smallest * factor, size, seconds, memory, growth), flush=True)
 
 
-def count(kinds):
+def count(kinds, program):
     """Counts the instructions of each kind at four sizes, and writes the table."""
     print("| Trace | Size | Millions of instructions | Growth |")
     print("|---|---|---|---|")
@@ -103,13 +118,14 @@ def count(kinds):
             costs = []
             for factor in (1, 2, 4, 8):
                 make_trace(kind.__name__, traces.KINDS[kind] * factor, path)
-                costs.append((factor, count_once(path)))
+                costs.append((factor, count_once(path, program)))
                 growth = "%.2f" % exponent(costs) if factor == 8 else ""
                 print("| `%s` | %d | %.0f | %s |" % (kind.__name__, traces.KINDS[kind] * factor, costs[-1][1] / 1e6, growth))
 
 
 def main():
     words = argparse.ArgumentParser(description=__doc__.split("\n")[0])
+    words.add_argument("--program", default=PROGRAM, help="the program to time, in place of the built one")
     words.add_argument("--against", metavar="PROGRAM", help="compare with an earlier build of the program")
     words.add_argument("--instructions", action="store_true", help="count instructions with valgrind, in place of seconds")
     words.add_argument("kinds", nargs="*", metavar="KIND", help="a kind of trace: " + ", ".join(it.__name__ for it in traces.KINDS))
@@ -117,18 +133,18 @@ def main():
     unknown = set(given.kinds) - {kind.__name__ for kind in traces.KINDS}
     if unknown:
         words.error("unknown kind of trace: " + ", ".join(sorted(unknown)))
-    for program in filter(None, (PROGRAM, given.against)):
+    for program in filter(None, (given.program, given.against)):
         if not os.access(program, os.X_OK):
             words.error("there is no program %s" % program)
     kinds = [kind for kind in traces.KINDS if not given.kinds or kind.__name__ in given.kinds]
-    if given.against and given.instructions:
-        words.error("--against and --instructions do not go together")
+    built = os.path.abspath(given.program)
     if given.against:
-        compare(os.path.abspath(given.against), kinds)
+        both = compare_counts if given.instructions else compare
+        both(os.path.abspath(given.against), built, kinds)
     elif given.instructions:
-        count(kinds)
+        count(kinds, built)
     else:
-        measure({kind: traces.KINDS[kind] for kind in kinds}, make_trace, run_once, 5)
+        measure({kind: traces.KINDS[kind] for kind in kinds}, make_trace, lambda path: run_once(path, built), 5)
 
 
 if __name__ == "__main__":
