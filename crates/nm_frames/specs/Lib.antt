@@ -1,3 +1,3 @@
 pub mod Job
 pub mod Populated
-pub mod Written
+pub mod Zeros

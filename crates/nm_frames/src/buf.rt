@@ -1,9 +1,10 @@
 //! A frame's bytes, on their own.
 
-ghost use Rattle.std.specs.Prelude.{◌≡◌, ◌≤◌, length};
-ghost use Rattle.nm_frames.specs.Written.{IsZeroFrom};
+ghost use Rattle.std.specs.Prelude.{◌≡◌, length};
+ghost use Rattle.nm_frames.specs.Zeros.{FitsFrame, IsZeroIn};
 
 use crate::bytes::Bytes;
+use crate::gap::Gap;
 use nm_types::FrameId;
 use std::alloc::Allocator;
 use std::marker::Model;
@@ -42,12 +43,12 @@ impl<A: Allocator + Copy> FrameBuf<A> {
         self.bytes.as_slice()
     }
 
-    /// The end of the written bytes: all bytes from this index on are zero.
-    pub(crate) fn written(&self) -> usize
-        ensures zeros { IsZeroFrom self.now.1 result }
-        ensures fits { result ≤ 4096 }
+    /// Bytes that are zero.
+    pub(crate) fn gap(&self) -> Gap
+        ensures fits { FitsFrame result }
+        ensures zeros { IsZeroIn self.now.1 result }
     {
-        self.bytes.written()
+        self.bytes.gap()
     }
 
     /// Overwrites all bytes with another frame's.

@@ -2,8 +2,9 @@
 
 ghost use Rattle.std.specs.Prelude.{◌≡◌, ◌+◌, ◌≤◌, length, replicate, IfOk};
 ghost use Rattle.nm_model.specs.definitions.Frames.{overwrite};
-ghost use Rattle.nm_frames.specs.Written.{IsZeroFrom};
+ghost use Rattle.nm_frames.specs.Zeros.{FitsFrame, IsZeroIn};
 
+use crate::gap::Gap;
 use nm_types::limits::PAGE_BYTES;
 use std::alloc::{AllocError, Allocator};
 use std::marker::Model;
@@ -12,23 +13,23 @@ use std::marker::Model;
 const ZEROS: [u8; PAGE_BYTES] = [0; PAGE_BYTES];
 
 /// The 4,096 bytes of a frame, owned. Contracts see the list of them. Most pages hold little, and bytes never written
-/// are zero: the end of the written bytes is kept, and no call copies or clears what lies past it.
+/// are zero: the gap between those at both ends is kept, and no call copies or clears it.
 #[derive(Debug, Drop)]
 pub struct Bytes<A: Allocator + Copy> {
     bytes: Box<[u8; PAGE_BYTES], A>,
-    /// Every byte from this index on is zero.
-    written: usize,
+    /// Every byte of it is zero.
+    gap: Gap,
 }
 
 impl<A: Allocator + Copy> Model for Bytes<A> {
-    ghost use Rattle.std.specs.Prelude.{◌≡◌, ◌≤◌, ℕ, List, length};
-    ghost use Rattle.nm_frames.specs.Written.{IsZeroFrom};
+    ghost use Rattle.std.specs.Prelude.{◌≡◌, ℕ, List, length};
+    ghost use Rattle.nm_frames.specs.Zeros.{FitsFrame, IsZeroIn};
 
     ghost Value = { List ℕ };
 
     ghost view = { λ b. b.bytes.value };
 
-    ghost invariant = { λ b. (length b.bytes.value ≡ 4096) × (b.written ≤ 4096) × IsZeroFrom b.bytes.value b.written };
+    ghost invariant = { λ b. (length b.bytes.value ≡ 4096) × FitsFrame b.gap × IsZeroIn b.bytes.value b.gap };
 }
 
 impl<A: Allocator + Copy> Bytes<A> {
@@ -37,7 +38,10 @@ impl<A: Allocator + Copy> Bytes<A> {
         ensures { IfOk result (λ b. b ≡ replicate 4096 0) }
     {
         let bytes = Box::new(alloc, [0; PAGE_BYTES])?;
-        Ok(Bytes { bytes, written: 0 })
+        Ok(Bytes {
+            bytes,
+            gap: Gap::whole(),
+        })
     }
 
     /// All 4,096 bytes.
@@ -48,21 +52,19 @@ impl<A: Allocator + Copy> Bytes<A> {
         self.bytes.as_slice()
     }
 
-    /// The end of the written bytes: all bytes from this index on are zero.
-    pub(crate) fn written(&self) -> usize
-        ensures zeros { IsZeroFrom self.now result }
-        ensures fits { result ≤ 4096 }
+    /// Bytes that are zero.
+    pub(crate) fn gap(&self) -> Gap
+        ensures fits { FitsFrame result }
+        ensures zeros { IsZeroIn self.now result }
     {
-        self.written
+        self.gap
     }
 
     /// Sets all bytes to zero.
     pub fn clear(&mut self)
         ensures { self.new ≡ replicate 4096 0 }
     {
-        let written = self.written;
-        self.write(0, &ZEROS[..written]);
-        self.written = 0;
+        self.replace(&ZEROS, Gap::whole());
     }
 
     /// Overwrites the bytes from index `at` on. They must end within the frame.
@@ -72,15 +74,26 @@ impl<A: Allocator + Copy> Bytes<A> {
     {
         let end = at + bytes.len();
         self.bytes[at..end].copy_from_slice(bytes);
-        self.written = self.written.max(end);
+        self.gap = self.gap.without(at as u16, end as u16);
     }
 
     /// Overwrites all bytes with another frame's.
     pub fn copy_from(&mut self, other: &Self)
         ensures { self.new ≡ other.now }
     {
-        let end = self.written.max(other.written);
-        self.write(0, &other.bytes[..end]);
-        self.written = other.written;
+        self.replace(&other.bytes, other.gap);
+    }
+
+    /// Overwrites all bytes with others that are zero in a gap. What is zero in both is not copied.
+    fn replace(&mut self, bytes: &[u8; PAGE_BYTES], gap: Gap)
+        requires fits { FitsFrame gap }
+        requires zeros { IsZeroIn bytes.now gap }
+        ensures { self.new ≡ bytes.now }
+    {
+        let both = self.gap.common(gap);
+        let end = usize::from(both.end);
+        self.write(0, &bytes[..usize::from(both.first)]);
+        self.write(end, &bytes[end..]);
+        self.gap = gap;
     }
 }

@@ -15,17 +15,15 @@ pub struct CopyJob<A: Allocator + Copy> {
 }
 
 impl<A: Allocator + Copy> CopyJob<A> {
-    ghost use Rattle.std.specs.Prelude.{◌≡◌, ◌≤◌};
+    ghost use Rattle.std.specs.Prelude.{◌≡◌};
     ghost use Rattle.nm_frames.specs.Job.{copied};
-    ghost use Rattle.nm_frames.specs.Written.{IsZeroFrom};
+    ghost use Rattle.nm_frames.specs.Zeros.{AreZeroBut};
 
-    /// How many bytes `copy` copies, from the first on: both frames are zero from there on.
+    /// How many bytes `copy` copies: all others are zero in both frames, in one stretch.
     pub fn size(&self) -> usize
-        ensures source { IsZeroFrom self.now.source.1 result }
-        ensures target { IsZeroFrom self.now.target.1 result }
-        ensures fits { result ≤ 4096 }
+        ensures { AreZeroBut self.now.source.1 self.now.target.1 result }
     {
-        self.source.written().max(self.target.written())
+        self.source.gap().common(self.target.gap()).outside()
     }
 
     /// Copies the source's bytes to the target, and changes nothing else.

@@ -3,6 +3,7 @@
 
 mod buf;
 mod bytes;
+mod gap;
 mod job;
 mod slot;
 mod store;

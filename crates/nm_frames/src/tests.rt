@@ -1,3 +1,5 @@
+ghost use Rattle.std.specs.Prelude.{◌≤◌};
+
 use crate::{CopyJob, FrameStore};
 use nm_types::FrameId;
 use std::alloc::{AllocError, Global};
@@ -99,5 +101,36 @@ fn sizes_of_zeros(alloc: Global) -> Result<[usize; 2], AllocError> {
 #[test]
 fn nothing_to_copy(rt: HostRuntime) -> Result<(), Fail> {
     assert!(rt; sizes_of_zeros(rt.alloc())? == [96, 0]);
+    Ok(())
+}
+
+/// How many bytes there are to copy from a frame with a byte written at each end to one with two written at `at`, and how
+/// many after that copy.
+fn sizes_of_ends(alloc: Global, at: usize) -> Result<[usize; 2], AllocError>
+    requires { at ≤ 4000 }
+{
+    let ends = FrameId::new(0);
+    let written = FrameId::new(1);
+    let mut store = FrameStore::new(alloc, 2)?;
+    store.populate(alloc, ends)?;
+    store.populate(alloc, written)?;
+    store.write(ends, 0, [97].as_slice());
+    store.write(ends, 4095, [98].as_slice());
+    store.write(written, at, [99, 100].as_slice());
+    let mut job = CopyJob {
+        source: store.take_out(ends),
+        target: store.take_out(written),
+        ticket: 0,
+    };
+    let before = job.size();
+    job.copy();
+    Ok([before, job.size()])
+}
+
+/// What lies between the bytes at both ends of a frame is copied only as far as the other frame was written.
+#[test]
+fn both_ends_are_copied(rt: HostRuntime) -> Result<(), Fail> {
+    assert!(rt; sizes_of_ends(rt.alloc(), 9)? == [12, 2]);
+    assert!(rt; sizes_of_ends(rt.alloc(), 3009)? == [1088, 2]);
     Ok(())
 }

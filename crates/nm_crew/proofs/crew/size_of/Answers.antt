@@ -7,6 +7,5 @@ loop-job-init g c = refl
 
 pub loop-job-preserved : goal.loop-job-preserved
 loop-job-preserved g c =
-    let is = c.size.ensures in
     size_step c.args.jobs.now c.loop-job.job-index c.job-item.result c.loop-job.size c.size.result c.saturating_add-size.result c.loop-job.invariant c.loop-job-test.true c.job-item.is
-    (is.source, is.target, is.fits) c.saturating_add-size.ensures
+    c.size.ensures c.saturating_add-size.ensures

@@ -1,6 +1,5 @@
-use Rattle.std.proofs.Common.{arith}
-use Rattle.nm_frames.proofs.Written.{as_many, zeros_are}
+use Rattle.nm_frames.proofs.Zeros.{as_many, zeros_are}
 use Rattle.nm_frames.proofs.bytes.Bytes.zeros.Goals as goal
 
 pub invariant_of-result : goal.invariant_of-result
-invariant_of-result g c = rw (c.in_ok-bytes.ensures.ok) (as_many 4096, omega arith, zeros_are 4096 0)
+invariant_of-result g c = rw (c.in_ok-bytes.ensures.ok) (as_many 4096, c.whole.ensures, zeros_are 4096 _)

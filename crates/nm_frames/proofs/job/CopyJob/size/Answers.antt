@@ -1,5 +1,6 @@
-use Rattle.std.proofs.Common.{arith}
 use Rattle.nm_frames.proofs.job.CopyJob.size.Goals as goal
 
-pub returns-clause-target : goal.returns-clause-target
-returns-clause-target g c = omega arith
+pub returns : goal.returns
+returns g c =
+    let both = c.common.ensures in
+    (c.common.result, both.fits, λ i is_in. c.gap.ensures.zeros i (both.both i is_in).0, λ i is_in. c.gap-2.ensures.zeros i (both.both i is_in).1, c.outside.ensures)
