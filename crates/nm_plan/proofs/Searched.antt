@@ -34,6 +34,21 @@ found_by_halves (t ∷ ts) p (Err i) up l h =
     same_back p (get_or (t ∷ ts) k t).page
     ∙ ⊎_elim (λ low. ap is_eq (parted.0 k t (omega arith) low)) (λ high. ap is_eq (parted.1 k t high w)) (cases_lt k i))))
 
+lowest : (o : Ordering) → ordering_index o ≤ 0 → o ≡ Less
+lowest Less low = refl
+lowest Equal low = absurd (omega (arith, low))
+lowest Greater low = absurd (omega (arith, low))
+
+-- a page past the last of moves whose pages ascend is among none of them
+pub past_all : (ts : List Taken) (p : Page) → Ascends ts → IsPast ts p → has_moved ts p ≡ false
+past_all [] p up past = refl
+past_all (t ∷ ts) p up past =
+    let all = t ∷ ts in
+    let last = ap ordering_index (past t (omega arith)) in
+    list_any_none (λ u. same_page p u.page) all (All-from_get_or (λ u. same_page p u.page ≡ false) all t (λ k w.
+    same_back p (get_or all k t).page
+    ∙ ap is_eq (lowest (page_cmp (get_or all k t).page p) (omega (arith, last, up p k (length all - 1) t (omega arith) (omega arith))))))
+
 -- a page below another compares no higher with any page
 reversed : (x y : Page) (o : Ordering) → page_cmp x y ≡ o → page_cmp y x ≡ ordering_reverse o
 reversed x y o e = page_cmp_total.antisymm y x ∙ ap ordering_reverse e

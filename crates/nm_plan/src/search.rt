@@ -20,22 +20,26 @@ fn is_among(moves: &[Taken], page: Page) -> bool
     moves.iter().any(|taken| page.cmp(&taken.page).is_eq())
 }
 
-/// Whether one of these moves, whose pages ascend, is the page's.
-fn is_among_ascending(moves: &[Taken], page: Page) -> bool
-    requires { Ascends moves.now }
-    ensures { result ≡ has_moved moves.now page }
-{
-    moves
-        .binary_search_by(|taken| taken.page.cmp(&page))
-        .is_ok()
-}
-
 /// Whether a page comes after that of the last of these moves, or there are none.
 fn is_past(moves: &[Taken], page: Page) -> bool
     ensures past { OnTrue result (IsPast moves.now page) }
     ensures otherwise { OnFalse result (IsPast moves.now page → ⊥) }
 {
     moves.last().is_none_or(|last| last.page.cmp(&page).is_lt())
+}
+
+/// Whether one of these moves, whose pages ascend, is the page's. Most runs name their pages in ascending order, so most
+/// pages come after all that have moved, which the last one shows.
+fn is_among_ascending(moves: &[Taken], page: Page) -> bool
+    requires { Ascends moves.now }
+    ensures { result ≡ has_moved moves.now page }
+{
+    if is_past(moves, page) {
+        return false;
+    }
+    moves
+        .binary_search_by(|taken| taken.page.cmp(&page))
+        .is_ok()
 }
 
 /// How the moves of a run are searched. The pages of the first moves ascend and are found by binary search, as most
