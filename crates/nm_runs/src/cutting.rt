@@ -32,7 +32,11 @@ fn wanted_of<A: Allocator + Copy>(
 ) -> Result<Vec<Wanted, A>, AllocError>
     ensures { IfOk result (λ wanted. wanted.items ≡ wanted_of requests.now) }
 {
-    requests.iter().map(|request| request.wanted).collect(alloc)
+    let mut wanted = Vec::with_capacity(alloc, requests.len())?;
+    for request in requests {
+        wanted.push_reserved(request.wanted);
+    }
+    Ok(wanted)
 }
 
 /// The run at the front of a batch: its longest stretch for one target.
@@ -127,14 +131,15 @@ fn wanted_at<A: Allocator + Copy>(
 ) -> Result<Vec<Wanted, A>, AllocError>
     ensures { IfOk result (λ wanted. wanted.items ≡ map (λ a. At pid (a / 4096) all) addresses.now) }
 {
-    addresses
-        .iter()
-        .map(|address| Wanted::At {
+    let mut wanted = Vec::with_capacity(alloc, addresses.len())?;
+    for address in addresses {
+        wanted.push_reserved(Wanted::At {
             pid,
             vpn: Vpn::of_address(*address),
             all,
-        })
-        .collect(alloc)
+        });
+    }
+    Ok(wanted)
 }
 
 /// The run at the front of a batch of pages, each with the node at the same index: its longest stretch for one node.
