@@ -19,7 +19,7 @@ ghost use Rattle.nm_memory.specs.views.Frames.{HasAllFrames, KeepsBytes, free_on
 ghost use Rattle.nm_frames.specs.Populated.{IsPopulated};
 ghost use Rattle.nm_model.specs.definitions.Memory.{stretch_of};
 
-mod copying;
+mod reach;
 mod run_in_flight;
 
 use crate::answers::AccessAnswer;

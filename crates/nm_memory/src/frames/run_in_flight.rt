@@ -8,13 +8,14 @@ ghost use Rattle.nm_frames.specs.declared.job.CopyJob.{CopyJob as Job};
 ghost use Rattle.nm_model.specs.definitions.Events.{held_by, laid_for};
 ghost use Rattle.nm_model.specs.definitions.PageTables.{entry_at};
 ghost use Rattle.nm_spaces.specs.definitions.Moves.{CanRemap, all_moved};
+ghost use Rattle.nm_spaces.specs.views.AddressSpaces.{no_spaces};
 ghost use Rattle.nm_spaces.specs.views.Held.{entry_here};
 ghost use Rattle.nm_memory.specs.definitions.AfterCopy.{all_stored_after_copy, CanDo};
 ghost use Rattle.nm_memory.specs.views.Accesses.{answer_shown, pending_shown, HasRoom};
 ghost use Rattle.nm_memory.specs.views.Copies.{CanCopy, HasBoth, emptied, jobs_of, refilled, CanRefill};
 
 use crate::answers::AccessAnswer;
-use crate::frames::copying::{Reach, answer_each};
+use crate::frames::reach::Reach;
 use crate::pending_access::PendingAccess;
 use nm_crew::{Crew, Gate};
 use nm_frames::{CopyJob, FrameStore};
@@ -72,24 +73,29 @@ impl<'m, A: Allocator + Copy> RunInFlight<'m, A> {
         ensures store { result.store ≡ emptied frames.old moves.now }
         ensures moves { result.moves ≡ moves.now }
 
+        // What it leaves behind
+        ensures no_spaces { spaces.new ≡ no_spaces 0 }
+        ensures no_frames { frames.new ≡ [] }
+
         // Its jobs
         ensures jobs { jobs.new.items
             ≡ jobs.old.items ++ jobs_of (vec_len jobs.old) frames.old moves.now }
         ensures room { vec_capacity jobs.new ≡ vec_capacity jobs.old }
     {
-        let mut store = mem::replace(frames, FrameStore::none(alloc));
-        take_out_each(&mut store, moves, jobs);
-        RunInFlight {
-            spaces: mem::replace(spaces, AddressSpaces::none(alloc)).hold(moves),
-            store,
+        let mut run = RunInFlight {
+            spaces: HeldSpaces::none(alloc),
+            store: mem::replace(frames, FrameStore::none(alloc)),
             moves,
-        }
+        };
+        run.spaces.hold(spaces, moves);
+        take_out_each(&mut run.store, moves, jobs);
+        run
     }
 
     /// Ends the run, and puts back what it took out: the bytes of its jobs, which the list loses, are home again, and each
     /// held entry names the frame that its page was on its way to. Does not allocate.
     pub(super) fn finish(
-        self,
+        mut self,
         spaces: &mut AddressSpaces<A>,
         frames: &mut FrameStore<A>,
         copied: &mut Vec<CopyJob<A>, A>,
@@ -99,14 +105,10 @@ impl<'m, A: Allocator + Copy> RunInFlight<'m, A> {
         ensures frames { frames.new ≡ refilled self.entry.store copied.old.items }
         ensures empty { copied.new.items ≡ [] }
     {
-        let RunInFlight {
-            spaces: held,
-            mut store,
-            moves,
-        } = self;
-        put_back_each(&mut store, copied);
-        *frames = store;
-        *spaces = held.settle(moves);
+        let moves = self.moves;
+        put_back_each(&mut self.store, copied);
+        mem::swap(frames, &mut self.store);
+        self.spaces.settle(spaces, moves);
     }
 }
 
@@ -163,7 +165,7 @@ impl<'m, A: Allocator + Copy + Send + Sync> RunInFlight<'m, A> {
                 ensures answers { map answer_shown result.1.items
                     ≡ (all_stored_after_copy reach.entry.spaces.now.spaces.place reach.entry.store
                     (map pending_shown dues.entry.items)).answers }
-            { answer_each(reach, dues, answers, gate) },
+            { reach.answer_each(dues, answers, gate) },
         );
         self.store = store;
         (jobs, answers)

@@ -3,16 +3,16 @@ use Rattle.std.specs.Prelude.{vec_capacity}
 use Rattle.std.specs.List.{AllByRecursion}
 use Rattle.nm_memory.specs.definitions.AfterCopy.{all_stored_after_copy, CanDo}
 use Rattle.nm_memory.specs.views.Accesses.{answer_shown, pending_shown, HasRoom}
-use Rattle.nm_memory.proofs.frames.copying.answer_each.Given as goal
+use Rattle.nm_memory.proofs.frames.reach.Reach.answer_each.Given as goal
 
 abbrev pub invariant-loop-due : goal.invariant-loop-due
 invariant-loop-due g l =
-    let place = l.reach.spaces.now.spaces.place in
+    let place = l.self.spaces.now.spaces.place in
     let rest = map pending_shown l.due-iterator.rest.items in
-    let all = all_stored_after_copy l.fn.reach.spaces.now.spaces.place l.fn.reach.store (map pending_shown l.fn.dues.items) in record {
-      due : AllByRecursion (CanDo place l.reach.store) rest;
+    let all = all_stored_after_copy l.fn.self.spaces.now.spaces.place l.fn.self.store (map pending_shown l.fn.dues.items) in record {
+      due : AllByRecursion (CanDo place l.self.store) rest;
       room : AllByRecursion HasRoom l.due-iterator.rest.items;
-      store : (all_stored_after_copy place l.reach.store rest).store ≡ all.store;
-      answers : map answer_shown l.answers.items ++ (all_stored_after_copy place l.reach.store rest).answers ≡ all.answers;
+      store : (all_stored_after_copy place l.self.store rest).store ≡ all.store;
+      answers : map answer_shown l.answers.items ++ (all_stored_after_copy place l.self.store rest).answers ≡ all.answers;
       space : length l.answers.items + length l.due-iterator.rest.items ≤ vec_capacity l.answers;
     }

@@ -8,14 +8,14 @@ use Rattle.nm_spaces.specs.views.Held.{HeldView}
 use Rattle.nm_memory.specs.definitions.AfterCopy.{all_stored_after_copy, answer_from_store, CanDo}
 use Rattle.nm_memory.specs.views.Accesses.{answer_shown, pending_shown, HasRoom}
 use Rattle.nm_memory.proofs.AfterCopy.Refilled.{all_can_then}
-use Rattle.nm_memory.proofs.frames.copying.answer_each.Goals as goal
+use Rattle.nm_memory.proofs.frames.reach.Reach.answer_each.Goals as goal
 
 pub loop-due-init : goal.loop-due-init
 loop-due-init g c =
     let all = c.into_iter-due-iterator.ensures.into_iter_gives.0 in
     let shown = pending_shown in
-    let place = c.args.reach.spaces.now.spaces.place in
-    let store = c.args.reach.store in
+    let place = c.args.self.spaces.now.spaces.place in
+    let store = c.args.self.store in
     let none = ap length c.requires.unanswered in
     let many = c.args.dues.ok.0 in
     let len = ap length all in
@@ -30,7 +30,7 @@ loop-due-init g c =
 
 pub access-answer-requires-clause-due : goal.access-answer-requires-clause-due
 access-answer-requires-clause-due g c =
-    (subst (λ ds. AllByRecursion (CanDo c.loop-due.reach.spaces.now.spaces.place c.loop-due.reach.store) (map pending_shown ds)) c.in-Some.ensures.steps.0 c.loop-due.invariant.due).0
+    (subst (λ ds. AllByRecursion (CanDo c.loop-due.self.spaces.now.spaces.place c.loop-due.self.store) (map pending_shown ds)) c.in-Some.ensures.steps.0 c.loop-due.invariant.due).0
 
 pub access-answer-requires-clause-room : goal.access-answer-requires-clause-room
 access-answer-requires-clause-room g c = (subst (λ ds. AllByRecursion HasRoom ds) c.in-Some.ensures.steps.0 c.loop-due.invariant.room).0
@@ -44,8 +44,8 @@ push_reserved-requires g c =
 pub loop-due-preserved : goal.loop-due-preserved
 loop-due-preserved g c =
     let shown = pending_shown in
-    let place = c.loop-due.reach.spaces.now.spaces.place in
-    let store = c.loop-due.reach.store in
+    let place = c.loop-due.self.spaces.now.spaces.place in
+    let store = c.loop-due.self.store in
     let one = c.in-Some.due in
     let rest = c.next.new.self.rest.items in
     let step = c.in-Some.ensures.steps.0 in
@@ -81,11 +81,11 @@ no_items (x ∷ xs) none = absurd (omega (arith, none))
 pub returns-clause-store : goal.returns-clause-store
 returns-clause-store g c =
     let ends = no_items c.loop-due.due-iterator.rest.items (sym c.loop-due.due-iterator.rest.ok.0 ∙ c.in-None.ensures.steps.0) in
-    ap (λ ds. (all_stored_after_copy c.loop-due.reach.spaces.now.spaces.place c.loop-due.reach.store (map pending_shown ds)).store) (sym ends) ∙ c.loop-due.invariant.store
+    ap (λ ds. (all_stored_after_copy c.loop-due.self.spaces.now.spaces.place c.loop-due.self.store (map pending_shown ds)).store) (sym ends) ∙ c.loop-due.invariant.store
 
 pub returns-clause-answers : goal.returns-clause-answers
 returns-clause-answers g c =
     let ends = no_items c.loop-due.due-iterator.rest.items (sym c.loop-due.due-iterator.rest.ok.0 ∙ c.in-None.ensures.steps.0) in
     let before = map (answer_shown {A = g.row.A.Denot}) c.loop-due.answers.items in
     sym (append-nil before)
-    ∙ ap (λ ds. before ++ (all_stored_after_copy c.loop-due.reach.spaces.now.spaces.place c.loop-due.reach.store (map pending_shown ds)).answers) (sym ends) ∙ c.loop-due.invariant.answers
+    ∙ ap (λ ds. before ++ (all_stored_after_copy c.loop-due.self.spaces.now.spaces.place c.loop-due.self.store (map pending_shown ds)).answers) (sym ends) ∙ c.loop-due.invariant.answers

@@ -1,4 +1,4 @@
-//! Accesses while the pages of a run are copied.
+//! What accesses reach while the pages of a run are copied.
 
 ghost use Rattle.std.specs.Prelude.{◌≡◌, ◌≤◌, [], map, IsSome, vec_len, vec_capacity};
 ghost use Rattle.std.specs.List.{AllByRecursion};
@@ -54,39 +54,39 @@ impl<'r, A: Allocator + Copy> Reach<'r, A> {
             }
         }
     }
-}
 
-/// Does what is left to do for accesses, in order, and gives the bytes back. The answers go into a list that has room for
-/// them. The gate is called before each access.
-pub(super) fn answer_each<'r, A: Allocator + Copy, G: Gate>(
-    mut reach: Reach<'r, A>,
-    dues: Vec<PendingAccess<'_, A>, A>,
-    mut answers: Vec<AccessAnswer<A>, A>,
-    gate: &G,
-) -> (FrameStore<A>, Vec<AccessAnswer<A>, A>)
-    // What is left to do
-    requires due { AllByRecursion (CanDo reach.spaces.now.spaces.place reach.store)
-        (map pending_shown dues.items) }
-    requires room { AllByRecursion HasRoom dues.items }
+    /// Does what is left to do for accesses, in order, and gives the bytes back. The answers go into a list that has room
+    /// for them. The gate is called before each access.
+    pub(super) fn answer_each<G: Gate>(
+        mut self,
+        dues: Vec<PendingAccess<'_, A>, A>,
+        mut answers: Vec<AccessAnswer<A>, A>,
+        gate: &G,
+    ) -> (FrameStore<A>, Vec<AccessAnswer<A>, A>)
+        // What is left to do
+        requires due { AllByRecursion (CanDo self.spaces.now.spaces.place self.store)
+            (map pending_shown dues.items) }
+        requires room { AllByRecursion HasRoom dues.items }
 
-    // The list for the answers
-    requires unanswered { answers.items ≡ [] }
-    requires space { vec_len dues ≤ vec_capacity answers }
+        // The list for the answers
+        requires unanswered { answers.items ≡ [] }
+        requires space { vec_len dues ≤ vec_capacity answers }
 
-    // Afterwards
-    ensures store { result.0
-        ≡ (all_stored_after_copy reach.entry.spaces.now.spaces.place reach.entry.store
-        (map pending_shown dues.entry.items)).store }
-    ensures answers { map answer_shown result.1.items
-        ≡ (all_stored_after_copy reach.entry.spaces.now.spaces.place reach.entry.store
-        (map pending_shown dues.entry.items)).answers }
-{
-    for due in dues {
-        gate.access(answers.len());
-        let answer = reach.access(due);
-        answers.push_reserved(answer);
+        // Afterwards
+        ensures store { result.0
+            ≡ (all_stored_after_copy self.entry.spaces.now.spaces.place self.entry.store
+            (map pending_shown dues.entry.items)).store }
+        ensures answers { map answer_shown result.1.items
+            ≡ (all_stored_after_copy self.entry.spaces.now.spaces.place self.entry.store
+            (map pending_shown dues.entry.items)).answers }
+    {
+        for due in dues {
+            gate.access(answers.len());
+            let answer = self.access(due);
+            answers.push_reserved(answer);
+        }
+        (self.store, answers)
     }
-    (reach.store, answers)
 }
 
 /// The frame of a page that has one.
