@@ -39,8 +39,8 @@ def unmap(address, pages, pid=1):
     return '{"op":"unmap","pid":%d,"addr":%d,"pages":%d}' % (pid, address, pages)
 
 
-def write(address, pid=1):
-    return '{"op":"write","pid":%d,"addr":%d,"data":"61"}' % (pid, address)
+def write(address, pid=1, data="61"):
+    return '{"op":"write","pid":%d,"addr":%d,"data":"%s"}' % (pid, address, data)
 
 
 def read(address, pid=1):
@@ -89,12 +89,22 @@ def to_and_fro(size):
 
 
 def whole_pages(size):
-    """As to_and_fro, but the last byte of each page is written as well, so that each is copied whole."""
+    """As to_and_fro, but the last byte of each page is written as well."""
     pages = [BASE + PAGE * page for page in range(8192)]
     steps = [map_step(BASE, 8192)] + [write(page + at) for page in pages for at in (0, PAGE - 1)]
     for number in range(2 * size):
         steps.append(move_to(pages, 1 - number % 2))
     return trace([8192, 8192], steps)
+
+
+def full_pages(size):
+    """A process has 1,024 pages, every byte of which it has written; one batch moves them to the other node and back, 32 N
+    times."""
+    pages = [BASE + PAGE * page for page in range(1024)]
+    steps = [map_step(BASE, 1024)] + [write(page, data="61" * PAGE) for page in pages]
+    for number in range(64 * size):
+        steps.append(move_to(pages, 1 - number % 2))
+    return trace([1024, 1024], steps)
 
 
 def migrations(size):
@@ -357,6 +367,7 @@ KINDS = {
     small_steps: 25,
     to_and_fro: 4,
     whole_pages: 4,
+    full_pages: 1,
     migrations: 1024,
     vain_migrations: 2048,
     runs_of_one: 4,
