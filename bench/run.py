@@ -20,6 +20,7 @@ import traces
 
 ROOT = os.path.dirname(os.path.dirname(os.path.abspath(__file__)))
 PROGRAM = os.path.join(ROOT, "crates/numatrace/out/numatrace")
+ONE_WORKER = ("--workers", "1")
 
 
 def make_trace(kind, size, path, script=(traces.__file__,)):
@@ -40,7 +41,7 @@ def run_once(path, program, *words):
 
 def count_once(path, program):
     """Instructions of one run, as callgrind counts them."""
-    words = ["valgrind", "--tool=callgrind", "--callgrind-out-file=/dev/null", program, "--workers", "1"]
+    words = ["valgrind", "--tool=callgrind", "--callgrind-out-file=/dev/null", program, *ONE_WORKER]
     with open(path, "rb") as trace:
         ran = subprocess.run(words, stdin=trace, stdout=subprocess.DEVNULL, stderr=subprocess.PIPE, text=True)
     counted = re.search(r"Collected : (\d+)", ran.stderr)
@@ -66,7 +67,7 @@ def compare(other, built, kinds):
         for kind in kinds:
             size = traces.KINDS[kind] * 8
             make_trace(kind.__name__, size, path)
-            runs = [(run_once(path, other), run_once(path, built)) for _ in range(9)]
+            runs = [(run_once(path, other, *ONE_WORKER), run_once(path, built, *ONE_WORKER)) for _ in range(9)]
             seconds = [min(run[k][0] for run in runs) for k in (0, 1)]
             memory = [max(run[k][1] for run in runs) / 1024 for k in (0, 1)]
             print("| `%s` | %d | %.2f | %.2f | %.2f | %.0f MiB | %.0f MiB |" % (
@@ -144,7 +145,7 @@ def main():
     elif given.instructions:
         count(kinds, built)
     else:
-        measure({kind: traces.KINDS[kind] for kind in kinds}, make_trace, lambda path: run_once(path, built), 5)
+        measure({kind: traces.KINDS[kind] for kind in kinds}, make_trace, lambda path: run_once(path, built, *ONE_WORKER), 5)
 
 
 if __name__ == "__main__":
