@@ -3,7 +3,7 @@ use Rattle.std.proofs.Common.{◌≡◌, ℕ, ◌+◌, ◌-◌, ◌≤◌, List,
 use Rattle.std.proofs.lemmas.List.{places}
 use Rattle.std.proofs.lemmas.Grind.{same_number_lists}
 use Rattle.nm_model.specs.definitions.Frames.{overwrite}
-use Rattle.nm_frames.specs.Zeros.{FitsFrame, IsIn, IsZeroIn}
+use Rattle.nm_frames.specs.Zeros.{FitsFrame, IsInGap, IsZeroIn}
 use Rattle.nm_frames.specs.declared.gap.Gap.{Gap}
 
 -- zeros are zero in any gap
@@ -22,6 +22,6 @@ around old bytes gap fits zero zeros whole same =
 
 -- what is left of a gap is zero once bytes were written, as none of them is in it
 pub still_zero : (old new : List ℕ) (at : ℕ) (gap left : Gap) → length old ≡ 4096 → at + length new ≤ 4096 → IsZeroIn old gap
-    → ((i : ℕ) → IsIn left i → IsIn gap i × (at ≤ i → at + length new ≤ i)) → (length (overwrite old at new) ≡ 4096) × IsZeroIn (overwrite old at new) left
+    → ((i : ℕ) → IsInGap left i → IsInGap gap i × (at ≤ i → at + length new ≤ i)) → (length (overwrite old at new) ≡ 4096) × IsZeroIn (overwrite old at new) left
 still_zero old new at gap left whole inside zero apart =
     (grind (arith, places), λ i is_in. grind (arith, places, zero i (apart i is_in).0, (apart i is_in).1))

@@ -3,8 +3,8 @@ use Rattle.std.specs.Prelude.{◌≡◌, ℕ, ◌+◌, ◌-◌, ◌<◌, ◌≤�
 use Rattle.nm_frames.specs.declared.gap.Gap.{Gap}
 
 -- the indices of a gap are those from its first to before its end
-abbrev pub IsIn : Gap → ℕ → Type 0
-IsIn gap i = (gap.first ≤ i) × (i < gap.end)
+abbrev pub IsInGap : Gap → ℕ → Type 0
+IsInGap gap i = (gap.first ≤ i) × (i < gap.end)
 
 -- a gap is within a frame's 4,096 bytes
 abbrev pub FitsFrame : Gap → Type 0
@@ -12,7 +12,7 @@ FitsFrame gap = (gap.first ≤ gap.end) × (gap.end ≤ 4096)
 
 -- every byte of a gap is zero
 abbrev pub IsZeroIn : List ℕ → Gap → Type 0
-IsZeroIn bytes gap = (i : ℕ) → IsIn gap i → slice_index bytes i ≡ 0
+IsZeroIn bytes gap = (i : ℕ) → IsInGap gap i → slice_index bytes i ≡ 0
 
 -- but for so many, a frame's 4,096 bytes are zero, in one stretch, and those of the other frame there as well
 abbrev pub AreZeroBut : (bytes other : List ℕ) → ℕ → Type 0

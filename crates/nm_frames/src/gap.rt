@@ -1,7 +1,7 @@
 //! Bytes of a frame that are known to be zero.
 
-ghost use Rattle.std.specs.Prelude.{◌≡◌, ℕ, ◌+◌, ◌-◌, ◌≤◌};
-ghost use Rattle.nm_frames.specs.Zeros.{FitsFrame, IsIn};
+ghost use Rattle.std.specs.Prelude.{◌≡◌, ℕ, ◌+◌, ◌-◌, ◌≤◌, min, max};
+ghost use Rattle.nm_frames.specs.Zeros.{FitsFrame, IsInGap};
 
 use nm_types::limits::PAGE_BYTES;
 
@@ -15,7 +15,9 @@ pub(crate) struct Gap {
 impl Gap {
     /// All bytes of a frame.
     pub(crate) fn whole() -> Self
-        ensures { FitsFrame result }
+        ensures fits { FitsFrame result }
+        ensures first { result.first ≡ 0 }
+        ensures end { result.end ≡ 4096 }
     {
         Gap {
             first: 0,
@@ -28,7 +30,9 @@ impl Gap {
     pub(crate) fn without(self, at: u16, end: u16) -> Self
         requires gap { FitsFrame self }
         ensures fits { FitsFrame result }
-        ensures left { (i : ℕ) → IsIn result i → IsIn self i × (at ≤ i → end ≤ i) }
+        ensures left { (i : ℕ) → IsInGap result i → IsInGap self i × (at ≤ i → end ≤ i) }
+        ensures before { min at self.end - self.first ≤ result.end - result.first }
+        ensures after { self.end - max end self.first ≤ result.end - result.first }
     {
         let before = at.saturating_sub(self.first);
         let after = self.end.saturating_sub(end);
@@ -50,8 +54,8 @@ impl Gap {
         requires gap { FitsFrame self }
         requires other { FitsFrame other }
         ensures fits { FitsFrame result }
-        ensures both { (i : ℕ) → IsIn result i → IsIn self i × IsIn other i }
-        ensures all { (i : ℕ) → IsIn self i → IsIn other i → IsIn result i }
+        ensures both { (i : ℕ) → IsInGap result i → IsInGap self i × IsInGap other i }
+        ensures all { (i : ℕ) → IsInGap self i → IsInGap other i → IsInGap result i }
     {
         let first = self.first.max(other.first);
         let end = self.end.min(other.end).max(first);
