@@ -5,6 +5,7 @@ ghost use Rattle.nm_types.specs.Layout.{node_count, frame_count};
 ghost use Rattle.nm_types.specs.Nodes.{is_in};
 ghost use Rattle.nm_model.specs.definitions.Touch.{has_free};
 ghost use Rattle.nm_model.specs.definitions.Frames.{list_of, with_list, appended, prepended};
+ghost use Rattle.std.specs.Cow.{cow_slice_items};
 ghost use Rattle.std.specs.List.{AllByRecursion};
 ghost use Rattle.nm_spaces.specs.definitions.Moves.{CanRemap, all_moved};
 ghost use Rattle.nm_memory.specs.views.Copies.{CanCopy, HasBoth, with_copies, emptied};
@@ -32,6 +33,7 @@ use nm_spaces::AddressSpaces;
 use nm_types::{FrameId, Geometry, NodeId, NodeMask, Taken};
 use run_in_flight::RunInFlight;
 use std::alloc::{AllocError, Allocator};
+use std::borrow::CowSlice;
 use std::marker::Model;
 use std::mem;
 use std::sync::Wait;
@@ -153,19 +155,21 @@ impl<A: Allocator + Copy> Frames<A> {
         front_of(alloc, &self.nodes, node, self.nodes.free_count(node))
     }
 
-    /// The first `count` free frames of a node, or all if there are fewer.
+    /// The first `count` free frames of a node, or all if there are fewer: borrowed where they lie in one piece, else as
+    /// a list. An error means that the host is out of memory.
     pub fn free_front(
         &self,
         alloc: A,
         node: NodeId,
         count: usize,
-    ) -> Result<Vec<FrameId, A>, AllocError>
+    ) -> Result<CowSlice<'_, FrameId, A>, AllocError>
         requires { node < node_count self.now.layout }
-        ensures front { IfOk result (λ frames. frames.items ≡ take count (free_on self.now node)) }
+        ensures front { IfOk result
+            (λ frames. cow_slice_items frames ≡ take count (free_on self.now node)) }
         ensures asked { OnErr result (0 < count) }
     {
         let count = count.min(self.nodes.free_count(node));
-        front_of(alloc, &self.nodes, node, count)
+        front_in_place(alloc, &self.nodes, node, count)
     }
 
     /// The front of a node's free list. None if the list is empty.
@@ -501,6 +505,28 @@ fn free_frames<A: Allocator + Copy>(nodes: &mut NodePool<A>, frames: &[FrameId])
     for frame in frames {
         nodes.append(*frame);
     }
+}
+
+/// The first `count` free frames of a node, which has at least as many: borrowed where they lie in one piece, else as a
+/// list.
+fn front_in_place<'a, A: Allocator + Copy>(
+    alloc: A,
+    nodes: &'a NodePool<A>,
+    node: NodeId,
+    count: usize,
+) -> Result<CowSlice<'a, FrameId, A>, AllocError>
+    requires node { node < length nodes.now.lists }
+    requires count { count ≤ length (list_of nodes.now node) }
+    ensures frames { IfOk result
+        (λ frames. cow_slice_items frames ≡ take count (list_of nodes.now node)) }
+    ensures asked { OnErr result (0 < count) }
+{
+    let (piece, _) = nodes.as_slices(node);
+    if count <= piece.len() {
+        return Ok(CowSlice::Borrowed(&piece[..count]));
+    }
+    let frames = front_of(alloc, nodes, node, count)?;
+    Ok(CowSlice::Owned(frames))
 }
 
 /// The first `count` free frames of a node, which has at least as many.

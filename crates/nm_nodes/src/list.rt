@@ -65,6 +65,14 @@ impl<A: Allocator + Copy> FreeList<A> {
         self.frames.get(k).copied()
     }
 
+    /// The free frames, front first, as the two parts in which they lie in memory. The second is empty unless the queue
+    /// wraps around.
+    pub fn as_slices(&self) -> (&[FrameId], &[FrameId])
+        ensures { result.0.now ++ result.1.now ≡ self.now.1 }
+    {
+        self.frames.as_slices()
+    }
+
     /// Takes the front frame. None if the list is empty.
     pub fn take_front(&mut self) -> Option<FrameId>
         ensures front { result ≡ slice_get self.old.1 0 }

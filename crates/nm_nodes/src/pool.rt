@@ -62,6 +62,14 @@ impl<A: Allocator + Copy> NodePool<A> {
         self.lists[node.index()].nth(k)
     }
 
+    /// The free frames of a node of the machine, front first, as the two parts in which they lie in memory.
+    pub fn as_slices(&self, node: NodeId) -> (&[FrameId], &[FrameId])
+        requires { node < length self.now.lists }
+        ensures { result.0.now ++ result.1.now ≡ list_of self.now node }
+    {
+        self.lists[node.index()].as_slices()
+    }
+
     /// Takes the front frame of a node of the machine. None if its list is empty. Does not allocate.
     pub fn take_front(&mut self, node: NodeId) -> Option<FrameId>
         requires { node < length self.old.lists }

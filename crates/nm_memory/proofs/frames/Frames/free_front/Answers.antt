@@ -6,15 +6,15 @@ use Rattle.nm_memory.specs.views.Frames.{FramesView, free_on}
 use Rattle.nm_memory.proofs.Shelves.{seen_node}
 use Rattle.nm_memory.proofs.frames.Frames.free_front.Goals as goal
 
-pub front_of-requires-clause-node : goal.front_of-requires-clause-node
-front_of-requires-clause-node g c = seen_node _ c.args.self.now c.args.node c.self.view_is c.self.invariant.1 c.requires
+pub front_in_place-requires-clause-node : goal.front_in_place-requires-clause-node
+front_in_place-requires-clause-node g c = seen_node _ c.args.self.now c.args.node c.self.view_is c.self.invariant.1 c.requires
 
-pub front_of-requires-clause-count : goal.front_of-requires-clause-count
-front_of-requires-clause-count g c = omega (arith, c.min-count.ensures, c.free_count.ensures.count)
+pub front_in_place-requires-clause-count : goal.front_in_place-requires-clause-count
+front_in_place-requires-clause-count g c = omega (arith, c.min-count.ensures, c.free_count.ensures.count)
 
 pub returns-clause-front : goal.returns-clause-front
 returns-clause-front g c =
     let list = list_of c.self.inside.nodes c.args.node in
     let many = c.min-count.ensures ∙ ap (λ n. min c.args.count n) c.free_count.ensures.count in
     let all = ap (λ n. take n list) many ∙ take_min c.args.count list ∙ ap (λ (v : FramesView). take c.args.count (free_on v c.args.node)) c.self.view_is in
-    IfOk-weaker c.front_of.result _ _ (λ frames front. front ∙ all) c.front_of.ensures.frames
+    IfOk-weaker c.front_in_place.result _ _ (λ frames front. front ∙ all) c.front_in_place.ensures.frames
