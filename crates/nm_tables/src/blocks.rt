@@ -187,7 +187,9 @@ impl<A: Allocator + Copy> Blocks<A> {
         }
     }
 
-    /// Sets the second entry of a block, which gets its leaf. Does not allocate.
+    /// Sets the second entry of a block, which gets its leaf. Does not allocate. Apart from `put`, which then needs no
+    /// room for a leaf on the stack.
+    #[inline(never)]
     fn add_leaf(&mut self, own: Vpn, first: Entry, vpn: Vpn, entry: Entry)
         requires kept { IsBlocks self.old }
         requires there { get nat_cmp self.old.index (vpn / 512) ≡ Some (Lone own first) }
