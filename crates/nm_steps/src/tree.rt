@@ -189,6 +189,16 @@ fn is_in_range(number: &str) -> bool
     }
 }
 
+/// Whether a value is a number of one to 19 digits. Such numbers are in range, and most of a trace's are such.
+fn is_short_number(value: &Value<'_>) -> bool
+    ensures { result ≡ true → is_some (of_json (value_view value.now)) ≡ true }
+{
+    match value {
+        Value::Number(number) => short_of(number.as_bytes()).is_some(),
+        _ => false,
+    }
+}
+
 /// Whether all numbers of a value are in range.
 #[cycle(range)]
 fn all_in_range(value: &Value<'_>) -> bool
@@ -208,7 +218,7 @@ fn items_in_range(items: &Vec<Value<'_>>) -> bool
     ensures { result ≡ is_some (of_items (json_items items.now.items)) }
 {
     for item in items {
-        if !all_in_range(item) {
+        if !is_short_number(item) && !all_in_range(item) {
             return false;
         }
     }
