@@ -1,7 +1,7 @@
 //! Gates: called by each worker before it copies, and by the caller before an access in flight.
 
-/// The fewest bytes for which an open gate lets a second worker start: those of 1,024 whole pages.
-const OPEN_FROM: usize = 4_194_304;
+/// The fewest bytes for which an open gate lets a second worker start: those of 2,048 whole pages.
+const OPEN_FROM: usize = 8_388_608;
 
 /// Called by each worker between drawing a job and copying it, and by the caller before each access in flight. Whatever
 /// a gate does, it changes no job.
@@ -21,7 +21,7 @@ pub trait Gate {
     fn access(&self, _number: usize) {}
 }
 
-/// Lets each worker through at once. A second worker starts from 4 MiB on: starting and ending a thread takes as long
+/// Lets each worker through at once. A second worker starts from 8 MiB on: starting and ending a thread takes as long
 /// as copying some hundred whole pages.
 pub struct OpenGate;
 

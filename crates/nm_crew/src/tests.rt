@@ -270,7 +270,7 @@ fn a_hundred_jobs(rt: HostRuntime) -> Result<(), Fail> {
 /// From how many bytes on gates let a second worker start.
 #[test]
 fn worth_its_start(rt: HostRuntime) {
-    assert!(rt; [OpenGate.worth_from(), Through.worth_from()] == [4_194_304, 0]);
+    assert!(rt; [OpenGate.worth_from(), Through.worth_from()] == [8_388_608, 0]);
 }
 
 /// Has the host refuse the thread of one worker, or all threads if that is worker 0.
