@@ -59,17 +59,6 @@ impl<A: Allocator + Copy> AddressSpaces<A> {
         })
     }
 
-    /// Makes address spaces without processes and without frames. Does not allocate.
-    pub fn none(alloc: A) -> Self
-        ensures { result ≡ no_spaces 0 }
-    {
-        AddressSpaces {
-            tasks: ProcessTable::new(alloc),
-            areas: Areas::new(alloc),
-            rmap: ReverseMap::none(alloc),
-        }
-    }
-
     /// How many processes there are.
     pub fn len(&self) -> usize
         ensures { result ≡ length self.now.processes }
