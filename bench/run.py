@@ -1,13 +1,13 @@
 #!/usr/bin/env python3
 """Times the built program on each kind of trace, and writes the table of docs/PERFORMANCE.md.
 
-The sizes are 1, 2, 4 and 8 times the smallest; the table has seconds of processor time (the best of five runs), peak memory, and
-how the time grows. With `--against PROGRAM` it plays each kind at its largest size on that program and on the built one in turn,
-and writes the least seconds and the peak memory of both, so that a regression can be seen. With `--instructions` it counts the
-program's instructions with valgrind in place of its time, with `--against` those of both programs at the smallest size: that
-shows how the work grows whatever else the machine does and whatever its caches hold, and takes tens of times as long. Arguments
-select kinds; the default is all. `./build` makes the program; `--program PROGRAM` takes another in its place, such as one that
-bench/unproved.py makes."""
+The sizes are 1, 2, 4 and 8 times the smallest; the table has seconds of processor time (the best of five runs), peak memory,
+and how the time grows. With `--against PROGRAM` it plays each kind at its largest size on that program and on the built one in
+turn, and writes the least seconds and the peak memory of both, so that a regression can be seen. All programs get their memory
+as the command `numatrace` has it. With `--instructions` it counts the program's instructions with valgrind in place of its
+time, with `--against` those of both programs at the smallest size: that shows how the work grows whatever else the machine does
+and whatever its caches hold, and takes tens of times as long. Arguments select kinds; the default is all. `./build` makes the
+program; `--program PROGRAM` takes another in its place, such as one that bench/unproved.py makes."""
 import argparse
 import math
 import os
@@ -21,6 +21,9 @@ import traces
 ROOT = os.path.dirname(os.path.dirname(os.path.abspath(__file__)))
 PROGRAM = os.path.join(ROOT, "crates/numatrace/out/numatrace")
 ONE_WORKER = ("--workers", "1")
+# What the command `numatrace` gives its program, unless it is set.
+TUNABLES = "glibc.malloc.hugetlb=1:glibc.malloc.mmap_threshold=33554432:glibc.malloc.trim_threshold=67108864"
+ENVIRONMENT = {"GLIBC_TUNABLES": TUNABLES, **os.environ}
 
 
 def make_trace(kind, size, path, script=(traces.__file__,)):
@@ -32,7 +35,7 @@ def make_trace(kind, size, path, script=(traces.__file__,)):
 def run_once(path, program, *words):
     """Seconds of processor time, user and system, and peak memory in KiB of one run with these arguments."""
     with open(path, "rb") as trace, open(os.devnull, "wb") as out:
-        child = subprocess.Popen([program, *words], stdin=trace, stdout=out)
+        child = subprocess.Popen([program, *words], stdin=trace, stdout=out, env=ENVIRONMENT)
         _, status, used = os.wait4(child.pid, 0)
     if status != 0:
         sys.exit("bench/run.py: the program ended with status %d" % os.waitstatus_to_exitcode(status))

@@ -9,7 +9,7 @@ import tempfile
 import time
 
 import traces
-from run import PROGRAM, make_trace
+from run import ENVIRONMENT, PROGRAM, make_trace
 
 SIZES = {"to_and_fro": 32, "whole_pages": 32, "full_pages": 8, "small_steps": 100, "many_runs": 16, "shared_moves": 200}
 WORKERS = (1, 2, 4)
@@ -19,7 +19,7 @@ def run_once(path, workers):
     """Seconds by the clock of one run."""
     with open(path, "rb") as trace, open(os.devnull, "wb") as out:
         start = time.monotonic()
-        subprocess.run([PROGRAM, "--workers", str(workers)], stdin=trace, stdout=out, check=True)
+        subprocess.run([PROGRAM, "--workers", str(workers)], stdin=trace, stdout=out, check=True, env=ENVIRONMENT)
         return time.monotonic() - start
 
 

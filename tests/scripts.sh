@@ -50,9 +50,9 @@ expect_message() {
     [ "$(cat "$there/err")" = "$1" ] || fail "$2: $(cat "$there/err")"
 }
 
-# Arguments, streams and status are passed on, also through a link, and memory is in huge pages unless the user says otherwise.
+# Arguments, streams and status are passed on, also through a link, and memory comes as the script says unless the user says otherwise.
 expect_passed_on "$clone/numatrace" -u GLIBC_TUNABLES
-expect_message 'err glibc.malloc.hugetlb=1' "standard error has more than the program's"
+expect_message 'err glibc.malloc.hugetlb=1:glibc.malloc.mmap_threshold=33554432:glibc.malloc.trim_threshold=67108864' "standard error has more than the program's"
 ln -s clone/numatrace "$there/link"
 ln -s ../link "$there/bin/numatrace"
 expect_passed_on "$there/link" GLIBC_TUNABLES=glibc.malloc.check=1
