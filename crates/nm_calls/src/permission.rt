@@ -74,14 +74,7 @@ pub(crate) fn names_missing_node<A: Allocator + Copy + Send + Sync>(
 ) -> bool
     ensures { result ≡ names_missing_node machine.now nodes }
 {
-    let count = machine.geometry().node_count();
-    let mut rest = nodes;
-    while let Some(node) = rest.take_first() {
-        if node.index() >= count {
-            return true;
-        }
-    }
-    false
+    nodes.has_beyond(machine.geometry().node_count())
 }
 
 /// The nodes of a set that are online and that a process may use.

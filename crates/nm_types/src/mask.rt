@@ -1,7 +1,7 @@
 //! Sets of nodes.
 
-ghost use Rattle.std.specs.Prelude.{◌≡◌, ◌<◌, ◌↔◌, [], IsTrue, drop, length, slice_get};
-ghost use Rattle.std.specs.List.{filter, list_all};
+ghost use Rattle.std.specs.Prelude.{◌≡◌, ◌<◌, ◌↔◌, [], IsTrue, drop, length, nat_le, slice_get};
+ghost use Rattle.std.specs.List.{filter, list_all, list_any};
 ghost use Rattle.std.specs.Ordering.{nat_cmp};
 ghost use Rattle.std.specs.BTreeSet.{insert_key};
 ghost use Rattle.nm_types.specs.Nodes.{is_in, without_node, IsNodeSet};
@@ -98,6 +98,19 @@ impl NodeMask {
         let lowest = self.bits.trailing_zeros();
         self.bits &= !(1 << lowest);
         Some(NodeId::new(lowest))
+    }
+
+    /// Whether it has a node that is not below `count`.
+    pub fn has_beyond(self, count: usize) -> bool
+        ensures { result ≡ list_any (nat_le count) self }
+    {
+        let mut rest = self;
+        while let Some(node) = rest.take_first() {
+            if node.index() >= count {
+                return true;
+            }
+        }
+        false
     }
 
     /// How many nodes it has: at most 64.

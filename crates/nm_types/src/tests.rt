@@ -198,6 +198,8 @@ fn masks_in_order(rt: HostRuntime) {
         [Some(first), Some(NodeId::new(5))]
     );
     assert!(rt; mask.len() == 1);
+    assert!(rt; mask.has_beyond(63));
+    assert!(rt; !mask.has_beyond(64));
     mask.remove(NodeId::new(62));
     mask.remove(NodeId::new(64));
     assert!(rt; mask.len() == 1);

@@ -1,8 +1,8 @@
 -- What the calls that change processes and areas keep of the parts of a machine.
 use Rattle.std.proofs.Common.{◌≡◌, ℕ, zero, suc, ◌+◌, ◌<◌, List, [], ◌∷◌, Bool, false, refl, sym, ap, subst, ◌∙◌, arith}
-use Rattle.std.specs.Prelude.{Option, Some, None, IsTrue, drop, nat_le, not, length, ◌||◌, ◌==◌, if◌then◌else◌}
+use Rattle.std.specs.Prelude.{Option, Some, None, IsTrue, nat_le, not, length, ◌||◌, ◌==◌, if◌then◌else◌}
 use Rattle.std.specs.Option.{is_some, option_map}
-use Rattle.std.specs.List.{list_any, slice_get}
+use Rattle.std.specs.List.{list_any}
 use Rattle.std.proofs.lemmas.Bool.{false≢true, false_from_ne_true, eqb-true, lt-leb}
 use Rattle.std.specs.Ordering.{nat_cmp, match_ordering}
 use Rattle.std.specs.declared.cmp.Ordering.TheVariants.{Greater}
@@ -13,7 +13,7 @@ use Rattle.nm_types.specs.Map.{Map, get, set}
 use Rattle.nm_types.specs.Layout.{Layout, node_count, frame_count}
 use Rattle.nm_types.specs.Nodes.{up_from}
 use Rattle.nm_types.specs.State.{Process, State}
-use Rattle.nm_types.proofs.Cases.{true_false, none_some, some_none}
+use Rattle.nm_types.proofs.Cases.{true_false}
 use Rattle.nm_model.specs.definitions.Frames.{all_frames}
 use Rattle.nm_model.specs.definitions.Effect.{spawn, new_machine}
 use Rattle.nm_model.specs.definitions.Effect.{first_error, is_unknown, spawn_refusal, list_refusal}
@@ -103,15 +103,6 @@ spawn_fine s pid home allowed o some e unknown there nodes below few =
 
 pub list_fine : (s : State) (node : ℕ) → node < node_count s.layout → list_refusal s node ≡ None
 list_fine s node h = ap (λ b. if b then Some Einval else None) (lt-leb (node_count s.layout) node h)
-
--- the front, and the others
-pub any_front : (p : ℕ → Bool) (xs : List ℕ) (x : ℕ) → slice_get xs 0 ≡ Some x → list_any p xs ≡ (p x || list_any p (drop 1 xs))
-any_front p [] x h = absurd (none_some h)
-any_front p (y ∷ ys) x h = let same : y ≡ x = cc in ap (λ z. p z || list_any p ys) same
-
-pub any_none : (p : ℕ → Bool) (xs : List ℕ) → slice_get xs 0 ≡ None → list_any p xs ≡ false
-any_none p [] h = refl
-any_none p (y ∷ ys) h = absurd (some_none h)
 
 pub kept_new : (g : Layout) (s : State) (left : List ℕ) (frames : ℕ) → s ≡ new_machine g → left ≡ [] → frames ≡ frame_count g → IsKept s left frames
 kept_new g s left frames e none count =
