@@ -12,8 +12,8 @@ use rayon::prelude::*;
 use std::alloc::{AllocError, Allocator};
 use std::thread::Threads;
 
-/// The fewest requests that a thread looks at: a shorter run is not worth starting a thread for.
-const PIECE: usize = 4096;
+/// The fewest requests that a thread looks at: for fewer, starting a thread takes as long as looking.
+const PIECE: usize = 16_384;
 
 /// What to do with a request for what is seen here. A page that several processes see moves only if `all` is set.
 fn class_of_look<A: Allocator + Copy>(
@@ -137,9 +137,9 @@ pub fn classify_here<A: Allocator + Copy, V: PageView>(
 }
 
 /// What to do with each request of a run, in order, from a look at what it names. The view must show frames of this
-/// machine only. From 8,192 requests on, several threads look, each at 4,096 or more. An error means that the host is
-/// out of memory; a run without requests takes none. The target's number is also used as a status, so it must be below
-/// 2^31.
+/// machine only. From 32,768 requests on, several threads look, each at 16,384 or more; in a trace, no run has more than
+/// 16,384. An error means that the host is out of memory; a run without requests takes none. The target's number is also
+/// used as a status, so it must be below 2^31.
 pub fn classify<R: Threads + Sync, A: Allocator + Copy + Send + Sync, V: PageView + Sync>(
     rt: &R,
     alloc: A,

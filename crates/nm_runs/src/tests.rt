@@ -282,12 +282,9 @@ fn moves(index: u64, from: u16) -> Class {
 /// A page number of each state, one of them twice.
 const NUMBERS: [u64; 8] = [80, 16, 17, 18, 19, 19, 20, 21];
 
-/// Each class in a state of its own: no area, nothing seen, the page of zeros, a pin, other processes, a page that is
-/// where it is to go, and pages that move.
-#[test]
-fn classes_by_a_view(rt: HostRuntime) -> Result<(), Fail> {
-    let geometry = two_nodes(rt.alloc())?;
-    let unasked = [
+/// The classes of requests for these page numbers, without MPOL_MF_MOVE_ALL.
+fn classes_unasked() -> [Class; 8] {
+    [
         Class::Status(-14),
         Class::Status(-14),
         Class::Status(-2),
@@ -296,7 +293,15 @@ fn classes_by_a_view(rt: HostRuntime) -> Result<(), Fail> {
         moves(3, 1),
         Class::Status(-13),
         Class::Status(1),
-    ];
+    ]
+}
+
+/// Each class in a state of its own: no area, nothing seen, the page of zeros, a pin, other processes, a page that is
+/// where it is to go, and pages that move.
+#[test]
+fn classes_by_a_view(rt: HostRuntime) -> Result<(), Fail> {
+    let geometry = two_nodes(rt.alloc())?;
+    let unasked = classes_unasked();
     assert!(rt;
         are_classes(
             &rt,
@@ -316,6 +321,35 @@ fn classes_by_a_view(rt: HostRuntime) -> Result<(), Fail> {
             &[18, 20, 21],
             true,
             asked.as_slice()
+        )?
+    );
+    Ok(())
+}
+
+/// These items, so many times over.
+fn repeated<T: Copy>(alloc: Global, items: &[T], times: usize) -> Result<Vec<T>, AllocError> {
+    let mut all = Vec::new(alloc);
+    for _ in 0..times {
+        all.extend_from_slice(items)?;
+    }
+    Ok(all)
+}
+
+/// A run that is long enough for several threads: each request has its class, at its place.
+#[test]
+fn classes_of_a_run_on_threads(rt: HostRuntime) -> Result<(), Fail> {
+    let geometry = two_nodes(rt.alloc())?;
+    let numbers = repeated(rt.alloc(), NUMBERS.as_slice(), 4_096)?;
+    let classes = repeated(rt.alloc(), classes_unasked().as_slice(), 4_096)?;
+    assert!(rt; numbers.len() == 32_768);
+    assert!(rt;
+        are_classes(
+            &rt,
+            &geometry,
+            rt.alloc(),
+            numbers.as_slice(),
+            false,
+            classes.as_slice()
         )?
     );
     Ok(())
