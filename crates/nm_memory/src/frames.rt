@@ -1,6 +1,6 @@
 //! The machine's frames: their bytes, and the free ones.
 
-ghost use Rattle.std.specs.Prelude.{◌≡◌, ℕ, false, ◌+◌, ◌<◌, ◌≤◌, [], ◌∷◌, ◌++◌, map, length, vec_capacity, vec_len, Some, IfOk, OnOk, OnErr, replicate, take, drop, slice_get, slice_set};
+ghost use Rattle.std.specs.Prelude.{◌≡◌, ℕ, false, ◌+◌, ◌<◌, ◌≤◌, [], ◌∷◌, ◌++◌, map, length, vec_capacity, vec_len, Some, IfOk, OnOk, OnErr, min, replicate, take, drop, slice_get, slice_set};
 ghost use Rattle.nm_types.specs.Layout.{node_count, frame_count};
 ghost use Rattle.nm_types.specs.Nodes.{is_in};
 ghost use Rattle.nm_model.specs.definitions.Touch.{has_free};
@@ -156,7 +156,7 @@ impl<A: Allocator + Copy> Frames<A> {
     }
 
     /// The first `count` free frames of a node, or all if there are fewer: borrowed where they lie in one piece, else as
-    /// a list. An error means that the host is out of memory.
+    /// a list. An error means that the host is out of memory; for one frame or none, nothing is allocated.
     pub fn free_front(
         &self,
         alloc: A,
@@ -166,7 +166,7 @@ impl<A: Allocator + Copy> Frames<A> {
         requires { node < node_count self.now.layout }
         ensures front { IfOk result
             (λ frames. cow_slice_items frames ≡ take count (free_on self.now node)) }
-        ensures asked { OnErr result (0 < count) }
+        ensures asked { OnErr result (1 < min count (length (free_on self.now node))) }
     {
         let count = count.min(self.nodes.free_count(node));
         front_in_place(alloc, &self.nodes, node, count)
@@ -362,7 +362,8 @@ impl<A: Allocator + Copy> Frames<A> {
 impl<A: Allocator + Copy + Send + Sync> Frames<A> {
     /// Carries out moves: the pages go on their way to their new frames, a crew copies them, and meanwhile what is left to
     /// do for accesses to other pages is done; then they have arrived. Returns the answers, in the list that it is given,
-    /// which has room for them. Where no page moves and nothing is left to do, nothing goes on its way.
+    /// which has room for them. Where no page moves and nothing is left to do, nothing goes on its way. There is still room
+    /// for as many moves afterwards.
     pub fn carry_out<R: Threads + Wait + Sync, G: Gate + Sync>(
         &mut self,
         crew: &Crew<R, G>,
@@ -401,6 +402,7 @@ impl<A: Allocator + Copy + Send + Sync> Frames<A> {
             ≡ (all_stored_after_copy (all_moved spaces.old moves.now).place
             (with_copies self.old.frames moves.now)
             (map pending_shown dues.entry.items)).answers }
+        ensures room { length moves.now ≤ self.new.room }
     {
         if moves.is_empty() && dues.is_empty() {
             return answers;
@@ -508,7 +510,7 @@ fn free_frames<A: Allocator + Copy>(nodes: &mut NodePool<A>, frames: &[FrameId])
 }
 
 /// The first `count` free frames of a node, which has at least as many: borrowed where they lie in one piece, else as a
-/// list.
+/// list. One frame is always borrowed.
 fn front_in_place<'a, A: Allocator + Copy>(
     alloc: A,
     nodes: &'a NodePool<A>,
@@ -519,7 +521,7 @@ fn front_in_place<'a, A: Allocator + Copy>(
     requires count { count ≤ length (list_of nodes.now node) }
     ensures frames { IfOk result
         (λ frames. cow_slice_items frames ≡ take count (list_of nodes.now node)) }
-    ensures asked { OnErr result (0 < count) }
+    ensures asked { OnErr result (1 < count) }
 {
     let (piece, _) = nodes.as_slices(node);
     if count <= piece.len() {

@@ -1,6 +1,6 @@
 //! The free frames of one node.
 
-ghost use Rattle.std.specs.Prelude.{◌≡◌, ◌+◌, ◌<◌, ◌≤◌, ◌^◌, [], ◌∷◌, ◌++◌, length, take, drop, slice_get, vec_len, vec_capacity, IfOk, OnErr};
+ghost use Rattle.std.specs.Prelude.{◌≡◌, ◌+◌, ◌<◌, ◌≤◌, ◌^◌, [], ◌∷◌, ◌++◌, ◌↔◌, length, take, drop, slice_get, vec_len, vec_capacity, IfOk, OnErr};
 ghost use Rattle.std.specs.VecDeque.{deque_capacity};
 ghost use Rattle.nm_types.specs.Nodes.{up_from};
 
@@ -65,10 +65,11 @@ impl<A: Allocator + Copy> FreeList<A> {
         self.frames.get(k).copied()
     }
 
-    /// The free frames, front first, as the two parts in which they lie in memory. The second is empty unless the queue
-    /// wraps around.
+    /// The free frames, front first, as the two parts in which they lie in memory. The first is empty only if there are
+    /// none.
     pub fn as_slices(&self) -> (&[FrameId], &[FrameId])
-        ensures { result.0.now ++ result.1.now ≡ self.now.1 }
+        ensures parts { result.0.now ++ result.1.now ≡ self.now.1 }
+        ensures first { (0 < length result.0.now) ↔ (0 < length self.now.1) }
     {
         self.frames.as_slices()
     }

@@ -1,6 +1,6 @@
 //! The free frames of all nodes.
 
-ghost use Rattle.std.specs.Prelude.{◌≡◌, ◌<◌, ◌≤◌, ◌+◌, ◌++◌, false, length, sum, take, drop, slice_get, vec_len, vec_capacity, IfOk};
+ghost use Rattle.std.specs.Prelude.{◌≡◌, ◌<◌, ◌≤◌, ◌+◌, ◌++◌, ◌↔◌, false, length, sum, take, drop, slice_get, vec_len, vec_capacity, IfOk};
 ghost use Rattle.nm_types.specs.Layout.{owner};
 ghost use Rattle.nm_types.specs.Nodes.{is_in};
 ghost use Rattle.nm_model.specs.definitions.Frames.{Pool, IsPool, list_of, new_pool, with_list, without_front, appended, prepended};
@@ -62,10 +62,12 @@ impl<A: Allocator + Copy> NodePool<A> {
         self.lists[node.index()].nth(k)
     }
 
-    /// The free frames of a node of the machine, front first, as the two parts in which they lie in memory.
+    /// The free frames of a node of the machine, front first, as the two parts in which they lie in memory. The first is
+    /// empty only if there are none.
     pub fn as_slices(&self, node: NodeId) -> (&[FrameId], &[FrameId])
         requires { node < length self.now.lists }
-        ensures { result.0.now ++ result.1.now ≡ list_of self.now node }
+        ensures parts { result.0.now ++ result.1.now ≡ list_of self.now node }
+        ensures first { (0 < length result.0.now) ↔ (0 < length (list_of self.now node)) }
     {
         self.lists[node.index()].as_slices()
     }

@@ -104,6 +104,7 @@ impl<'m, A: Allocator + Copy> RunInFlight<'m, A> {
         ensures spaces { spaces.new ≡ self.entry.spaces }
         ensures frames { frames.new ≡ refilled self.entry.store copied.old.items }
         ensures empty { copied.new.items ≡ [] }
+        ensures room { vec_capacity copied.new ≡ vec_capacity copied.old }
     {
         let moves = self.moves;
         put_back_each(&mut self.store, copied);
@@ -203,6 +204,7 @@ fn put_back_each<A: Allocator + Copy>(frames: &mut FrameStore<A>, jobs: &mut Vec
     requires { CanRefill frames.old jobs.old.items }
     ensures frames { frames.new ≡ refilled frames.old jobs.old.items }
     ensures empty { jobs.new.items ≡ [] }
+    ensures room { vec_capacity jobs.new ≡ vec_capacity jobs.old }
 {
     while let Some(job) = jobs.pop() {
         let CopyJob { source, target, .. } = job;

@@ -1,6 +1,7 @@
 use Rattle.std.proofs.Common.{◌≡◌, ◌++◌, arith, length, map, ap, sym, subst, ◌∙◌}
 use Rattle.std.specs.Prelude.{min, vec_capacity, vec_len, slice_get}
 use Rattle.std.specs.List.{AllByRecursion}
+use Rattle.std.proofs.lemmas.List.{length-map}
 use Rattle.nm_frames.specs.Job.{copied}
 use Rattle.nm_model.specs.definitions.Frames.{Store, IsHome}
 use Rattle.nm_memory.specs.views.Accesses.{pending_shown}
@@ -11,7 +12,7 @@ use Rattle.nm_memory.specs.definitions.AfterCopy.{all_stored_after_copy, CanDo}
 use Rattle.nm_memory.specs.views.Frames.{FramesView}
 use Rattle.nm_spaces.specs.definitions.Moves.{all_moved}
 use Rattle.nm_spaces.specs.views.AddressSpaces.{AddressSpacesView}
-use Rattle.nm_memory.proofs.Copies.Copied.{copies_as_many, copies_home, tickets_from}
+use Rattle.nm_memory.proofs.Copies.Copied.{as_many_jobs, copies_as_many, copies_home, tickets_from}
 use Rattle.nm_memory.proofs.AfterCopy.Finished.{done_as_many, done_home}
 use Rattle.nm_memory.proofs.AfterCopy.Refilled.{home_again}
 use Rattle.nm_memory.proofs.Copies.Populated.{after_populated}
@@ -152,3 +153,19 @@ returns-clause-answers g c =
     ∙ ap (λ (y : AddressSpacesView). (all_stored_after_copy y.place c.begin-run.result.store dues).answers) c.begin-run.ensures.spaces
     ∙ ap (λ (s : Store). (all_stored_after_copy place s dues).answers) gone
     ∙ home.told ∙ ap (λ (v : FramesView). (all_stored_after_copy place (with_copies v.frames moves) dues).answers) c.self.view_is
+
+-- the list of the jobs has had room for all of them
+pub returns-clause-room : goal.returns-clause-room
+returns-clause-room g c =
+    let k = c.self.inside in
+    let moves = c.args.moves.now in
+    let none = ap (λ jobs. jobs.items) c.replace-jobs.ensures.value ∙ c.self.invariant.2 in
+    let first : vec_len c.replace-jobs.result ≡ 0 = c.replace-jobs.result.ok.0 ∙ ap length none in
+    let laid =
+    c.begin-run.ensures.jobs ∙ ap (λ l. l ++ jobs_of {A = g.row.A.Denot} (vec_len c.replace-jobs.result) k.frames moves) none
+    ∙ ap (λ n. jobs_of {A = g.row.A.Denot} n k.frames moves) first in
+    let many : length c.copy_beside-copied.result.0.items ≡ length moves =
+    ap length (c.copy_beside-copied.ensures.jobs ∙ ap (map copied) laid) ∙ length-map (jobs_of {A = g.row.A.Denot} 0 k.frames moves) copied ∙ as_many_jobs g.row.A.Denot moves 0 k.frames in
+    let room = ap (λ (v : FramesView). v.room) c.self.view_is in
+    let jobs = c.copy_beside-copied.result.0 in
+    omega (arith, c.requires.few, room, many, c.finish.ensures.room, jobs.ok.0, jobs.ok.1)

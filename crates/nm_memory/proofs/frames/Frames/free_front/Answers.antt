@@ -1,4 +1,5 @@
-use Rattle.std.proofs.Common.{min, take, ap, ◌∙◌, arith}
+use Rattle.std.proofs.Common.{◌<◌, min, take, length, ap, subst, ◌∙◌, arith}
+use Rattle.std.specs.Prelude.{OnErr}
 use Rattle.std.proofs.lemmas.List.{take_min}
 use Rattle.std.proofs.lemmas.Result.{IfOk-weaker}
 use Rattle.nm_model.specs.definitions.Frames.{list_of}
@@ -18,3 +19,8 @@ returns-clause-front g c =
     let many = c.min-count.ensures ∙ ap (λ n. min c.args.count n) c.free_count.ensures.count in
     let all = ap (λ n. take n list) many ∙ take_min c.args.count list ∙ ap (λ (v : FramesView). take c.args.count (free_on v c.args.node)) c.self.view_is in
     IfOk-weaker c.front_in_place.result _ _ (λ frames front. front ∙ all) c.front_in_place.ensures.frames
+
+pub returns-clause-asked : goal.returns-clause-asked
+returns-clause-asked g c =
+    let many = c.min-count.ensures ∙ ap (λ n. min c.args.count n) c.free_count.ensures.count in
+    subst (λ n. OnErr c.front_in_place.result (1 < n)) (many ∙ ap (λ (v : FramesView). min c.args.count (length (free_on v c.args.node))) c.self.view_is) c.front_in_place.ensures.asked

@@ -22,4 +22,5 @@ loop-job-preserved g c =
           (can_last c.pop.new.self.items c.in-Some.job c.loop-job.frames (subst (CanRefill c.loop-job.frames) items c.loop-job.invariant.can)).2;
       frames = ap (λ (s : Store). refilled s c.pop.new.self.items) now ∙ sym (refilled_last c.pop.new.self.items c.in-Some.job c.loop-job.frames)
           ∙ ap (refilled c.loop-job.frames) (sym items) ∙ c.loop-job.invariant.frames;
+      room = c.pop.ensures.capacity ∙ c.loop-job.invariant.room;
     }

@@ -1,5 +1,5 @@
 use Rattle.std.proofs.Common.{◌≡◌}
-use Rattle.std.specs.Prelude.{vec_len}
+use Rattle.std.specs.Prelude.{vec_len, vec_capacity}
 use Rattle.nm_memory.specs.views.Copies.{CanRefill, refilled}
 use Rattle.nm_memory.proofs.frames.run_in_flight.put_back_each.Given as goal
 
@@ -7,6 +7,7 @@ abbrev pub invariant-loop-job : goal.invariant-loop-job
 invariant-loop-job g l = record {
   can : CanRefill l.frames l.jobs.items;
   frames : refilled l.frames l.jobs.items ≡ refilled l.fn.frames l.fn.jobs.items;
+  room : vec_capacity l.jobs ≡ vec_capacity l.fn.jobs;
 }
 
 abbrev pub decreases-loop-job : goal.decreases-loop-job
