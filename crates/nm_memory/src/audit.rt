@@ -1,6 +1,6 @@
 //! Auditing all frames.
 
-ghost use Rattle.std.specs.Prelude.{◌≡◌, ◌<◌, ◌≤◌, ◌==◌, ℕ, ◌++◌, length, map, nat_lt, IfOk, OnOk, slice_index_or};
+ghost use Rattle.std.specs.Prelude.{◌≡◌, ◌<◌, ◌≤◌, ◌==◌, ℕ, ◌+◌, ◌++◌, true, length, map, nat_lt, IfOk, OnOk, OnErr, slice_index_or};
 ghost use Rattle.std.specs.List.{list_all};
 ghost use Rattle.nm_model.specs.definitions.Frames.{list_of};
 ghost use Rattle.nm_model.specs.definitions.Sound.{times};
@@ -62,7 +62,8 @@ fn all_of<A: Allocator + Copy>(
     free: &[(NodeId, FrameId)],
     placed: &[FrameId],
 ) -> Result<Vec<FrameId, A>, AllocError>
-    ensures { IfOk result (λ v. v.items ≡ map (λ f. f.1) free.now ++ placed.now) }
+    ensures items { IfOk result (λ v. v.items ≡ map (λ f. f.1) free.now ++ placed.now) }
+    ensures asked { OnErr result (0 < length free.now + length placed.now) }
 {
     let mut frames = Vec::new(alloc);
     for (_, frame) in free {
@@ -80,7 +81,8 @@ pub(crate) fn is_each_once<A: Allocator + Copy>(
     free: &[(NodeId, FrameId)],
     placed: &[FrameId],
 ) -> Result<bool, AllocError>
-    ensures { IfOk result (λ b. b ≡ is_audited geometry.now free.now placed.now) }
+    ensures audited { IfOk result (λ b. b ≡ is_audited geometry.now free.now placed.now) }
+    ensures own { OnErr result (list_all (is_own geometry.now) free.now ≡ true) }
 {
     if !are_own(geometry, free) {
         return Ok(false);
@@ -101,8 +103,9 @@ fn push_list<A: Allocator + Copy>(
     free: &mut Vec<(NodeId, FrameId), A>,
 ) -> Result<(), AllocError>
     requires { node < length nodes.now.lists }
-    ensures { OnOk result
+    ensures items { OnOk result
         (free.new.items ≡ free.old.items ++ map (λ frame. (node, frame)) (list_of nodes.now node)) }
+    ensures asked { OnErr result (0 < length (list_of nodes.now node)) }
 {
     for k in 0..nodes.free_count(node) {
         let Some(frame) = nodes.nth(node, k) else {

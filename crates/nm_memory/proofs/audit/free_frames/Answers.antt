@@ -8,4 +8,4 @@ pub loop-node-preserved : goal.loop-node-preserved
 loop-node-preserved g c =
     let lists = c.args.nodes.now.lists in
     listed_more lists c.loop-node.node c.loop-node.free.items c.push_list.new.free.items (numbered 0 lists) (omega (arith, c.loop-node-test.true, c.requires.count)) c.loop-node.invariant
-    (c.in_ok-push_list.ensures ∙ ap (λ m. c.loop-node.free.items ++ map (beside m) (get_or lists m [])) c.new.ensures)
+    (c.in_ok-push_list.ensures.items ∙ ap (λ m. c.loop-node.free.items ++ map (beside m) (get_or lists m [])) c.new.ensures)
