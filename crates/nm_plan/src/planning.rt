@@ -14,7 +14,8 @@ use std::alloc::{AllocError, Allocator};
 
 /// Decides one request after these moves: a page that moves takes the first frame that none of them has taken. The
 /// number of moves so far is the index of that frame in `free_front`, so no free list changes before the plan is
-/// complete. An error means that the host is out of memory; after fewer than eight moves none is asked for.
+/// complete. An error means that the host is out of memory; none is asked for after fewer than eight moves, or if the
+/// request moves no page.
 fn choose<A: Allocator + Copy>(
     class: Class,
     free_front: &[FrameId],
@@ -45,6 +46,11 @@ fn choose<A: Allocator + Copy>(
 
     // Without memory
     ensures asked { OnErr result (8 ≤ length moves.old.items) }
+    ensures moving { OnErr result
+        (0
+        < length
+        (choose class moves.old.items
+        (drop (length moves.old.items) free_front.now) target).taken) }
 {
     let Class::Move { page, from } = class else {
         let Class::Status(status) = class else {

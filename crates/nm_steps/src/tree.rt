@@ -1,9 +1,10 @@
 //! A JSON text as a tree that borrows its strings and keeps its numbers as they are written.
 
-ghost use Rattle.std.specs.Prelude.{◌≡◌, ◌<◌, ◌==◌, ◌^◌, length, slice_index, true, false, Some, is_some, option_map, option_and_then, IsTrue, IfSome, IfNone};
+ghost use Rattle.std.specs.Prelude.{ℕ, List, ◌≡◌, ◌<◌, ◌==◌, ◌^◌, length, slice_index, true, false, Some, is_some, option_map, option_and_then, IsTrue, IfSome, IfNone};
 ghost use Rattle.std.specs.Str.Parse.{IsNumeral};
 ghost use Rattle.fast_float.specs.Text.{minus};
 ghost use Rattle.json.specs.Json as grammar;
+ghost use Rattle.json.specs.Json.Json.{number};
 ghost use Rattle.json.specs.Reads.{opens};
 ghost use Rattle.json.specs.Scratch.{room};
 ghost use Rattle.nm_steps.specs.declared.step_error.StepError.TheVariants.{Memory};
@@ -191,7 +192,12 @@ fn is_in_range(number: &str) -> bool
 
 /// Whether a value is a number of one to 19 digits. Such numbers are in range, and most of a trace's are such.
 fn is_short_number(value: &Value<'_>) -> bool
-    ensures { result ≡ true → is_some (of_json (value_view value.now)) ≡ true }
+    ensures in_range { result ≡ true → is_some (of_json (value_view value.now)) ≡ true }
+    ensures other { result ≡ false
+        → (digits : List ℕ)
+        → value_view value.now ≡ number digits
+        → IsNumeral 10 digits
+        → 19 < length digits }
 {
     match value {
         Value::Number(number) => short_of(number.as_bytes()).is_some(),

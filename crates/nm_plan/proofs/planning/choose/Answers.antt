@@ -17,6 +17,7 @@ returns-in_default g c =
       found = c.requires.found;
       capacity = refl;
       asked = tt;
+      moving = tt;
     }
 
 pub has-requires : goal.has-requires
@@ -35,6 +36,7 @@ returns-then-has g c =
       found = c.requires.found;
       capacity = refl;
       asked = tt;
+      moving = tt;
     }
 
 pub overflow_sub-result : goal.overflow_sub-result
@@ -52,6 +54,7 @@ returns-in_default-get g c =
       found = c.requires.found;
       capacity = refl;
       asked = tt;
+      moving = tt;
     }
 
 pub add-requires : goal.add-requires
@@ -77,4 +80,5 @@ returns g c =
       found = subst (λ (us : List Taken). Finds c.add.new.self us) (ap (λ (us : List Taken). us ++ t ∷ []) c.as_slice-2.ensures.value ∙ sym made) (c.in_ok-add.ensures.noted t refl);
       capacity = c.push_reserved.ensures.capacity;
       asked = tt;
+      moving = tt;
     }
