@@ -187,8 +187,8 @@ impl<A: Allocator + Copy> Blocks<A> {
         }
     }
 
-    /// Sets the second entry of a block, which gets its leaf. Does not allocate. Apart from `put`, which then needs no
-    /// room for a leaf on the stack.
+    /// Sets the second entry of a block, which gets its leaf. Does not allocate. Kept apart from `put`, so that `put`
+    /// needs no room for a leaf on the stack.
     #[inline(never)]
     fn add_leaf(&mut self, own: Vpn, first: Entry, vpn: Vpn, entry: Entry)
         requires kept { IsBlocks self.old }
