@@ -1,14 +1,16 @@
 -- The outcome of a call: where it is refused, where it is not, and where the host has no memory for it.
-use Rattle.std.proofs.Common.{◌≡◌, ℕ, suc, ◌≤◌, Bool, false, List, [], ◌∷◌, length, refl, sym, ap, subst, ◌∙◌, inl, inr, arith, slice_index_or, Some, None}
+use Rattle.std.proofs.Common.{◌≡◌, ℕ, suc, ◌≤◌, Bool, true, false, List, [], ◌∷◌, length, refl, sym, ap, subst, ◌∙◌, inl, inr, arith, slice_index_or, Some, None, Ok, Err}
 use Rattle.std.specs.Prelude.{◌⊎◌, ◌<◌, ◌-◌}
+use Rattle.std.specs.Result.{result_err}
 use Rattle.nm_types.specs.declared.errno.Errno.{Errno}
 use Rattle.nm_types.specs.State.{State}
 use Rattle.nm_model.specs.definitions.Cut.{Stretch}
 use Rattle.nm_model.specs.definitions.Run.{runs_from}
+use Rattle.nm_model.specs.definitions.Touch.{touch, write, write_after}
 use Rattle.nm_steps.specs.Calls.{Call}
 use Rattle.nm_calls.specs.definitions.Answers.{Refusal}
 use Rattle.nm_calls.specs.definitions.Systems.{SystemState, in_state}
-use Rattle.nm_calls.specs.definitions.Outcome.{Outcome, refused, refused_at_once, start, sets_policy, runs_asked, runs_of, accesses_asked, ended, outcome, states_from, trail, after_runs}
+use Rattle.nm_calls.specs.definitions.Outcome.{Outcome, refusal_in, refused, refused_at_once, start, sets_policy, runs_asked, runs_of, accesses_asked, ended, outcome, states_from, trail, after_runs}
 use Rattle.nm_calls.specs.definitions.Does.{HostLeaves}
 use Rattle.nm_calls.proofs.Trails.{runs_unless, state_unless}
 
@@ -23,6 +25,14 @@ answers y call o none is = rw none is
 
 pub refuses : (y : SystemState) (call : Call) (e : Errno) → refused y.state call ≡ Some e → outcome y call ≡ record { answer = Refusal e; system = y }
 refuses y call e is = rw is refl
+
+-- a write whose touch is not refused is not refused
+pub write_goes : (s : State) (pid addr : ℕ) (bytes : List ℕ) → result_err (touch s pid addr (length bytes) true) ≡ None → refusal_in (write s pid addr bytes).answer ≡ None
+write_goes s pid addr bytes h =
+    elim (touch s pid addr (length bytes) true) as (λ t. result_err t ≡ None → refusal_in (write_after s pid addr bytes t).answer ≡ None) [
+      | Ok t ↦ λ none. refl
+      | Err e ↦ λ none. cc
+    ] h
 
 -- nothing has changed
 pub unchanged : (y : SystemState) (call : Call) (runs : ℕ) (policy_set : Bool) (new : SystemState) → refused_at_once y.state call ≡ None → runs ≡ 0 → policy_set ≡ false → new ≡ y → HostLeaves y call runs policy_set new

@@ -1,6 +1,6 @@
 //! A process's areas as text.
 
-ghost use Rattle.std.specs.Prelude.{◌≡◌, ℕ, ◌+◌, ◌++◌, ◌∷◌, ◌<◌, ◌≤◌, ◌^◌, All, Some, IfOk, OnErr, OnOk, length, map, string_bytes, slice_index, count_by, ◌==◌};
+ghost use Rattle.std.specs.Prelude.{◌≡◌, ℕ, ◌+◌, ◌++◌, ◌∷◌, ◌<◌, ◌≤◌, ◌^◌, All, Some, true, IfOk, OnErr, OnOk, length, map, string_bytes, slice_index, count_by, ◌==◌};
 ghost use Rattle.nm_types.specs.Layout.{node_count};
 ghost use Rattle.nm_types.specs.Map.{get, page_cmp};
 ghost use Rattle.nm_calls.specs.definitions.Maps.{stretches, stretch_text, set_text, policy_text, pages_of, most_users, area_text, lines_shown};
@@ -28,9 +28,10 @@ fn take_stretch(first: NodeId, rest: &mut NodeMask) -> NodeId
     last
 }
 
-/// Appends a comma, if it is wanted.
+/// Appends a comma, if it is wanted. Allocates only then.
 fn push_comma<A: Allocator>(line: &mut String<A>, wanted: bool) -> Result<(), AllocError>
-    ensures { OnOk result (string_bytes line.new ≡ string_bytes line.old ++ comma wanted) }
+    ensures text { OnOk result (string_bytes line.new ≡ string_bytes line.old ++ comma wanted) }
+    ensures asked { OnErr result (wanted ≡ true) }
 {
     if wanted { line.push_str(",") } else { Ok(()) }
 }

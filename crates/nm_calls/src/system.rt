@@ -1,12 +1,13 @@
 //! A system: a machine, its limit on runs and its workers, and the calls that processes make.
 
-ghost use Rattle.std.specs.Prelude.{Bool, Err, IfOk, OnErr, Some, [], length, map, true, ℕ, ◌+◌, ◌/◌, ◌<◌, ◌≡◌, ◌≤◌, ◌^◌};
+ghost use Rattle.std.specs.Prelude.{Bool, Err, IfOk, OnErr, Some, [], length, map, true, ℕ, ◌+◌, ◌/◌, ◌<◌, ◌≡◌, ◌≤◌, ◌⊎◌, ◌^◌};
 ghost use Rattle.std.specs.List.{list_any};
 ghost use Rattle.nm_types.specs.Nodes.{is_in};
 ghost use Rattle.nm_types.specs.State.{free_list};
 ghost use Rattle.nm_types.specs.declared.page.Page.{Page};
 ghost use Rattle.nm_types.specs.declared.sight.Sight.TheVariants.{Sees};
 ghost use Rattle.nm_areas.specs.Lines.{lines_of};
+ghost use Rattle.nm_areas.specs.Splits.{HasSplit};
 ghost use Rattle.nm_model.specs.definitions.AreaRefusal.{overlaps};
 ghost use Rattle.nm_model.specs.definitions.PageTables.{entries_of};
 ghost use Rattle.nm_model.specs.definitions.Seen.{sight_at};
@@ -190,12 +191,17 @@ impl<A: Allocator + Copy + Send + Sync> System<A> {
     ///
     /// Errors, in order: ESRCH (no such process); EINVAL (an address that is not a multiple of 4,096, no page, an end
     /// past 2^47); EBUSY (an area shows a page with a pin there). Allocates only if an area of the process is in the
-    /// range.
+    /// range, and only if it is split there or a page has a frame.
     pub fn unmap(&mut self, pid: Pid, addr: u64, pages: u64) -> Result<(), CallError>
         ensures done { Does (λ done. Done) result self.old self.new (Unmap pid addr pages) }
         ensures asked { (runs : ℕ) (policy_set : Bool) →
             result ≡ Err (HostMemory runs policy_set) →
             list_any (overlaps pid (addr / 4096) (addr / 4096 + pages)) self.old.state.areas ≡ true }
+        ensures needed { (runs : ℕ) (policy_set : Bool) →
+            result ≡ Err (HostMemory runs policy_set) →
+            (0 < length self.old.state.place)
+            ⊎ HasSplit self.old.state.areas pid (addr / 4096)
+            ⊎ HasSplit self.old.state.areas pid (addr / 4096 + pages) }
     {
         Ok(self.machine.unmap(pid, addr, pages)?)
     }
@@ -203,12 +209,15 @@ impl<A: Allocator + Copy + Send + Sync> System<A> {
     /// Ends a process, which loses all its areas as by one `unmap`. Its pid may be used again.
     ///
     /// Errors, in order: ESRCH (no such process); EBUSY (one of its areas shows a page with a pin). Allocates only if
-    /// the process has an area.
+    /// the process has an area, and a page has a frame.
     pub fn exit(&mut self, pid: Pid) -> Result<(), CallError>
         ensures done { Does (λ done. Done) result self.old self.new (Exit pid) }
         ensures asked { (runs : ℕ) (policy_set : Bool) →
             result ≡ Err (HostMemory runs policy_set) →
             list_any (overlaps pid 0 (2 ^ 35)) self.old.state.areas ≡ true }
+        ensures needed { (runs : ℕ) (policy_set : Bool) →
+            result ≡ Err (HostMemory runs policy_set) →
+            0 < length self.old.state.place }
     {
         Ok(self.machine.exit(pid)?)
     }
@@ -245,7 +254,7 @@ impl<A: Allocator + Copy + Send + Sync> System<A> {
     }
 
     /// Writes 1 to 4,096 bytes inside one page. The first write to a page takes a frame (numa(7)). Errors as for
-    /// `read`. A write to a page that the process sees does not allocate.
+    /// `read`. A write that is refused, or to a page that the process sees, does not allocate.
     pub fn write(&mut self, pid: Pid, addr: u64, bytes: &[u8]) -> Result<(), CallError>
         ensures done { Does (λ done. Done) result self.old self.new
             (WriteBytes pid addr bytes.now) }

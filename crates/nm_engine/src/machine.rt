@@ -1,10 +1,11 @@
 //! The machine.
 
-ghost use Rattle.std.specs.Prelude.{◌≡◌, ◌<◌, ◌+◌, ◌/◌, [], ◌∷◌, map, length, Some, Err, IfOk, OnOk, OnErr};
+ghost use Rattle.std.specs.Prelude.{◌≡◌, ◌<◌, ◌+◌, ◌/◌, [], ◌∷◌, map, length, Some, Err, true, IfOk, OnOk, OnErr};
+ghost use Rattle.std.specs.Result.{result_err};
 ghost use Rattle.nm_types.specs.declared.page.Page.{Page};
 ghost use Rattle.nm_types.specs.declared.sight.Sight.TheVariants.{Sees};
 ghost use Rattle.nm_types.specs.Layout.{node_count};
-ghost use Rattle.nm_model.specs.definitions.Touch.{Bytes, Done, read, write, site_refusal};
+ghost use Rattle.nm_model.specs.definitions.Touch.{Bytes, Done, read, write, site_refusal, touch};
 ghost use Rattle.nm_model.specs.definitions.Run.{total_after, with_counts, run, failures, HasOneAll};
 ghost use Rattle.nm_model.specs.views.Asked.{access_shown};
 ghost use Rattle.nm_memory.specs.views.Accesses.{answer_shown};
@@ -136,11 +137,13 @@ impl<A: Allocator + Copy + Send + Sync> Machine<A> {
     /// (numa(7)).
     ///
     /// Errors, in order: ESRCH, EINVAL and EFAULT as for `read`; ENOMEM if the page needs a frame and no node that may
-    /// give one has any. A refused write changes nothing. A write to a page that the process sees does not allocate.
+    /// give one has any. A refused write changes nothing. A write that is refused, or to a page that the process sees,
+    /// does not allocate.
     pub fn write(&mut self, pid: Pid, addr: u64, bytes: &[u8]) -> Result<(), MachineError>
         ensures answer { Accesses result (λ done. Done) self.old self.new
             (write self.old pid addr bytes.now) }
-        ensures memory { AsksLast result (site_refusal self.old pid addr (length bytes.now)) }
+        ensures memory { AsksLast result
+            (result_err (touch self.old pid addr (length bytes.now) true)) }
         ensures asked { result ≡ Err MachineError.HostMemory →
             (page : Page) →
             sight_at self.old pid (addr / 4096) ≡ Some (Sees page) →

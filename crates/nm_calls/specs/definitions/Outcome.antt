@@ -65,10 +65,9 @@ refused s (Pagemap pid) = entries_refusal s pid
 refused s Vmstat = None
 refused s (NumaMaps pid) = entries_refusal s pid
 
--- the refusals that a call checks before it allocates: all except the lack of a free frame for an access
+-- the refusals that a call checks before it allocates: all except the lack of a free frame for a read
 unfoldable pub refused_at_once : State → Call → Option Errno
 refused_at_once s (ReadBytes pid addr len) = site_refusal s pid addr len
-refused_at_once s (WriteBytes pid addr bytes) = site_refusal s pid addr (length bytes)
 refused_at_once s call = refused s call
 
 -- the state before the first run of a call that is not refused, with the policy of mbind set

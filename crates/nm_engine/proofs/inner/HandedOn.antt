@@ -1,5 +1,5 @@
 -- What a call says of an error that it hands on.
-use Rattle.std.proofs.Common.{◌≡◌, sym, subst}
+use Rattle.std.proofs.Common.{◌≡◌, ap, sym, subst, ◌∙◌}
 use Rattle.std.proofs.lemmas.Bool.{false≢true}
 use Rattle.std.specs.Prelude.{Option, None, Result, Ok, Err}
 use Rattle.std.specs.Result.{IsErr, IsErrAnd}
@@ -14,6 +14,17 @@ pub may_ask : {T : Type 0} (r : Result T MachineError) (refusal : Option Errno) 
 may_ask (Ok value) refusal none = tt
 may_ask (Err (error.Refused e)) refusal none = tt
 may_ask (Err error.HostMemory) refusal none = none
+
+-- what a call within the call says of memory, where both refusals are defined to be the same
+pub memory_handed_on : {T U : Type 0} (q : Result T MachineError) (r : Result U MachineError) (e : MachineError) {f g : Option Errno} → q ≡ Err e → IsErr r × IsErrAnd r (λ x. x ≡ e) → g ≡ f → AsksLast q f → AsksLast r g
+memory_handed_on q (Ok v) e is h same t = tt
+memory_handed_on {T} {U} q (Err x) e {f} {g} is h same t =
+    subst (λ k. AsksLast {T = U} (Err x) k) (sym same) (subst (λ z. AsksLast {T = U} (Err z) f) (sym h.1) (subst (λ z. AsksLast {T = T} z f) is t))
+
+-- the error that is handed on is that of the call within
+pub error_was : {T U : Type 0} (q : Result T MachineError) (r : Result U MachineError) (e x : MachineError) → q ≡ Err e → IsErr r × IsErrAnd r (λ y. y ≡ e) → r ≡ Err x → q ≡ Err x
+error_was q (Ok v) e x is h told = absurd (false≢true h.0)
+error_was q (Err y) e x is h told = let same : y ≡ x = cc in is ∙ ap Err (sym h.1 ∙ same)
 
 -- no memory, and nothing changed
 pub nothing_touched : {T : Type 0} (r : Result T MachineError) (old new : State) (f : Result State Errno) → IsErr r × IsErrAnd r (λ x. x ≡ error.HostMemory) → new ≡ old → Touches r old new f

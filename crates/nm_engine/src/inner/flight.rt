@@ -11,6 +11,7 @@ ghost use Rattle.nm_model.specs.definitions.Sound.{IsSound};
 ghost use Rattle.nm_model.specs.definitions.Touch.{Read, Write};
 ghost use Rattle.nm_engine.specs.views.MidRun.{with_state};
 ghost use Rattle.nm_model.specs.definitions.BeforeCopy.{before_copy, all_before_copy, without_fronts, frames_taken};
+ghost use Rattle.nm_engine.specs.definitions.Does.{ComesToTouch};
 ghost use Rattle.nm_engine.specs.definitions.Undo.{IsStillUndone};
 ghost use Rattle.nm_model.specs.views.Asked.{access_shown};
 ghost use Rattle.nm_memory.specs.views.Accesses.{pending_shown, HasRoom};
@@ -140,7 +141,7 @@ impl<A: Allocator + Copy> Inner<A> {
         Ok(dues)
     }
 
-    /// Makes the touch of an access.
+    /// Makes the touch of an access. Allocates only for an access that is neither refused for where it is, nor held.
     fn touch_early<'d>(
         &mut self,
         moving: &BTreeSet<Page, A>,
@@ -161,6 +162,7 @@ impl<A: Allocator + Copy> Inner<A> {
 
         // Without memory
         ensures err { OnErr result (self.new ≡ self.old) }
+        ensures asked { OnErr result (ComesToTouch self.old.state moving.now.keys (access_shown access.now)) }
 
         // The touches to undo
         ensures back { IsStillUndone self.old.left self.old.state undos.old.items self.new.state undos.new.items }
@@ -195,6 +197,7 @@ impl<A: Allocator + Copy> Inner<A> {
 
         // Without memory
         ensures err { OnErr result (self.new ≡ self.old) }
+        ensures asked { OnErr result (ComesToTouch self.old.state moving.now.keys (Read pid addr len)) }
 
         // The touches to undo
         ensures back { IsStillUndone self.old.left self.old.state undos.old.items self.new.state undos.new.items }
@@ -249,6 +252,7 @@ impl<A: Allocator + Copy> Inner<A> {
 
         // Without memory
         ensures err { OnErr result (self.new ≡ self.old) }
+        ensures asked { OnErr result (ComesToTouch self.old.state moving.now.keys (Write pid addr bytes.now)) }
 
         // The touches to undo
         ensures back { IsStillUndone self.old.left self.old.state undos.old.items self.new.state undos.new.items }
@@ -276,10 +280,11 @@ impl<A: Allocator + Copy> Inner<A> {
 
 /// The pages of moves, in order.
 fn pages_of<A: Allocator + Copy>(alloc: A, moves: &[Taken]) -> Result<BTreeSet<Page, A>, AllocError>
-    ensures { IfOk result
+    ensures pages { IfOk result
         (λ pages. (p : Page) →
         list_any (same_page p) pages.keys
         ≡ list_any (same_page p) (map (λ t. t.page) moves.now)) }
+    ensures asked { OnErr result (0 < length moves.now) }
 {
     let mut pages = BTreeSet::new(alloc);
     for taken in moves {

@@ -27,6 +27,7 @@ impl<A: Allocator + Copy + Send + Sync> Inner<A> {
         ensures room { OnOk result (length self.new.left + count ≤ self.new.room) }
         ensures same { self.new ≡ record (self.old) { room = self.new.room } }
         ensures asked { OnErr result (0 < length self.old.left + count) }
+        ensures full { OnErr result (self.old.room < length self.old.left + count) }
     {
         self.frames.reserve(count)
     }

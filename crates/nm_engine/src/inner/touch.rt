@@ -1,7 +1,8 @@
 //! Touches: what reads and writes do before they reach the bytes.
 
-ghost use Rattle.std.specs.Prelude.{◌≡◌, ◌+◌, ◌/◌, ◌%◌, ◌≤◌, ◌++◌, true, replicate, vec_len, vec_capacity, Ok, Err, Some, None, IfOk, IfErr, IfNone, IsSome, OnErr};
+ghost use Rattle.std.specs.Prelude.{◌≡◌, ◌+◌, ◌/◌, ◌%◌, ◌≤◌, ◌++◌, true, false, replicate, vec_len, vec_capacity, Ok, Err, Some, None, IfOk, IfErr, IfNone, IsSome, OnErr};
 ghost use Rattle.std.specs.Ordering.{nat_cmp};
+ghost use Rattle.std.specs.Result.{result_err};
 ghost use Rattle.nm_types.specs.declared.page.Page.{Page};
 ghost use Rattle.nm_types.specs.declared.sight.Sight.TheVariants.{Sees, ZeroPage};
 ghost use Rattle.nm_types.specs.Map.{get, page_cmp};
@@ -10,7 +11,7 @@ ghost use Rattle.nm_model.specs.definitions.Seen.{sight_at};
 ghost use Rattle.nm_model.specs.definitions.Order.{first_touch_order};
 ghost use Rattle.nm_model.specs.definitions.Touch.{site, first_free, filled, joined, touched_entry};
 ghost use Rattle.nm_engine.specs.views.MidRun.{access_site, IsSiteOf, with_state};
-ghost use Rattle.nm_engine.specs.definitions.Does.{Touches};
+ghost use Rattle.nm_engine.specs.definitions.Does.{AsksLast, Touches};
 ghost use Rattle.nm_model.specs.definitions.Seen.{frame_seen};
 
 use crate::inner::Inner;
@@ -60,7 +61,8 @@ impl<A: Allocator + Copy> Inner<A> {
     }
 
     /// What a read or a write does before it reaches the bytes. Returns the frame of the page that the process then
-    /// sees, or None if that is the page of zeros. If it sees a page before, nothing is refused.
+    /// sees, or None if that is the page of zeros. If it sees a page before, or reads the page of zeros, nothing is
+    /// refused. Allocates only what it is not refused.
     pub(crate) fn touch(
         &mut self,
         t: ResolvedAddress,
@@ -79,8 +81,16 @@ impl<A: Allocator + Copy> Inner<A> {
         ensures some { IfOk result (λ frame. writes ≡ true → IsSome frame) }
         ensures zeros { IfOk result
             (λ frame. IfNone frame (sight_at self.new.state t.pid t.vpn ≡ Some ZeroPage)) }
+
+        // Without memory
+        ensures memory { (p : Process) (a : Placed) →
+            IsSiteOf self.old.state t p a →
+            AsksLast result
+            (result_err (touched_entry self.old.state (access_site t p a) writes (get nat_cmp p.sees t.vpn))) }
         ensures asked { OnErr result
             ((page : Page) → sight_at self.old.state t.pid t.vpn ≡ Some (Sees page) → ⊥) }
+        ensures zero { OnErr result
+            (writes ≡ false → sight_at self.old.state t.pid t.vpn ≡ Some ZeroPage → ⊥) }
 
         // Nothing else changes
         ensures same { self.new ≡ with_state self.old self.new.state }
@@ -117,6 +127,10 @@ impl<A: Allocator + Copy> Inner<A> {
             IsSiteOf self.old.state t p a →
             Touches result self.old.state self.new.state
             (joined self.old.state (access_site t p a) (get page_cmp self.old.state.place t.page)) }
+        ensures memory { (p : Process) (a : Placed) →
+            IsSiteOf self.old.state t p a →
+            AsksLast result
+            (result_err (joined self.old.state (access_site t p a) (get page_cmp self.old.state.place t.page))) }
 
         // On success
         ensures frame { IfOk result (λ frame. frame_seen self.new.state t.pid t.vpn ≡ Some frame) }
@@ -142,6 +156,9 @@ impl<A: Allocator + Copy> Inner<A> {
         ensures touches { (p : Process) (a : Placed) →
             IsSiteOf self.old.state t p a →
             Touches result self.old.state self.new.state (filled self.old.state (access_site t p a)) }
+        ensures memory { (p : Process) (a : Placed) →
+            IsSiteOf self.old.state t p a →
+            AsksLast result (result_err (filled self.old.state (access_site t p a))) }
 
         // On success
         ensures frame { IfOk result (λ frame. frame_seen self.new.state t.pid t.vpn ≡ Some frame) }

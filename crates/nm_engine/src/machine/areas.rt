@@ -1,6 +1,6 @@
 //! Adding, splitting and removing areas.
 
-ghost use Rattle.std.specs.Prelude.{Err, IfOk, None, false, map, true, ◌+◌, ◌/◌, ◌<◌, ◌≡◌, ◌⊎◌};
+ghost use Rattle.std.specs.Prelude.{Err, IfOk, None, false, length, map, true, ◌+◌, ◌/◌, ◌<◌, ◌≡◌, ◌⊎◌};
 ghost use Rattle.nm_model.specs.definitions.AreaRefusal.{overlaps};
 ghost use Rattle.std.specs.List.{list_any};
 ghost use Rattle.nm_engine.specs.definitions.Does.{AsksLast, Makes};
@@ -71,13 +71,17 @@ impl<A: Allocator + Copy + Send + Sync> Machine<A> {
     ///
     /// Errors, in order: ESRCH if there is no such process; EINVAL if the address is not a multiple of 4,096, `pages`
     /// is 0, or the end is past 2^47; EBUSY if an area of the process shows a page with a pin there. Allocates only if
-    /// an area of the process is in the range.
+    /// an area of the process is in the range, and only if it is split there or a page has a frame.
     pub fn unmap(&mut self, pid: Pid, addr: u64, pages: u64) -> Result<(), MachineError>
         ensures done { Makes result self.old self.new (unmap_refusal self.old pid addr pages)
             (unmap self.old pid addr pages) }
         ensures memory { AsksLast result (unmap_refusal self.old pid addr pages) }
         ensures asked { result ≡ Err MachineError.HostMemory →
             list_any (overlaps pid (addr / 4096) (addr / 4096 + pages)) self.old.areas ≡ true }
+        ensures needed { result ≡ Err MachineError.HostMemory →
+            (0 < length self.old.place)
+            ⊎ HasSplit self.old.areas pid (addr / 4096)
+            ⊎ HasSplit self.old.areas pid (addr / 4096 + pages) }
     {
         if self.inner.spaces.info(pid).is_none() {
             return Err(MachineError::Refused(Errno::Esrch));
@@ -103,6 +107,10 @@ impl<A: Allocator + Copy + Send + Sync> Machine<A> {
             (dropped self.old pid (addr / 4096) (addr / 4096 + pages)) }
         ensures asked { result ≡ Err MachineError.HostMemory →
             list_any (overlaps pid (addr / 4096) (addr / 4096 + pages)) self.old.areas ≡ true }
+        ensures needed { result ≡ Err MachineError.HostMemory →
+            (0 < length self.old.place)
+            ⊎ HasSplit self.old.areas pid (addr / 4096)
+            ⊎ HasSplit self.old.areas pid (addr / 4096 + pages) }
     {
         let freed = self.inner.spaces.remove(pid, addr, pages)?;
         free_each(&mut self.inner.frames, freed.as_slice());

@@ -1,6 +1,6 @@
 //! Adding and removing processes.
 
-ghost use Rattle.std.specs.Prelude.{Err, nat_le, true, ◌^◌, ◌≡◌, ◌≤◌};
+ghost use Rattle.std.specs.Prelude.{Err, length, true, ◌<◌, ◌^◌, ◌≡◌};
 ghost use Rattle.nm_model.specs.definitions.AreaRefusal.{overlaps};
 ghost use Rattle.std.specs.List.{list_any};
 ghost use Rattle.nm_engine.specs.definitions.Does.{AsksLast, Makes};
@@ -10,20 +10,6 @@ use crate::machine::Machine;
 use nm_types::limits::{MAX_PROCESSES, PAGE_NUMBERS};
 use nm_types::{Errno, MachineError, NodeId, NodeMask, Pid, ProcessInfo, Vpn};
 use std::alloc::Allocator;
-
-/// Whether a set has a node that is not below a count.
-fn has_beyond(nodes: NodeMask, count: usize) -> bool
-    requires { count ≤ 64 }
-    ensures { result ≡ list_any (nat_le count) nodes }
-{
-    let mut rest = nodes;
-    while let Some(node) = rest.take_first() {
-        if node.index() >= count {
-            return true;
-        }
-    }
-    false
-}
 
 impl<A: Allocator + Copy + Send + Sync> Machine<A> {
     /// Adds a process, with the credentials and the cpuset of credentials(7), capabilities(7) and cpuset(7). The home
@@ -48,7 +34,7 @@ impl<A: Allocator + Copy + Send + Sync> Machine<A> {
             || self.inner.spaces.info(pid).is_some()
             || home.index() >= count
             || allowed.is_empty()
-            || has_beyond(allowed, count)
+            || allowed.has_beyond(count)
         {
             return Err(MachineError::Refused(Errno::Einval));
         }
@@ -68,13 +54,14 @@ impl<A: Allocator + Copy + Send + Sync> Machine<A> {
     /// Ends a process: it loses all that it has, as by one `unmap`, and its pid may be used again.
     ///
     /// Errors, in order: ESRCH if there is no such process; EBUSY if one of its areas shows a page with a pin. Allocates
-    /// only if the process has an area.
+    /// only if the process has an area, and a page has a frame.
     pub fn exit(&mut self, pid: Pid) -> Result<(), MachineError>
         ensures done { Makes result self.old self.new (exit_refusal self.old pid)
             (exit self.old pid) }
         ensures memory { AsksLast result (exit_refusal self.old pid) }
         ensures asked { result ≡ Err MachineError.HostMemory →
             list_any (overlaps pid 0 (2 ^ 35)) self.old.areas ≡ true }
+        ensures needed { result ≡ Err MachineError.HostMemory → 0 < length self.old.place }
     {
         if self.inner.spaces.info(pid).is_none() {
             return Err(MachineError::Refused(Errno::Esrch));

@@ -1,5 +1,6 @@
 use Rattle.std.proofs.Common.{◌≡◌, ◌<◌, ◌∙◌, refl, sym, ap, subst, Some, None, Ok}
 use Rattle.std.specs.Prelude.{slice_get}
+use Rattle.std.specs.Result.{result_err}
 use Rattle.std.specs.Ordering.{nat_cmp}
 use Rattle.nm_types.specs.declared.page.Page.{Page}
 use Rattle.nm_types.specs.declared.sight.Sight.TheVariants.{Sees}
@@ -16,7 +17,7 @@ use Rattle.nm_engine.specs.views.MidRun.{MidRun, IsKept, IsSiteOf, access_site}
 use Rattle.nm_model.specs.definitions.Seen.{frame_of}
 use Rattle.nm_engine.proofs.Shown.BothParts.{kept_stocked, front_spare, stocked_both}
 use Rattle.nm_engine.proofs.Shown.PopulatedFrames.{same_shown, kept_again, view_again}
-use Rattle.nm_engine.proofs.inner.HandedOn.{nothing_touched}
+use Rattle.nm_engine.proofs.inner.HandedOn.{may_ask, nothing_touched}
 use Rattle.nm_engine.proofs.Does.Touches.{inside, found_free, no_front, short_list, sees_now, filled_shows, filled_kept, filled_is, get_set_same}
 use Rattle.nm_engine.proofs.inner.Inner.fill.Goals as goal
 
@@ -120,3 +121,22 @@ returns-in_err-allocate-clause-touches g c p a known =
     (ap (λ (z : AddressSpacesView). shown_by z c.populate.new.self c.self.inside.online c.self.inside.totals.moved c.self.inside.totals.failed) c.in_err-allocate.ensures.err
     ∙ same_shown c.self.inside.spaces c.self.inside.frames c.populate.new.self c.self.inside.online c.self.inside.totals.moved c.self.inside.totals.failed c.in_ok-populate.ensures.same c.in_ok-populate.ensures.kept c.self.inside.frames.vacated c.self.invariant.sound
     ∙ ap (λ (x : MidRun). x.state) c.self.view_is)
+
+-- memory is asked for only where there is a free frame
+pub returns-in_err-populate-clause-memory : goal.returns-in_err-populate-clause-memory
+returns-in_err-populate-clause-memory g c p a known =
+    let i = c.self.inside in
+    let found = inside _ _ _ _ c.self.view_is (λ s. first_free s.free (first_touch_order s.layout s.online c.args.t.info.home c.args.t.info.allowed c.args.t.policy c.args.t.page.index) ≡ Some c.in-Some.node) (sym c.first_node.ensures ∙ c.in-Some.is) in
+    let touched = inside _ _ _ _ c.self.view_is (λ s. IsSiteOf s c.args.t p a) known in
+    may_ask c.from_residual.result _
+    (ap (λ (y : MidRun). result_err (filled y.state (access_site c.args.t p a))) (sym c.self.view_is)
+    ∙ ap result_err (filled_is i.spaces.processes (table_of i.spaces) (paged_frames i.spaces i.frames) i.online i.totals.moved i.totals.failed _ c.args.t p a c.self.invariant touched c.in-Some.node found))
+
+pub returns-in_err-allocate-clause-memory : goal.returns-in_err-allocate-clause-memory
+returns-in_err-allocate-clause-memory g c p a known =
+    let i = c.self.inside in
+    let found = inside _ _ _ _ c.self.view_is (λ s. first_free s.free (first_touch_order s.layout s.online c.args.t.info.home c.args.t.info.allowed c.args.t.policy c.args.t.page.index) ≡ Some c.in-Some.node) (sym c.first_node.ensures ∙ c.in-Some.is) in
+    let touched = inside _ _ _ _ c.self.view_is (λ s. IsSiteOf s c.args.t p a) known in
+    may_ask c.from_residual-in_err-allocate.result _
+    (ap (λ (y : MidRun). result_err (filled y.state (access_site c.args.t p a))) (sym c.self.view_is)
+    ∙ ap result_err (filled_is i.spaces.processes (table_of i.spaces) (paged_frames i.spaces i.frames) i.online i.totals.moved i.totals.failed _ c.args.t p a c.self.invariant touched c.in-Some.node found))

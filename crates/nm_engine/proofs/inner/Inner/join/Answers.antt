@@ -1,11 +1,12 @@
 use Rattle.std.proofs.Common.{◌≡◌, ℕ, ◌∙◌, refl, sym, ap, subst, Some, None, IsSome, Ok}
 use Rattle.std.specs.Prelude.{Option}
+use Rattle.std.specs.Result.{result_err}
 use Rattle.std.specs.Ordering.{nat_cmp}
 use Rattle.nm_types.specs.declared.page.Page.{Page}
 use Rattle.nm_types.specs.declared.sight.Sight.TheVariants.{Sees}
 use Rattle.nm_types.specs.Map.{get, page_cmp}
 use Rattle.nm_model.specs.definitions.Seen.{sight_in, sight_at}
-use Rattle.nm_engine.specs.definitions.Does.{Touches}
+use Rattle.nm_engine.specs.definitions.Does.{AsksLast, Touches}
 use Rattle.nm_model.specs.definitions.Areas.{Mapped}
 use Rattle.nm_model.specs.definitions.Touch.{joined, with_sight}
 use Rattle.nm_spaces.specs.views.AddressSpaces.{AddressSpacesView, table_of, with_seen}
@@ -14,7 +15,7 @@ use Rattle.nm_engine.specs.views.MidRun.{MidRun, IsKept, IsSiteOf, access_site, 
 use Rattle.nm_model.specs.definitions.Seen.{frame_of}
 use Rattle.nm_engine.proofs.Does.Touches.{inside, outside, seen_kept, sees_now}
 use Rattle.nm_laws.proofs.Seen.Frames.{none_sees}
-use Rattle.nm_engine.proofs.inner.HandedOn.{nothing_touched}
+use Rattle.nm_engine.proofs.inner.HandedOn.{may_ask, nothing_touched}
 use Rattle.nm_engine.proofs.inner.Inner.join.Goals as goal
 
 pub invariant_of-self-2 : goal.invariant_of-self-2
@@ -77,3 +78,16 @@ pub returns-clause-same : goal.returns-clause-same
 returns-clause-same g c =
     let i = c.self.inside in
     ap (λ (y : MidRun). with_state y (shown_by c.see.new.self i.frames i.online i.totals.moved i.totals.failed)) c.self.view_is
+
+-- memory is asked for only where the touch is not refused
+pub returns-in_default-clause-memory : goal.returns-in_default-clause-memory
+returns-in_default-clause-memory g c p a known =
+    let s = c.args.self.now.state in
+    let none : get page_cmp s.place c.args.t.page ≡ None = outside _ _ _ _ c.self.view_is (λ z. get page_cmp z.place c.args.t.page ≡ None) (sym (c.page_frame.ensures ∙ ap (λ (m : Mapped). get page_cmp m.place c.args.t.page) c.areas.ensures.areas) ∙ c.in_default.is) in
+    subst (λ f. AsksLast c.fill.result (result_err f)) (sym (ap (joined s (access_site c.args.t p a)) none)) (c.fill.ensures.memory p a known)
+
+pub returns-in_err-see-clause-memory : goal.returns-in_err-see-clause-memory
+returns-in_err-see-clause-memory g c p a known =
+    let s = c.args.self.now.state in
+    let some : get page_cmp s.place c.args.t.page ≡ Some c.in-Some.frame = outside _ _ _ _ c.self.view_is (λ z. get page_cmp z.place c.args.t.page ≡ Some c.in-Some.frame) (sym (c.page_frame.ensures ∙ ap (λ (m : Mapped). get page_cmp m.place c.args.t.page) c.areas.ensures.areas) ∙ c.in-Some.is) in
+    may_ask c.from_residual.result _ (ap (λ o. result_err (joined s (access_site c.args.t p a) o)) some)

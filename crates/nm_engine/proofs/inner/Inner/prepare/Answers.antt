@@ -104,7 +104,7 @@ returns-clause-state g c =
     let shown = map (λ a. access_shown {A = g.row.A.Denot} a.now) accesses in
     let ends = drop_of_length-le accesses (omega (arith, c.loop-access-test.false)) in
     ap (λ xs. (all_before_copy c.loop-access.self.state keys (map (λ a. access_shown {A = g.row.A.Denot} a.now) xs)).state) (sym ends) ∙ c.loop-access.invariant.state
-    ∙ ap (λ (x : AllBeforeCopy). x.state) (all_early_alike keys (pages_of c.args.moves.now) c.in_ok-moving.ensures shown c.args.self.now.state)
+    ∙ ap (λ (x : AllBeforeCopy). x.state) (all_early_alike keys (pages_of c.args.moves.now) c.in_ok-moving.ensures.pages shown c.args.self.now.state)
 
 pub returns-clause-dues : goal.returns-clause-dues
 returns-clause-dues g c =
@@ -115,7 +115,7 @@ returns-clause-dues g c =
     let ends = drop_of_length-le accesses (omega (arith, c.loop-access-test.false)) in
     sym (append-nil told)
     ∙ ap (λ xs. told ++ (all_before_copy c.loop-access.self.state keys (map (λ a. access_shown {A = g.row.A.Denot} a.now) xs)).dues) (sym ends) ∙ c.loop-access.invariant.dues
-    ∙ ap (λ (x : AllBeforeCopy). x.dues) (all_early_alike keys (pages_of c.args.moves.now) c.in_ok-moving.ensures shown c.args.self.now.state)
+    ∙ ap (λ (x : AllBeforeCopy). x.dues) (all_early_alike keys (pages_of c.args.moves.now) c.in_ok-moving.ensures.pages shown c.args.self.now.state)
 
 pub returns-clause-room : goal.returns-clause-room
 returns-clause-room g c = c.loop-access.invariant.room

@@ -11,6 +11,9 @@ use Rattle.nm_engine.specs.views.MidRun.{with_state}
 use Rattle.nm_model.specs.definitions.Seen.{frame_seen}
 use Rattle.nm_engine.proofs.InFlight.PendingAccesses.{read_due, read_refused, read_held, read_goes}
 use Rattle.nm_engine.proofs.Undo.Touches.{touches_err}
+use Rattle.std.specs.Result.{result_err}
+use Rattle.nm_model.specs.definitions.Touch.{is_held}
+use Rattle.nm_areas.proofs.Counted.{err_always}
 use Rattle.nm_engine.proofs.inner.Inner.read_early.Goals as goal
 
 pub returns-in-Ok-Some-clause-due : goal.returns-in-Ok-Some-clause-due
@@ -73,3 +76,15 @@ returns-then-contains-clause-due g c =
     let there = c.in-Ok.ensures.ok in
     let held = ap (λ p. list_any (same_page p) c.args.moving.now.keys) there.3.page ∙ sym c.contains.ensures ∙ c.if-contains.true in
     sym (ap (λ (e : BeforeCopy). e.due) (read_held c.args.self.now.state c.args.moving.now.keys c.args.pid c.args.addr c.args.len _ there.2 held))
+
+pub returns-in_err-bytes-clause-asked : goal.returns-in_err-bytes-clause-asked
+returns-in_err-bytes-clause-asked g c =
+    let there = c.in-Ok.ensures.ok in
+    let free = ap (λ p. list_any (same_page p) c.args.moving.now.keys) there.3.page ∙ sym c.contains.ensures ∙ c.if-contains.false in
+    err_always c.from_residual.result (ap result_err there.2, ap (is_held c.args.moving.now.keys) there.2 ∙ free)
+
+pub returns-clause-asked : goal.returns-clause-asked
+returns-clause-asked g c =
+    let there = c.in-Ok.ensures.ok in
+    let free = ap (λ p. list_any (same_page p) c.args.moving.now.keys) there.3.page ∙ sym c.contains.ensures ∙ c.if-contains.false in
+    (ap result_err there.2, ap (is_held c.args.moving.now.keys) there.2 ∙ free)

@@ -1,5 +1,8 @@
 use Rattle.std.proofs.Common.{◌≡◌, ℕ, ◌∙◌, refl, sym, ap, subst, Some, None, IsSome, Bool, true, false}
 use Rattle.std.specs.Prelude.{Option, Ok, if◌then◌else◌}
+use Rattle.std.specs.Result.{result_err}
+use Rattle.std.proofs.lemmas.Bool.{false≢true}
+use Rattle.nm_types.proofs.Cases.{none_some}
 use Rattle.nm_types.specs.declared.page.Page.{Page}
 use Rattle.nm_types.specs.declared.sight.Sight.{Sight}
 use Rattle.nm_types.specs.State.{State, Process, Placed}
@@ -18,7 +21,7 @@ use Rattle.nm_laws.proofs.Seen.Frames.{none_sees, zero_sees}
 use Rattle.nm_spaces.specs.views.AddressSpaces.{AddressSpacesView, table_of, with_seen}
 use Rattle.nm_engine.specs.views.Shown.{paged_frames}
 use Rattle.nm_spaces.proofs.ProcessTable.Changes.{on_any}
-use Rattle.nm_engine.proofs.inner.HandedOn.{touch_handed_on, nothing_touched}
+use Rattle.nm_engine.proofs.inner.HandedOn.{may_ask, memory_handed_on, touch_handed_on, nothing_touched}
 use Rattle.nm_engine.proofs.inner.Inner.touch.Goals as goal
 
 -- what the process sees is what its entry says
@@ -242,3 +245,44 @@ returns-in_err-see_zero-in-None-clause-asked g c = on_any c.from_residual-in_err
 
 pub returns-in_err-join-in-None-clause-asked : goal.returns-in_err-join-in-None-clause-asked
 returns-in_err-join-in-None-clause-asked g c = on_any c.from_residual-in_err-join-in-None.result (none_sees (outside _ _ _ _ c.self.view_is (λ z. sight_at z c.args.t.pid c.args.t.vpn ≡ None) (sym c.sight.ensures ∙ c.in-None.is)))
+
+-- .. and only where the touch is not refused
+pub returns-in_err-fill-in-Some-ZeroPage-clause-memory : goal.returns-in_err-fill-in-Some-ZeroPage-clause-memory
+returns-in_err-fill-in-Some-ZeroPage-clause-memory g c p a known =
+    let s = c.args.self.now.state in
+    memory_handed_on c.fill.result c.from_residual.result _ c.in_err-fill-in-Some-ZeroPage.was c.from_residual.ensures
+    (ap result_err (zero_touched s c.args.t p a c.args.writes known (outside _ _ _ _ c.self.view_is (λ z. sight_at z c.args.t.pid c.args.t.vpn ≡ Some ZeroPage) (sym c.sight.ensures ∙ c.in-Some-ZeroPage.is ∙ ap Some c.in-Some-ZeroPage.field-0-is)) c.if-writes.true))
+    (c.fill.ensures.memory p a known)
+
+pub returns-in_err-join-in-None-clause-memory : goal.returns-in_err-join-in-None-clause-memory
+returns-in_err-join-in-None-clause-memory g c p a known =
+    let s = c.args.self.now.state in
+    memory_handed_on c.join.result c.from_residual-in_err-join-in-None.result _ c.in_err-join-in-None.was c.from_residual-in_err-join-in-None.ensures
+    (ap result_err (shared_touched s c.args.t p a c.args.writes known (outside _ _ _ _ c.self.view_is (λ z. sight_at z c.args.t.pid c.args.t.vpn ≡ None) (sym c.sight.ensures ∙ c.in-None.is)) (outside _ _ _ _ c.self.view_is (λ z. is_shared z.segments c.args.t.page.segment ≡ true) (sym (c.is_shared.ensures ∙ ap (λ (m : Mapped). is_shared m.segments c.args.t.page.segment) c.areas-in-None.ensures.areas) ∙ c.if-is_shared.true))))
+    (c.join.ensures.memory p a known)
+
+pub returns-in_err-fill-in-None-clause-memory : goal.returns-in_err-fill-in-None-clause-memory
+returns-in_err-fill-in-None-clause-memory g c p a known =
+    let s = c.args.self.now.state in
+    memory_handed_on c.fill-then-writes-2.result c.from_residual-in_err-fill-in-None.result _ c.in_err-fill-in-None.was c.from_residual-in_err-fill-in-None.ensures
+    (ap result_err (private_touched s c.args.t p a c.args.writes known (outside _ _ _ _ c.self.view_is (λ z. sight_at z c.args.t.pid c.args.t.vpn ≡ None) (sym c.sight.ensures ∙ c.in-None.is)) (outside _ _ _ _ c.self.view_is (λ z. is_shared z.segments c.args.t.page.segment ≡ false) (sym (c.is_shared.ensures ∙ ap (λ (m : Mapped). is_shared m.segments c.args.t.page.segment) c.areas-in-None.ensures.areas) ∙ c.if-is_shared.false)) c.if-writes-2.true))
+    (c.fill-then-writes-2.ensures.memory p a known)
+
+pub returns-in_err-see_zero-in-None-clause-memory : goal.returns-in_err-see_zero-in-None-clause-memory
+returns-in_err-see_zero-in-None-clause-memory g c p a known =
+    let s = c.args.self.now.state in
+    may_ask c.from_residual-in_err-see_zero-in-None.result _
+    (ap result_err (private_touched s c.args.t p a c.args.writes known (outside _ _ _ _ c.self.view_is (λ z. sight_at z c.args.t.pid c.args.t.vpn ≡ None) (sym c.sight.ensures ∙ c.in-None.is)) (outside _ _ _ _ c.self.view_is (λ z. is_shared z.segments c.args.t.page.segment ≡ false) (sym (c.is_shared.ensures ∙ ap (λ (m : Mapped). is_shared m.segments c.args.t.page.segment) c.areas-in-None.ensures.areas) ∙ c.if-is_shared.false)) c.if-writes-2.false))
+
+-- .. and not for a read of the page of zeros
+pub returns-in_err-fill-in-Some-ZeroPage-clause-zero : goal.returns-in_err-fill-in-Some-ZeroPage-clause-zero
+returns-in_err-fill-in-Some-ZeroPage-clause-zero g c = on_any c.from_residual.result (λ reads sees. absurd (false≢true (sym reads ∙ c.if-writes.true)))
+
+pub returns-in_err-fill-in-None-clause-zero : goal.returns-in_err-fill-in-None-clause-zero
+returns-in_err-fill-in-None-clause-zero g c = on_any c.from_residual-in_err-fill-in-None.result (λ reads sees. absurd (none_some (sym (outside _ _ _ _ c.self.view_is (λ z. sight_at z c.args.t.pid c.args.t.vpn ≡ None) (sym c.sight.ensures ∙ c.in-None.is)) ∙ sees)))
+
+pub returns-in_err-see_zero-in-None-clause-zero : goal.returns-in_err-see_zero-in-None-clause-zero
+returns-in_err-see_zero-in-None-clause-zero g c = on_any c.from_residual-in_err-see_zero-in-None.result (λ reads sees. absurd (none_some (sym (outside _ _ _ _ c.self.view_is (λ z. sight_at z c.args.t.pid c.args.t.vpn ≡ None) (sym c.sight.ensures ∙ c.in-None.is)) ∙ sees)))
+
+pub returns-in_err-join-in-None-clause-zero : goal.returns-in_err-join-in-None-clause-zero
+returns-in_err-join-in-None-clause-zero g c = on_any c.from_residual-in_err-join-in-None.result (λ reads sees. absurd (none_some (sym (outside _ _ _ _ c.self.view_is (λ z. sight_at z c.args.t.pid c.args.t.vpn ≡ None) (sym c.sight.ensures ∙ c.in-None.is)) ∙ sees)))

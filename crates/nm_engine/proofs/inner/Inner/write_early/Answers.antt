@@ -8,6 +8,8 @@ use Rattle.nm_engine.specs.views.MidRun.{with_state}
 use Rattle.nm_model.specs.definitions.Seen.{frame_seen}
 use Rattle.nm_engine.proofs.InFlight.PendingAccesses.{write_due}
 use Rattle.nm_engine.proofs.Undo.Touches.{touches_err}
+use Rattle.std.specs.Result.{result_err}
+use Rattle.nm_model.specs.definitions.Touch.{is_held}
 use Rattle.nm_engine.proofs.inner.Inner.write_early.Goals as goal
 
 some_frame : (o : Option ℕ) → IsSome o → (f : ℕ) × (o ≡ Some f)
@@ -30,3 +32,9 @@ pub returns-in-Err-HostMemory-clause-err : goal.returns-in-Err-HostMemory-clause
 returns-in-Err-HostMemory-clause-err g c =
     let there = c.in-Ok.ensures.ok in
     c.in-Err-HostMemory.ensures.same ∙ ap (λ (s : State). with_state c.args.self.now s) (touches_err c.in-Err-HostMemory.field-0 c.args.self.now.state c.touch_noted.new.self.state _ (c.in-Err-HostMemory.ensures.touches there.0 there.1 there.3))
+
+pub returns-in-Err-HostMemory-clause-asked : goal.returns-in-Err-HostMemory-clause-asked
+returns-in-Err-HostMemory-clause-asked g c =
+    let there = c.in-Ok.ensures.ok in
+    let free = ap (λ p. list_any (same_page p) c.args.moving.now.keys) there.3.page ∙ sym c.contains.ensures ∙ c.if-contains.false in
+    (ap result_err there.2, ap (is_held c.args.moving.now.keys) there.2 ∙ free)

@@ -1,17 +1,32 @@
-use Rattle.std.proofs.Common.{◌≡◌, ◌^◌, [], ap, sym, subst, ◌∙◌}
+use Rattle.std.proofs.Common.{◌≡◌, ◌<◌, ◌^◌, ℕ, [], length, ap, sym, subst, ◌∙◌, arith, ⊎_elim}
 use Rattle.std.specs.Ordering.{nat_cmp}
 use Rattle.nm_types.specs.Map.{without}
 use Rattle.nm_types.specs.State.{State}
+use Rattle.nm_areas.specs.Splits.{HasSplit}
+use Rattle.nm_model.proofs.areas.Apart.{covers_parts}
+use Rattle.nm_model.proofs.areas.Parted.{All-among, among_over}
 use Rattle.nm_model.specs.definitions.Seen.{sight_in, sight_at}
 use Rattle.nm_model.specs.definitions.Effect.{dropped}
-use Rattle.nm_model.specs.definitions.Sound.{IsSoundMidRun, IsSound}
+use Rattle.nm_model.specs.definitions.Sound.{IsSoundMidRun, IsSound, IsWhole}
 use Rattle.nm_spaces.specs.views.AddressSpaces.{AddressSpacesView}
 use Rattle.nm_engine.specs.views.Shown.{shown_by}
 use Rattle.nm_engine.specs.views.MidRun.{IsKept}
 use Rattle.nm_laws.proofs.Soundness.Dropped.{sees_none, exit_sound}
 use Rattle.nm_engine.proofs.Between.{shows, none_left, sound_between}
 use Rattle.nm_engine.proofs.MidRun.LostFrames.{sees_nothing}
+use Rattle.nm_engine.proofs.inner.HandedOn.{error_was}
 use Rattle.nm_engine.proofs.machine.Machine.exit.Goals as goal
+
+-- no area is split at the first page number, or at the last
+not_at_first : (s : State) (pid : ℕ) → HasSplit s.areas pid 0 → ⊥
+not_at_first s pid split = omega (arith, split.2)
+
+not_at_last : (s : State) (h : IsSound s) (pid : ℕ) → HasSplit s.areas pid (2 ^ 35) → ⊥
+not_at_last s h pid split =
+    let found = among_over s.areas pid (2 ^ 35) split.0 split.1 in
+    let whole = All-among (IsWhole s) s.areas split.0 h.areas found.0 in
+    let parts = covers_parts split.0 pid (2 ^ 35) found.1 in
+    omega (arith, whole.1, parts.2)
 
 pub remove_task-requires : goal.remove_task-requires
 remove_task-requires g c p there =
@@ -34,3 +49,11 @@ invariant_of-self-inside g c =
           (subst (λ t. IsSoundMidRun t []) (sym (ap out is)) (exit_sound s sound c.args.pid));
       as_many = c.self-inside-2.invariant.as_many;
     })
+
+-- so only pages with a frame take memory
+pub returns-in_err-let_go-clause-needed : goal.returns-in_err-let_go-clause-needed
+returns-in_err-let_go-clause-needed g c told =
+    let s = c.args.self.now in
+    let sound : IsSound s = subst IsSound (shows c.self-inside.view_is c.self.view_is) (sound_between c.self-inside.invariant (none_left c.self-inside.view_is c.self.invariant)) in
+    ⊎_elim (λ some. some) (λ split. ⊎_elim (λ first. absurd (not_at_first s c.args.pid first)) (λ last. absurd (not_at_last s sound c.args.pid last)) split)
+    (c.let_go.ensures.needed (error_was c.let_go.result c.from_residual.result _ _ c.in_err-let_go.was c.from_residual.ensures told))

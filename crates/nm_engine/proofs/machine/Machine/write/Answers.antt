@@ -1,9 +1,10 @@
 use Rattle.std.proofs.Common.{◌≡◌, ℕ, List, ◌/◌, ◌%◌, ◌∙◌, true, sym, ap, subst, length, Some, Ok}
 use Rattle.std.specs.Prelude.{slice_set}
+use Rattle.std.specs.Result.{result_err}
 use Rattle.nm_model.specs.definitions.Frames.{bytes_of, overwrite}
 use Rattle.nm_types.specs.State.{State}
 use Rattle.nm_memory.specs.views.Frames.{FramesView}
-use Rattle.nm_model.specs.definitions.Touch.{Answered, write, write_after, with_bytes}
+use Rattle.nm_model.specs.definitions.Touch.{Answered, touch, touched, write, write_after, with_bytes}
 use Rattle.nm_engine.specs.views.MidRun.{MidRun, IsKept}
 use Rattle.nm_engine.specs.views.Shown.{shown}
 use Rattle.nm_model.specs.definitions.Seen.{frame_seen}
@@ -14,7 +15,9 @@ use Rattle.nm_spaces.specs.views.AddressSpaces.{table_of}
 use Rattle.nm_engine.specs.views.Shown.{paged_frames, shown_by}
 use Rattle.nm_engine.proofs.Shown.BothParts.{kept_stocked}
 use Rattle.nm_engine.proofs.Shown.PopulatedFrames.{place_populated}
+use Rattle.nm_engine.specs.definitions.Does.{AsksLast}
 use Rattle.nm_engine.proofs.Between.{opened}
+use Rattle.nm_engine.proofs.inner.HandedOn.{memory_handed_on}
 use Rattle.nm_engine.proofs.machine.Machine.write.Goals as goal
 
 abbrev overwritten : FramesView → ℕ → List ℕ → ℕ → FramesView
@@ -61,3 +64,10 @@ returns-clause-answer g c =
           ∙ ap (λ (y : MidRun). with_bytes y.state (sight_at y.state c.args.pid (c.args.addr / 4096)) (c.args.addr % 4096) c.args.bytes.now) (opened c.self-inside.view_is)
           ∙ sym (ap (λ (z : Answered). z.state) done) ∙ ap (λ (z : State). (by z).state) c.self.view_is,
     )
+
+pub returns-in_err-frame-clause-memory : goal.returns-in_err-frame-clause-memory
+returns-in_err-frame-clause-memory g c =
+    let s = c.self.inside.inner.state in
+    let there = c.in_ok-resolved.ensures.ok in
+    subst (λ (z : State). AsksLast c.from_residual-in_err-frame.result (result_err (touch z c.args.pid c.args.addr (length c.args.bytes.now) true))) c.self.view_is
+    (memory_handed_on c.touch.result c.from_residual-in_err-frame.result _ c.in_err-frame.was c.from_residual-in_err-frame.ensures (ap (λ x. result_err (touched s true x)) there.2) (c.touch.ensures.memory there.0 there.1 there.3))
