@@ -1,11 +1,12 @@
 -- What reading to the end says about the reader.
-use Rattle.std.specs.Prelude.{◌≡◌, ◌⊎◌, ℕ, ◌<◌, ◌≤◌, Bool, true, Result, Ok, Err}
+use Rattle.std.specs.Prelude.{◌≡◌, ◌⊎◌, ℕ, ◌<◌, ◌≤◌, ◌+◌, Bool, true, Result, Ok, Err}
 use Rattle.nm_streams.specs.declared.stream_error.ReadError.{ReadError}
 use Rattle.nm_streams.specs.declared.stream_error.ReadError.TheVariants.{Fault, HostMemory}
 
--- the reader has failed, or gave more bytes than the limit
+-- the reader has failed before it gave more bytes than the limit, or gave more, but at most one buffer of 16,384 bytes more
 abbrev pub HasReadCause : ℕ → Bool → (ℕ → Type 0) → Type 0
-HasReadCause limit now gave = (now ≡ true) ⊎ ((n : ℕ) × (limit < n) × gave n)
+HasReadCause limit now gave =
+    ((now ≡ true) × ((n : ℕ) × (n ≤ limit) × gave n)) ⊎ ((n : ℕ) × (limit < n) × (n ≤ limit + 16384) × gave n)
 
 -- what a result says about the reader, given whether it had failed before and after, and how many bytes it gave in
 -- between: a fault has its cause; with any other result the reader has not failed anew; with its bytes it gave no more than

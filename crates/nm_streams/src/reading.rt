@@ -10,7 +10,8 @@ use std::alloc::Allocator;
 
 /// All bytes of a reader, if they are no more than the limit.
 ///
-/// `Fault` if the reader failed or gave more bytes, `HostMemory` if the host was out of memory for them.
+/// `Fault` if the reader failed or gave more bytes, of which it reads at most 16 KiB past the limit; `HostMemory` if the
+/// host was out of memory for them.
 pub fn read_all<A: Allocator, R: TellingReader>(
     alloc: A,
     reader: &mut R,

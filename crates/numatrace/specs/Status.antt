@@ -1,5 +1,5 @@
 -- Exit statuses.
-use Rattle.std.specs.Prelude.{◌≡◌, ◌≢◌, ◌⊎◌, ℕ, ◌<◌, Bool, true, List, [], length, take, codes, Option, Result, Ok, Err}
+use Rattle.std.specs.Prelude.{◌≡◌, ◌≢◌, ◌⊎◌, ℕ, ◌<◌, ◌≤◌, Bool, true, List, [], length, take, codes, Option, Result, Ok, Err}
 use Rattle.std.specs.declared.io.ErrorKind.{ErrorKind}
 use Rattle.std.specs.declared.io.ErrorKind.TheVariants.{OutOfMemory}
 use Rattle.nm_steps.specs.declared.trace_error.TraceError.{TraceError}
@@ -93,7 +93,10 @@ pub record Ends {R W E : Type 0} (remaining : R → Option (List ℕ)) (read_fai
   pub streams : status ≡ 4 → HasStreamCause (read_failed s) (gave r s) (write_failed v)
   -- after status 3
   pub asked : status ≡ 3 → ((n : ℕ) × (0 < n) × gave r s n) ⊎ ((s ≡ r) × (v ≡ w))
-  pub unfailed : status ≡ 3 → (read_failed s ≡ read_failed r) × (write_failed v ≡ write_failed w)
+  -- after any other status than 4
+  pub unfailed : (status ≡ 4 → ⊥) → (read_failed s ≡ read_failed r) × (write_failed v ≡ write_failed w)
+  -- after status 0 or 2
+  pub few : (status ≡ 0) ⊎ (status ≡ 2) → (n : ℕ) × (n ≤ trace_limit) × gave r s n
   -- after status 2
   pub bad : status ≡ 2 → Appends (contents w) (contents v) []
   -- after status 0

@@ -68,6 +68,24 @@ made_is s t line call is e = subst (λ (a : Result Call TraceError). t ≡ after
 pub kept_is : (s t : SessionState) (line : List ℕ) (fault : TraceError) → asked s line ≡ Err fault → t ≡ s → t ≡ after s (asked s line)
 kept_is s t line fault is e = subst (λ (a : Result Call TraceError). t ≡ after s a) (sym is) e
 
+-- a text that is written is not told as lack of memory
+pub no_memory : (old new : Option (List ℕ)) (failed fails : Bool) (text : List ℕ) (result : Result (Unit {0}) End) → Writes old new failed fails text result → result ≡ Err HostMemory → ⊥
+no_memory old new failed fails text result w is = subst (Writes old new failed fails text) is w
+
+-- and of faults only lack of memory is
+pub memory_told : (fault : TraceError) (old new : Option (List ℕ)) (failed fails : Bool) (result : Result (Unit {0}) End) → TellsFault fault old new failed fails result
+    → result ≡ Err HostMemory → (k : ℕ) × (fault ≡ trace.HostMemory k)
+memory_told (trace.HostMemory k) old new failed fails result w is = (k, refl)
+memory_told NotJson old new failed fails result w is = absurd (no_memory old new failed fails _ result w is)
+memory_told BadMachine old new failed fails result w is = absurd (no_memory old new failed fails _ result w is)
+memory_told (BadStep k) old new failed fails result w is = absurd (no_memory old new failed fails _ result w is)
+memory_told ReadFault old new failed fails result w is = absurd (no_memory old new failed fails _ result w is)
+memory_told WriteFault old new failed fails result w is = absurd (no_memory old new failed fails _ result w is)
+
+-- it has the step's number
+pub memory_of_step : (s t : SessionState) (line : List ℕ) (fault : TraceError) (k : ℕ) → Steps {V = Unit {0}} (λ _. []) s t line (Err fault) → fault ≡ trace.HostMemory k → fault ≡ trace.HostMemory s.steps
+memory_of_step s t line fault k h is = is ∙ ap trace.HostMemory (subst (λ (f : TraceError). Steps {V = Unit {0}} (λ _. []) s t line (Err f)) is h).0
+
 -- to what is no step; or memory is lacking
 pub fault_told : (s t : SessionState) (line : List ℕ) (fault : TraceError) (old new : Option (List ℕ)) (failed fails : Bool)
     (result : Result (Unit {0}) End) → Steps {V = Unit {0}} (λ _. []) s t line (Err fault) → TellsFault fault old new failed fails result

@@ -12,6 +12,7 @@ ghost use Rattle.std.specs.Io.{StopsAt};
 ghost use Rattle.std.specs.Io.BufRead.{take_through, DropsThrough};
 ghost use Rattle.std.specs.Io.KnownBytes.{Consumes, IsAtEnd, Keeps};
 ghost use Rattle.std.specs.Io.Buffered.{reader_buffer, reader_remaining, writer_buffer, writer_inner};
+ghost use Rattle.nm_steps.specs.Memory.{IsSomeText};
 ghost use Rattle.nm_steps.specs.declared.trace_error.TraceError.{TraceError};
 ghost use Rattle.numatrace_session.specs.Ends.{status_of, unopened, unread, Begins, IsTold};
 ghost use Rattle.numatrace_session.specs.Replies.{bad_step_reply, has_line, BeginsNone, EndsEarly, EndsFlushed, EndsTalk, EndsWithin, ReachesEnd, Refuses, Replies, RepliesToLines, Talks, TalksThrough, TellsFault, Writes};
@@ -122,8 +123,9 @@ fn reply<R: Threads + Wait + Sync, W: TellingWriter>(
     step: &[u8],
     out: &mut W,
 ) -> Result<(), End>
-    ensures { Replies session.old session.new step.now (W.contents out.old) (W.contents out.new)
+    ensures replies { Replies session.old session.new step.now (W.contents out.old) (W.contents out.new)
         (W.has_failed out.old) (W.has_failed out.new) result }
+    ensures asked { result ≡ Err End.HostMemory → IsSomeText step.now }
 {
     match session.step(rt, heap, step, &OpenGate) {
         Ok(lines) => put_both(out, lines.as_slice(), b"\n"),
@@ -262,7 +264,7 @@ fn talk_to_end<T: Threads + Wait + Sync, R: Read, W: FlushingWriter>(
         (W.contents out.old) (W.contents out.new) (W.has_failed out.old) (W.has_failed out.new)) }
 
     // In any case
-    ensures flushed { (result ≡ Err End.Stream) ⊎ W.is_flushed out.new }
+    ensures flushed { (W.has_failed out.new ≡ true) ⊎ W.is_flushed out.new }
 {
     let ended = talk(rt, heap, input, out);
     let Ok(()) = out.flush_telling() else {
@@ -301,7 +303,7 @@ fn serve<T: Threads + Wait + Sync, R: Read + Drop, W: FlushingWriter>(
         (W.contents out.old) (W.contents out.new) (W.has_failed out.old) (W.has_failed out.new)) }
 
     // In any case
-    ensures flushed { (result ≡ Err End.Stream)
+    ensures flushed { (W.has_failed out.new ≡ true)
         ⊎ (W.is_flushed out.new ⊎ ((result ≡ Err End.HostMemory) × (out.new ≡ out.old))) }
 {
     let Ok(mut input) = BufReader::new(heap, from) else {

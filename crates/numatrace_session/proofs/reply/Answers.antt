@@ -1,13 +1,21 @@
-use Rattle.std.proofs.Common.{◌∙◌}
-use Rattle.numatrace_session.proofs.Replied.{fault_told, lines_are, made_is, replied}
+use Rattle.std.proofs.Common.{Err, ap, ◌∙◌}
+use Rattle.numatrace_session.proofs.Replied.{fault_told, lines_are, made_is, memory_of_step, memory_told, no_memory, replied}
 use Rattle.numatrace_session.proofs.reply.Goals as goal
 
-pub returns-in-Ok : goal.returns-in-Ok
-returns-in-Ok g c =
+pub returns-in-Ok-clause-replies : goal.returns-in-Ok-clause-replies
+returns-in-Ok-clause-replies g c =
     let made = c.in-Ok.ensures.steps in
     let is = lines_are c.args.session.now c.args.step.now c.as_slice.result.now made.0 made.1 (c.as_slice.ensures.value ∙ made.2) in
     replied c.args.session.now c.step.new.self c.args.step.now _ _ _ _ _ c.put_both.result is (made_is _ _ c.args.step.now made.0 made.1 made.3) c.put_both.ensures
 
-pub returns-in-Err : goal.returns-in-Err
-returns-in-Err g c =
+pub returns-in-Err-clause-replies : goal.returns-in-Err-clause-replies
+returns-in-Err-clause-replies g c =
     fault_told _ _ c.args.step.now c.in-Err.fault _ _ _ _ c.put_fault.result c.in-Err.ensures.steps c.put_fault.ensures
+
+pub returns-in-Ok-clause-asked : goal.returns-in-Ok-clause-asked
+returns-in-Ok-clause-asked g c told = absurd (no_memory _ _ _ _ _ c.put_both.result c.put_both.ensures told)
+
+pub returns-in-Err-clause-asked : goal.returns-in-Err-clause-asked
+returns-in-Err-clause-asked g c told =
+    let memory = memory_told c.in-Err.fault _ _ _ _ c.put_fault.result c.put_fault.ensures told in
+    c.in-Err.ensures.asked (ap Err (memory_of_step _ _ c.args.step.now c.in-Err.fault memory.0 c.in-Err.ensures.steps memory.1))

@@ -18,12 +18,12 @@ pub loop-preserved : goal.loop-preserved
 loop-preserved g c =
     let is = c.as_slice.ensures.value in
     let s = c.loop.session in
-    let written = subst (λ (x : List ℕ). Appends (g.W.Write.contents c.loop.out) (g.W.Write.contents c.reply.new.out) (reply_of s (asked s x))) is c.in_ok-reply.ensures.0.0 in
-    let made = c.in_ok-reply.ensures.1 ∙ ap (λ (x : List ℕ). after s (asked s x)) is in
+    let written = subst (λ (x : List ℕ). Appends (g.W.Write.contents c.loop.out) (g.W.Write.contents c.reply.new.out) (reply_of s (asked s x))) is c.in_ok-reply.ensures.replies.0.0 in
+    let made = c.in_ok-reply.ensures.replies.1 ∙ ap (λ (x : List ℕ). after s (asked s x)) is in
     record {
       replied = one_more c.args.session.now s c.reply.new.session _ (reader_remaining g.R.Read.remaining c.loop.input) (reader_remaining g.R.Read.remaining c.next_line.new.input) _ _ _ (g.W.Write.contents c.flush_unless_asked.new.out)
           c.next_line.new.line.items c.loop.invariant.replied c.in_ok-next_line.ensures.line c.in_ok-next_line.ensures.rest written made c.in_ok-flush_unless_asked.ensures.kept (ltb-true 0 _ (sym c.in_ok-next_line.ensures.more ∙ c.if-not-branch.false));
-      told = c.in_ok-flush_unless_asked.ensures.told ∙ (c.in_ok-reply.ensures.0.1 ∙ c.loop.invariant.told);
+      told = c.in_ok-flush_unless_asked.ensures.told ∙ (c.in_ok-reply.ensures.replies.0.1 ∙ c.loop.invariant.told);
     }
 
 pub returns-in_err-next_line-clause-early : goal.returns-in_err-next_line-clause-early
@@ -40,7 +40,7 @@ returns-in_err-reply-clause-early g c =
     let line = c.next_line.new.line.items in
     let t = c.loop.session in
     let made = subst (λ (x : List ℕ). Replies t c.reply.new.session x (g.W.Write.contents c.loop.out) (g.W.Write.contents c.reply.new.out) (g.W.TellingWriter.has_failed c.loop.out) (g.W.TellingWriter.has_failed c.reply.new.out) (Err c.in_err-reply.field-0.0))
-    c.as_slice.ensures.value c.in_err-reply.ensures in
+    c.as_slice.ensures.value c.in_err-reply.ensures.replies in
     if_err (λ e. EndsEarly e c.args.session.now (reader_remaining g.R.Read.remaining c.args.input.now) (reader_remaining g.R.Read.remaining c.next_line.new.input) (g.W.Write.contents c.args.out.now) (g.W.Write.contents c.reply.new.out) (g.W.TellingWriter.has_failed c.args.out.now) (g.W.TellingWriter.has_failed c.reply.new.out))
     c.in_err-reply.field-0.0 c.from_residual-in_err-reply.result is
     (unreplied c.args.session.now t c.reply.new.session _ (reader_remaining g.R.Read.remaining c.loop.input) (reader_remaining g.R.Read.remaining c.next_line.new.input) _ (g.W.Write.contents c.loop.out) _ _ (g.W.TellingWriter.has_failed c.loop.out) _ line c.in_err-reply.field-0.0
@@ -51,8 +51,8 @@ returns-in_err-flush_unless_asked-clause-early g c =
     let is : c.from_residual-in_err-flush_unless_asked.result ≡ Err c.in_err-flush_unless_asked.field-0.0 = search rules in
     let line = c.as_slice.ensures.value in
     let s = c.loop.session in
-    let written = subst (λ (x : List ℕ). Appends (g.W.Write.contents c.loop.out) (g.W.Write.contents c.reply.new.out) (reply_of s (asked s x))) line c.in_ok-reply.ensures.0.0 in
-    let made = c.in_ok-reply.ensures.1 ∙ ap (λ (x : List ℕ). after s (asked s x)) line in
+    let written = subst (λ (x : List ℕ). Appends (g.W.Write.contents c.loop.out) (g.W.Write.contents c.reply.new.out) (reply_of s (asked s x))) line c.in_ok-reply.ensures.replies.0.0 in
+    let made = c.in_ok-reply.ensures.replies.1 ∙ ap (λ (x : List ℕ). after s (asked s x)) line in
     if_err (λ e. EndsEarly e c.args.session.now (reader_remaining g.R.Read.remaining c.args.input.now) (reader_remaining g.R.Read.remaining c.next_line.new.input) (g.W.Write.contents c.args.out.now) (g.W.Write.contents c.flush_unless_asked.new.out) (g.W.TellingWriter.has_failed c.args.out.now) (g.W.TellingWriter.has_failed c.flush_unless_asked.new.out))
     c.in_err-flush_unless_asked.field-0.0 c.from_residual-in_err-flush_unless_asked.result is
     (unflushed c.args.session.now c.reply.new.session _ (reader_remaining g.R.Read.remaining c.next_line.new.input) _ (g.W.Write.contents c.flush_unless_asked.new.out) _ _ c.in_err-flush_unless_asked.field-0.0

@@ -1,4 +1,4 @@
-use Rattle.std.proofs.Common.{rules, ◌≡◌, ℕ, ◌+◌, ◌≤◌, ◌<◌, [], length, refl, subst, ◌∙◌, arith}
+use Rattle.std.proofs.Common.{rules, ◌≡◌, ℕ, ◌+◌, ◌≤◌, ◌<◌, [], length, refl, ap, subst, ◌∙◌, arith, inl}
 use Rattle.nm_streams.proofs.Known.{consumes_nothing}
 use Rattle.nm_streams.proofs.reading.read_all.Goals as goal
 
@@ -8,6 +8,7 @@ loop-buffer-init g c =
     record {
       left = consumes_nothing (g.R.Read.remaining c.args.reader.now) c.new-bytes.result.items none;
       given = rw none (g.met.R.TellingReader.gave_none c.args.reader.now);
+      most = omega (arith, ap length none);
       failed = refl;
     }
 
@@ -41,5 +42,19 @@ returns-then-is_err-clause-told g c =
         so_far + c.in-Ok.count,
         some,
         g.met.R.TellingReader.gave_more c.args.reader.now c.loop-buffer.reader c.read_telling.new.self so_far c.in-Ok.count c.loop-buffer.invariant.given c.in-Ok.ensures.given,
+      ),
+    )
+
+-- a read that fails comes after no more bytes than the limit, and gives none
+pub returns-in-Err-clause-told : goal.returns-in-Err-clause-told
+returns-in-Err-clause-told g c =
+    let so_far = length c.loop-buffer.bytes.items in
+    let few : so_far + 0 ≤ c.args.limit = search rules in
+    inl (
+      c.in-Err.ensures.failed,
+      (
+        so_far + 0,
+        few,
+        g.met.R.TellingReader.gave_more c.args.reader.now c.loop-buffer.reader c.read_telling.new.self so_far 0 c.loop-buffer.invariant.given c.in-Err.ensures.given,
       ),
     )

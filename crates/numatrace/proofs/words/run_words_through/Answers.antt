@@ -9,7 +9,7 @@ use Rattle.numatrace.proofs.words.run_words_through.Goals as goal
 pub returns-in-Err : goal.returns-in-Err
 returns-in-Err g c =
     refused g.R.Read.remaining g.R.TellingReader.has_failed g.R.TellingReader.gave g.W.Write.contents g.W.TellingWriter.has_failed
-    (refusals_of (map string_bytes c.args.words.now)) c.refused_words.result c.args.reader.now c.args.out.now _ _ c.refused_words.ensures.either
+    (refusals_of (map string_bytes c.args.words.now)) c.refused_words.result c.args.reader.now c.args.out.now _ _ (g.met.R.TellingReader.gave_none c.args.reader.now) c.refused_words.ensures.either
     (refused_two c.in-Err.error _ c.refused_words.result (c.refused_words.ensures.status ∙ ap refused_status c.kind.ensures) c.in-Err.ensures.refused)
 
 pub returns-in-Err-run_trace : goal.returns-in-Err-run_trace
@@ -25,4 +25,4 @@ returns-in-Ok-run_trace g c =
     let none : refusals_of (map string_bytes c.args.words.now) ≡ [] = search rules in
     done g.R.Read.remaining g.R.TellingReader.has_failed g.R.TellingReader.gave g.W.Write.contents g.W.TellingWriter.has_failed
     (refusals_of (map string_bytes c.args.words.now)) 0 c.args.reader.now c.run_trace.new.reader c.args.out.now c.run_trace.new.writer c.args.err.now
-    _ refl none c.in-Ok-run_trace.ensures.runs
+    _ refl none c.in-Ok-run_trace.ensures.runs c.in-Ok-run_trace.ensures.reads c.in-Ok-run_trace.ensures.writes
