@@ -28,5 +28,5 @@ pub use nm_steps::{
     NewProcess, Question,
 };
 pub use nm_types::Access;
-pub use number_text::{ADDRESS_BYTES, write_address};
+pub use number_text::{ADDRESS_BYTES, address_bytes};
 pub use system::System;

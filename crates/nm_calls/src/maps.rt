@@ -214,6 +214,9 @@ fn push_tally<A: Allocator>(
     line.push_str(" kernelpagesize_kB=4")
 }
 
+/// Room for the text of an area. Most are shorter, and a longer one asks for more.
+const LINE_BYTES: usize = 64;
+
 /// An area as text.
 fn area_text<A: Allocator + Copy + Send + Sync>(
     alloc: A,
@@ -224,7 +227,7 @@ fn area_text<A: Allocator + Copy + Send + Sync>(
     requires { area.now.first + area.now.pages < 2 ^ 64 }
     ensures { IfOk result (λ line. string_bytes line ≡ area_text machine.now pid area.now) }
 {
-    let mut line = String::new(alloc);
+    let mut line = String::with_capacity(alloc, LINE_BYTES)?;
     push_address(&mut line, area.first)?;
     line.push_str(" ")?;
     push_policy(&mut line, area.policy)?;

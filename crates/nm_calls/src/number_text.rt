@@ -56,17 +56,14 @@ fn write_digits(number: u64, text: &mut [u8; ADDRESS_BYTES]) -> usize
 }
 
 /// The address at which a page begins, as at least eight hexadecimal digits, which are written at the end of `text`.
-pub fn write_address(vpn: Vpn, text: &mut [u8; ADDRESS_BYTES]) -> &str
+pub fn address_bytes(vpn: Vpn, text: &mut [u8; ADDRESS_BYTES]) -> &[u8]
     ensures { result.now ≡ address_text vpn }
 {
     *text = [b'0'; ADDRESS_BYTES];
     let start = write_digits(vpn.number(), text);
     let from = start.min(11);
     let all = &text[..];
-    let Ok(address) = from_utf8(&all[from..]) else {
-        unreachable!()
-    };
-    address
+    &all[from..]
 }
 
 /// Appends the address at which a page begins, in at least eight hexadecimal digits.
@@ -74,5 +71,8 @@ pub(crate) fn push_address<A: Allocator>(line: &mut String<A>, vpn: Vpn) -> Resu
     ensures { OnOk result (string_bytes line.new ≡ string_bytes line.old ++ address_text vpn) }
 {
     let mut text = [0; ADDRESS_BYTES];
-    line.push_str(write_address(vpn, &mut text))
+    let Ok(address) = from_utf8(address_bytes(vpn, &mut text)) else {
+        unreachable!()
+    };
+    line.push_str(address)
 }

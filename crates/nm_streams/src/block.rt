@@ -1,6 +1,6 @@
 //! Text that waits to be written.
 
-ghost use Rattle.std.specs.Prelude.{◌≡◌, ◌≤◌, ◌||◌, ◌++◌, [], length, false, if◌then◌else◌, OnOk, OnErr, is_err};
+ghost use Rattle.std.specs.Prelude.{◌≡◌, ◌≤◌, ◌||◌, ◌++◌, ◌∷◌, [], length, false, if◌then◌else◌, OnOk, OnErr, is_err};
 ghost use Rattle.std.specs.Io.KnownBytes.{Appends};
 ghost use Rattle.nm_streams.specs.Waiting.{BreaksOff, Puts, block_broken, block_room, block_waiting};
 
@@ -62,6 +62,15 @@ fn keep<A: Allocator>(waiting: &mut Vec<u8, A>, room: usize, text: &[u8]) -> boo
     text.len() <= left && waiting.extend_from_slice(text).is_ok()
 }
 
+/// Appends a byte to what waits, if one more may wait and the host has memory for it. Returns whether it did.
+fn keep_byte<A: Allocator>(waiting: &mut Vec<u8, A>, room: usize, byte: u8) -> bool
+    ensures kept { waiting.new.items
+        ≡ (if result then waiting.old.items ++ byte ∷ [] else waiting.old.items) }
+    ensures within { length waiting.old.items ≤ room → length waiting.new.items ≤ room }
+{
+    waiting.len() < room && waiting.push(byte).is_ok()
+}
+
 /// Text that waits until there is so much that it is written. What finds no room, or no memory on the host, is written
 /// at once. After a write that failed the block is broken, and takes no more.
 #[derive(Drop)]
@@ -110,6 +119,19 @@ impl<A: Allocator> Block<A> {
             return;
         }
         self.is_broken = write_through(writer, &mut self.waiting, text).is_err();
+    }
+
+    /// Appends a byte, which waits or is written.
+    pub fn push_byte<W: TellingWriter>(&mut self, writer: &mut W, byte: u8)
+        ensures { Puts W.contents W.has_failed writer.old self.old writer.new self.new (byte ∷ []) }
+    {
+        if self.is_broken {
+            return;
+        }
+        if keep_byte(&mut self.waiting, self.room, byte) {
+            return;
+        }
+        self.is_broken = write_through(writer, &mut self.waiting, &[byte]).is_err();
     }
 
     /// Appends a text, which waits or is written.

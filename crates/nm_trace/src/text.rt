@@ -18,7 +18,7 @@ ghost use Rattle.nm_memory.specs.views.Accesses.{answer_shown};
 
 use nm_calls::{
     ADDRESS_BYTES, Access, AccessAnswer, Answer, Call, InFlight, PagemapEntry, Totals,
-    write_address,
+    address_bytes,
 };
 use nm_streams::{Block, TellingWriter};
 use nm_types::{Errno, FrameId};
@@ -74,7 +74,7 @@ fn push_frames<W: TellingWriter, A: Allocator>(
 {
     let mut buffer = itoa::Buffer::new();
     for frame in frames {
-        block.push_str(writer, " ");
+        block.push_byte(writer, b' ');
         block.push_str(writer, buffer.format(frame.number()));
     }
 }
@@ -90,7 +90,7 @@ fn push_statuses<W: TellingWriter, A: Allocator>(
 {
     let mut buffer = itoa::Buffer::new();
     for status in statuses {
-        block.push_str(writer, " ");
+        block.push_byte(writer, b' ');
         block.push_str(writer, buffer.format(*status));
     }
 }
@@ -123,9 +123,9 @@ fn push_entry<W: TellingWriter, A: Allocator>(
         (codes " " ++ entry_text (entry.now.vpn, entry.now.frame)) }
 {
     let mut address = [0; ADDRESS_BYTES];
-    block.push_str(writer, " ");
-    block.push_str(writer, write_address(entry.vpn, &mut address));
-    block.push_str(writer, "=");
+    block.push_byte(writer, b' ');
+    block.push(writer, address_bytes(entry.vpn, &mut address));
+    block.push_byte(writer, b'=');
     push_frame(block, writer, entry.frame);
 }
 
@@ -150,7 +150,7 @@ fn push_count<W: TellingWriter, A: Allocator>(block: &mut Block<A>, writer: &mut
 {
     let mut buffer = itoa::Buffer::new();
     block.push_str(writer, buffer.format(count));
-    block.push_str(writer, ":");
+    block.push_byte(writer, b':');
 }
 
 /// Puts the two totals, each after its name.
@@ -175,7 +175,7 @@ fn push_lines<W: TellingWriter, A: Allocator>(
         (flat_map (λ line. 10 ∷ line) (lines_shown lines.now)) }
 {
     for line in lines {
-        block.push_str(writer, "\n");
+        block.push_byte(writer, b'\n');
         block.push_str(writer, line.as_str());
     }
 }
@@ -255,9 +255,9 @@ fn push_front<W: TellingWriter, A: Allocator + Copy + Send + Sync>(
 {
     let mut buffer = itoa::Buffer::new();
     block.push_str(writer, buffer.format(k));
-    block.push_str(writer, " ");
+    block.push_byte(writer, b' ');
     block.push_str(writer, word(call));
-    block.push_str(writer, " ");
+    block.push_byte(writer, b' ');
 }
 
 /// Puts the line of step k, whose call was not refused, and then those of an answer of several lines.
@@ -274,7 +274,7 @@ fn push_line<W: TellingWriter, A: Allocator + Copy + Send + Sync>(
 {
     push_front(block, writer, k, call);
     push_answer(block, writer, answer);
-    block.push_str(writer, "\n");
+    block.push_byte(writer, b'\n');
 }
 
 /// The word for an access.
@@ -322,11 +322,11 @@ fn push_access_front<W: TellingWriter, A: Allocator + Copy>(
 {
     let mut buffer = itoa::Buffer::new();
     block.push_str(writer, buffer.format(step));
-    block.push_str(writer, ".");
+    block.push_byte(writer, b'.');
     block.push_str(writer, buffer.format(j));
-    block.push_str(writer, " ");
+    block.push_byte(writer, b' ');
     block.push_str(writer, access_word(access));
-    block.push_str(writer, " ");
+    block.push_byte(writer, b' ');
 }
 
 /// Puts the line of access j of step k.
@@ -344,7 +344,7 @@ fn push_access<W: TellingWriter, A: Allocator + Copy>(
 {
     push_access_front(block, writer, k, j, access);
     push_access_answer(block, writer, answer);
-    block.push_str(writer, "\n");
+    block.push_byte(writer, b'\n');
 }
 
 /// Puts the lines of the accesses of step k, one after another, each with the answer at its place.
@@ -422,5 +422,5 @@ pub(crate) fn push_refusal<W: TellingWriter, A: Allocator + Copy + Send + Sync>(
     push_front(block, writer, k, call);
     block.push_str(writer, "error ");
     block.push_str(writer, errno.name());
-    block.push_str(writer, "\n");
+    block.push_byte(writer, b'\n');
 }

@@ -19,5 +19,5 @@ returns g c =
     ∙ ap (λ t. t ++ tally_text c.in_ok-tally.tally c.node_count.result) c.in_ok-push_policy.ensures
     ∙ ap (λ t. t ++ policy_text a.policy ++ tally_text c.in_ok-tally.tally c.node_count.result) c.in_ok-push_str.ensures.bytes
     ∙ ap (λ t. t ++ codes " " ++ policy_text a.policy ++ tally_text c.in_ok-tally.tally c.node_count.result) c.in_ok-push_address.ensures
-    ∙ ap (λ t. t ++ address_text a.first ++ codes " " ++ policy_text a.policy ++ tally_text c.in_ok-tally.tally c.node_count.result) c.new-line.ensures.bytes
+    ∙ ap (λ t. t ++ address_text a.first ++ codes " " ++ policy_text a.policy ++ tally_text c.in_ok-tally.tally c.node_count.result) c.in_ok-line.ensures.bytes
     ∙ ap (λ t. address_text a.first ++ codes " " ++ policy_text a.policy ++ t) told

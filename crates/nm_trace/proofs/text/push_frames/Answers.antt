@@ -10,4 +10,4 @@ pub loop-frame-preserved : goal.loop-frame-preserved
 loop-frame-preserved g c =
     let l = c.loop-frame in
     put_is (next_piece (λ n. 32 ∷ decimal n) c.args.frames.now l.frame-index _ _ c.loop-frame-test.true c.frame-item.is (ap (λ t. 32 ∷ t) (c.format.ensures.text ∙ ap decimal c.number.ensures)))
-    (put_more l.invariant (put_more c.push_str.ensures c.push_str-in-loop-frame.ensures))
+    (put_more l.invariant (put_more c.push_byte.ensures c.push_str.ensures))

@@ -4,4 +4,4 @@ use Rattle.nm_trace.proofs.text.push_line.Goals as goal
 
 pub returns : goal.returns
 unfolding line_of
-returns g c = put_more (put_more c.push_front.ensures c.push_answer.ensures) c.push_str.ensures
+returns g c = put_more (put_more c.push_front.ensures c.push_answer.ensures) c.push_byte.ensures

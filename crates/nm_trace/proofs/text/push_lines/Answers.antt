@@ -10,4 +10,4 @@ pub loop-line-preserved : goal.loop-line-preserved
 loop-line-preserved g c =
     let l = c.loop-line in
     put_is (next_shown (λ line. string_bytes line) (λ line. 10 ∷ line) c.args.lines.now l.line-index _ _ c.loop-line-test.true c.line-item.is (ap (λ t. 10 ∷ t) c.as_str.ensures.value))
-    (put_more l.invariant (put_more c.push_str.ensures c.push_str-in-loop-line.ensures))
+    (put_more l.invariant (put_more c.push_byte.ensures c.push_str.ensures))

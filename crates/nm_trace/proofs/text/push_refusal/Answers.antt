@@ -14,4 +14,4 @@ returns g c =
     let call = call_of c.args.call.now in
     let line = line_of c.args.k call (Refusal c.args.errno) in
     let whole = ap (λ t. line ++ t) (no_answer c.args.k 0 (accesses_asked call)) ∙ append-nil line in
-    put_is (sym whole) (put_more (put_more c.push_front.ensures (put_more c.push_str.ensures (put_is c.name.ensures c.push_str-2.ensures))) c.push_str-3.ensures)
+    put_is (sym whole) (put_more (put_more c.push_front.ensures (put_more c.push_str.ensures (put_is c.name.ensures c.push_str-2.ensures))) c.push_byte.ensures)

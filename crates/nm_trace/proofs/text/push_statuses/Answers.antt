@@ -12,4 +12,4 @@ loop-status-preserved g c =
     let l = c.loop-status in
     let same : c.format.result.now ≡ signed_decimal (get_or c.args.statuses.now l.status-index (pos 0)) = search rules in
     put_is (next_read (λ z. 32 ∷ signed_decimal z) c.args.statuses.now l.status-index _ _ c.loop-status-test.true (ap (λ t. 32 ∷ t) same))
-    (put_more l.invariant (put_more c.push_str.ensures c.push_str-in-loop-status.ensures))
+    (put_more l.invariant (put_more c.push_byte.ensures c.push_str.ensures))
