@@ -1,3 +1,4 @@
+pub mod Late
 pub mod Moves
 pub mod NamedNodes
 pub mod NoBytes

@@ -56,7 +56,7 @@ fn mbind<R: Threads + Wait + Sync, A: Allocator + Copy + Send + Sync, G: Gate + 
         (calls.Mbind request.now.caller request.now.addr request.now.len request.now.mode request.now.nodes request.now.flags) }
     ensures asked { (runs : ℕ) (policy_set : Bool) →
         result ≡ Err (HostMemory runs policy_set) →
-        0 < request.now.len }
+        MayAllocate system.old.state (calls.Mbind request.now.caller request.now.addr request.now.len request.now.mode request.now.nodes request.now.flags) }
 {
     system.mbind(rt, request, gate)?;
     Ok(Answer::Failed(0))

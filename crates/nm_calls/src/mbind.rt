@@ -1,10 +1,13 @@
 //! The policy of a range, as mbind(2) sets it: what is refused, and what is done in which order.
 
-ghost use Rattle.std.specs.Prelude.{◌≡◌, ◌+◌, ◌-◌, ◌^◌, ◌<◌, ◌≤◌, ◌&&◌, not, IfOk, None, length, true};
+ghost use Rattle.std.specs.Prelude.{Bool, Err, IfOk, None, OnErr, length, not, true, ℕ, ◌&&◌, ◌+◌, ◌-◌, ◌/◌, ◌<◌, ◌≡◌, ◌≤◌, ◌⊎◌, ◌^◌};
 ghost use Rattle.std.specs.List.{AllByRecursion, list_any};
 ghost use Rattle.nm_types.specs.Layout.{node_count};
+ghost use Rattle.nm_areas.specs.Splits.{HasSplit};
 ghost use Rattle.nm_runs.specs.Targets.{Checks};
+ghost use Rattle.nm_model.specs.definitions.Areas.{pages_of};
 ghost use Rattle.nm_model.specs.definitions.Effect.{policy_refusal, set_policy};
+ghost use Rattle.nm_calls.specs.declared.call_error.CallError.TheVariants.{HostMemory};
 ghost use Rattle.nm_calls.specs.definitions.Permission.{info_at};
 ghost use Rattle.nm_calls.specs.definitions.Permission.{usable};
 ghost use Rattle.nm_calls.specs.definitions.Mbind.{preferred, policy_of, policy_asked, is_misfit, is_bad_set, moves, is_stray, mode_refusal, range_of, range_refusal, home_of, is_strict, listed, mbind_runs, mbind_refusal, binding};
@@ -234,7 +237,7 @@ pub(crate) fn ready<A: Allocator + Copy + Send + Sync>(
     Ok((asked, binding))
 }
 
-/// The pages to move: none without a flag to move.
+/// The pages to move: none without a flag to move, and then it does not allocate.
 fn listed<A: Allocator + Copy + Send + Sync>(
     alloc: A,
     machine: &Machine<A>,
@@ -243,6 +246,7 @@ fn listed<A: Allocator + Copy + Send + Sync>(
 ) -> Result<Vec<Located, A>, AllocError>
     ensures list { IfOk result (λ pages. pages.items ≡ listed machine.now binding.now flags) }
     ensures few { IfOk result (λ pages. length pages.items ≤ binding.now.end - binding.now.first) }
+    ensures asked { OnErr result (moves flags ≡ true) }
 {
     if wants_moves(flags) {
         return astray(alloc, machine, *binding);
@@ -265,7 +269,7 @@ fn is_late<A: Allocator + Copy + Send + Sync>(
 /// Sets a policy and, if the flags ask for it, moves the pages of its range that are not where it wants them. The list
 /// of pages and their moves are prepared before the policy is set, so that memory for them cannot be refused after it.
 /// EIO if MPOL_MF_STRICT and a flag to move are given, and a page is not where the policy wants it after the moves,
-/// which remain.
+/// which remain. Allocates only if the flags ask for moves, or an area is split.
 pub(crate) fn bind<R: Threads + Wait + Sync, A: Allocator + Copy + Send + Sync, G: Gate + Sync>(
     crew: &Crew<R, G>,
     alloc: A,
@@ -281,8 +285,14 @@ pub(crate) fn bind<R: Threads + Wait + Sync, A: Allocator + Copy + Send + Sync, 
         (nodes_named binding.now.policy) }
     requires home { asked.home ≡ home_of (info_at machine.old binding.now.pid) }
     requires few { binding.now.end - binding.now.first ≤ 2 ^ 52 }
-    ensures { Binds result machine.old (set_policy machine.old binding.now.pid request.now.addr request.now.len binding.now.policy) machine.new binding.now
+    ensures bound { Binds result machine.old (set_policy machine.old binding.now.pid request.now.addr request.now.len binding.now.policy) machine.new binding.now
         (mbind_runs limit (set_policy machine.old binding.now.pid request.now.addr request.now.len binding.now.policy) binding.now asked.flags) asked.flags }
+    ensures asked { (runs : ℕ) (policy_set : Bool) →
+        result ≡ Err (HostMemory runs policy_set) →
+        (moves asked.flags ≡ true)
+        ⊎ HasSplit machine.old.areas binding.now.pid (request.now.addr / 4096)
+        ⊎ HasSplit machine.old.areas binding.now.pid
+        (request.now.addr / 4096 + pages_of request.now.len) }
 {
     let Asked { home, flags, .. } = asked;
     let all = flags.moves_all();

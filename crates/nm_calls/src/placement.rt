@@ -1,6 +1,6 @@
 //! How pages move to where a policy wants them: in passes over nodes, or each to the node whose turn it is.
 
-ghost use Rattle.std.specs.Prelude.{◌≡◌, ℕ, ◌+◌, ◌-◌, ◌^◌, ◌<◌, ◌≤◌, IfOk, length, true};
+ghost use Rattle.std.specs.Prelude.{◌≡◌, ℕ, ◌+◌, ◌-◌, ◌^◌, ◌<◌, ◌≤◌, IfOk, OnErr, length, true};
 ghost use Rattle.std.specs.List.{AllByRecursion, filter};
 ghost use Rattle.nm_types.specs.Layout.{node_count};
 ghost use Rattle.nm_types.specs.Nodes.{is_in};
@@ -159,7 +159,7 @@ fn nodes_tried<A: Allocator + Copy + Send + Sync>(
     }
 }
 
-/// How pages move to where a policy wants them.
+/// How pages move to where a policy wants them. An error means that the host is out of memory; no pages take none.
 pub(crate) fn way_of<A: Allocator + Copy + Send + Sync>(
     alloc: A,
     machine: &Machine<A>,
@@ -176,7 +176,13 @@ pub(crate) fn way_of<A: Allocator + Copy + Send + Sync>(
     ensures runs { IfOk result (λ way. (limit : ℕ) (m : Mapped) → runs_in limit (with_areas_of machine.now m) way
         ≡ runs_by limit (with_areas_of machine.now m) binding.now.policy home binding.now.pid all pages.now) }
     ensures can_go { IfOk result (CanGo (node_count (machine.now.layout))) }
+
+    // Without memory
+    ensures asked { OnErr result (0 < length pages.now) }
 {
+    if pages.is_empty() {
+        return Ok(Placement::Turns(Vec::new(alloc)));
+    }
     let pid = binding.pid;
     if let Policy::Interleave(nodes) = binding.policy {
         return Ok(Placement::Turns(turns(alloc, pid, all, nodes, pages)?));

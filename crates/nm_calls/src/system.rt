@@ -19,6 +19,7 @@ ghost use Rattle.nm_steps.specs.Calls.{Spawn, MapPages, Attach, Unmap, Exit, Pin
 ghost use Rattle.nm_calls.specs.definitions.Answers.{Done, NewSegment, TheBytes, Statuses, Failed, Frames, Entries, TheTotals, Lines};
 ghost use Rattle.nm_calls.specs.definitions.Entries.{entries_mapped, entries_shown};
 ghost use Rattle.nm_calls.specs.definitions.Maps.{lines_shown};
+ghost use Rattle.nm_calls.specs.definitions.Memory.{MayAllocate};
 ghost use Rattle.nm_calls.specs.definitions.Systems.{new_system, system_with};
 ghost use Rattle.nm_calls.specs.definitions.Outcome.{outcome};
 ghost use Rattle.nm_calls.specs.definitions.Does.{Does, DoesOrRefuses};
@@ -63,7 +64,7 @@ fn mapped_of<A: Allocator + Copy>(
             Entry::Frame(frame) => Some(*frame),
             Entry::Held(frame) => Some(*frame),
         };
-        mapped.push(PagemapEntry { vpn: *vpn, frame })?;
+        mapped.push_reserved(PagemapEntry { vpn: *vpn, frame });
     }
     Ok(mapped)
 }
@@ -376,7 +377,7 @@ impl<A: Allocator + Copy + Send + Sync> System<A> {
     /// to move, and a page that the caller sees in the range is not where the policy wants it). Each changes nothing.
     /// With MPOL_MF_STRICT and a flag to move, EIO is also returned if a listed page is not where the policy wants it
     /// after the moves: policy and moves remain. After `HostMemory { runs, policy_set }` the first `runs` runs remain,
-    /// and the policy is set if `policy_set` says so.
+    /// and the policy is set if `policy_set` says so. Allocates only if a flag to move is given, or an area is split.
     pub fn mbind<R: Threads + Wait + Sync, G: Gate + Sync>(
         &mut self,
         rt: &R,
@@ -387,7 +388,7 @@ impl<A: Allocator + Copy + Send + Sync> System<A> {
             (Mbind request.now.caller request.now.addr request.now.len request.now.mode request.now.nodes request.now.flags) }
         ensures asked { (runs : ℕ) (policy_set : Bool) →
             result ≡ Err (HostMemory runs policy_set) →
-            0 < request.now.len }
+            MayAllocate self.old.state (Mbind request.now.caller request.now.addr request.now.len request.now.mode request.now.nodes request.now.flags) }
     {
         let (asked, binding) = ready(&self.machine, request)?;
         if request.len == 0 {

@@ -1,5 +1,5 @@
--- A policy for no bytes: no page strays, no run is made, and nothing changes.
-use Rattle.std.proofs.Common.{◌≡◌, ℕ, ◌≤◌, Bool, true, false, ◌&&◌, List, [], ◌∷◌, None, refl, sym, ap, subst, ◌∙◌, arith, Result, Ok, if◌then◌else◌}
+-- A policy for no bytes, or without pages to move: no page strays, and no run is made.
+use Rattle.std.proofs.Common.{◌≡◌, ℕ, ◌<◌, ◌≤◌, length, Bool, true, false, ◌&&◌, List, [], ◌∷◌, None, refl, sym, ap, subst, ◌∙◌, arith, Result, Ok, if◌then◌else◌}
 use Rattle.std.specs.Prelude.{nat_le, nat_lt, not}
 use Rattle.std.specs.List.{filter, flat_map, list_any}
 use Rattle.std.proofs.lemmas.Bool.{leb-true, ltb-true, and_parts, false_from_ne_true}
@@ -8,19 +8,22 @@ use Rattle.nm_types.specs.declared.area.Policy.TheVariants.{Default, Preferred, 
 use Rattle.nm_types.specs.Map.{Map, same_page}
 use Rattle.nm_types.specs.State.{State}
 use Rattle.nm_policy.specs.Turns.{sent_to}
-use Rattle.nm_model.specs.definitions.Cut.{cut_within}
+use Rattle.nm_model.specs.definitions.Cut.{Stretch, cut_within}
 use Rattle.nm_model.specs.definitions.Order.{follows}
 use Rattle.nm_model.specs.definitions.Run.{runs_from}
 use Rattle.nm_model.specs.definitions.Seen.{between, located_in, sights}
 use Rattle.nm_calls.specs.declared.call_error.CallError.{CallError}
+use Rattle.nm_calls.specs.declared.call_error.CallError.TheVariants.{Refused, HostMemory}
 use Rattle.nm_calls.specs.declared.mbind.Binding.{Binding}
 use Rattle.nm_steps.specs.Calls.{Mbind}
 use Rattle.nm_calls.specs.definitions.Answers.{Failed}
 use Rattle.nm_calls.specs.definitions.Outcome.{outcome}
-use Rattle.nm_calls.specs.definitions.Mbind.{binding, each_to, has_stray, home_of, is_stray, mbind_refusal, mbind_runs, moves, nodes_tried, runs_by, stray_pages, tells_late}
+use Rattle.nm_calls.specs.definitions.Mbind.{binding, each_to, has_stray, home_of, is_stray, listed, mbind_refusal, mbind_runs, moves, nodes_tried, runs_by, stray_pages, tells_late}
 use Rattle.nm_calls.specs.definitions.Migrate.{once}
 use Rattle.nm_calls.specs.definitions.Permission.{info_at, moves_all}
 use Rattle.nm_calls.specs.definitions.Systems.{SystemState}
+use Rattle.nm_calls.specs.views.Runs.{Stops}
+use Rattle.nm_types.specs.declared.located.Located.{Located}
 use Rattle.nm_calls.proofs.Policies.Results.{binds_does}
 use Rattle.nm_calls.proofs.NodesOffline.Passes.{passes_none}
 
@@ -40,7 +43,8 @@ no_turns : (nodes : List ℕ) → flat_map (sent_to []) nodes ≡ []
 no_turns [] = refl
 no_turns (n ∷ nodes) = no_turns nodes
 
-no_moves : (limit : ℕ) (s : State) (policy : Policy) (home pid : ℕ) (all : Bool) → runs_by limit s policy home pid all [] ≡ []
+-- no pages make no run
+pub no_moves : (limit : ℕ) (s : State) (policy : Policy) (home pid : ℕ) (all : Bool) → runs_by limit s policy home pid all [] ≡ []
 no_moves limit s Default home pid all = passes_none limit s (nodes_tried s home Default)
 no_moves limit s (Preferred node) home pid all = passes_none limit s (nodes_tried s home (Preferred node))
 no_moves limit s (Bind nodes) home pid all = passes_none limit s (nodes_tried s home (Bind nodes))
@@ -58,6 +62,23 @@ no_runs limit s b flags few =
 and_false : (b : Bool) → (b && false) ≡ false
 and_false true = refl
 and_false false = refl
+
+-- where a page is listed, the flags ask for moves
+pub listed_moves : (s : State) (b : Binding) (flags : ℕ) → 0 < length (listed s b flags) → moves flags ≡ true
+listed_moves s b flags some = elim (moves flags) as (λ m. 0 < length (if m then stray_pages s b else []) → m ≡ true) [
+  | true ↦ λ h. refl
+  | false ↦ λ h. absurd (omega (arith, h))
+] some
+
+-- where a run is made, there are pages
+pub runs_some : (limit : ℕ) (s : State) (policy : Policy) (home pid : ℕ) (all : Bool) (pages : List Located) → 0 < length (runs_by limit s policy home pid all pages) → 0 < length pages
+runs_some limit s policy home pid all [] some = absurd (omega (arith, some, ap (λ (rs : List Stretch). length rs) (no_moves limit s policy home pid all)))
+runs_some limit s policy home pid all (page ∷ pages) some = omega arith
+
+-- and where the host runs out of memory for a run, one is made
+pub stops_some : (set : Bool) (e : CallError) (old new : State) (runs : List Stretch) → Stops set e old new runs → 0 < length runs
+stops_some set (Refused e) old new runs h = absurd h
+stops_some set (HostMemory k policy_set) old new runs h = omega (arith, h.1)
 
 module _ (y : SystemState) (caller addr mode : ℕ) (nodes : List ℕ) (flags : ℕ) where
   bound_none : mbind_refusal y.state caller addr 0 mode nodes flags ≡ None → outcome y (Mbind caller addr 0 mode nodes flags) ≡ record { answer = Failed 0; system = y }

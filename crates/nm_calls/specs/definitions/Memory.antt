@@ -8,12 +8,15 @@ use Rattle.nm_types.specs.State.{State, free_list}
 use Rattle.nm_areas.specs.Lines.{lines_of}
 use Rattle.nm_areas.specs.Splits.{HasSplit}
 use Rattle.nm_model.specs.definitions.AreaRefusal.{overlaps}
+use Rattle.nm_model.specs.definitions.Areas.{pages_of}
 use Rattle.nm_model.specs.definitions.PageTables.{entries_of}
 use Rattle.nm_model.specs.definitions.Seen.{sight_at}
+use Rattle.nm_calls.specs.definitions.Mbind.{moves}
 use Rattle.nm_steps.specs.Calls.{Call, Unmap, Exit, Pin, Unpin, WriteBytes, MovePages, Query, FreeList, Pagemap, Vmstat, NumaMaps, Mbind, Offline, Online}
 
 -- what has to hold where a call asks for memory: there is something to unmap (an area, and a page that has a frame or an
--- area that is split), to move, to set or to list, or it writes to a page that the process does not see yet
+-- area that is split), to move or to list, it sets the policy of some bytes and moves pages or splits an area, or it
+-- writes to a page that the process does not see yet
 abbrev pub MayAllocate : State → Call → Type 0
 MayAllocate s (Unmap pid addr pages) =
     (list_any (overlaps pid (addr / 4096) (addr / 4096 + pages)) s.areas ≡ true)
@@ -24,7 +27,8 @@ MayAllocate s (Unpin pid addr) = ⊥
 MayAllocate s (WriteBytes pid addr bytes) = (page : Page) → sight_at s pid (addr / 4096) ≡ Some (Sees page) → ⊥
 MayAllocate s (MovePages caller pid pages nodes flags during) = 0 < length pages + length during
 MayAllocate s (Query caller pid pages flags) = 0 < length pages
-MayAllocate s (Mbind caller addr len mode nodes flags) = 0 < len
+MayAllocate s (Mbind caller addr len mode nodes flags) =
+    (0 < len) × ((moves flags ≡ true) ⊎ (HasSplit s.areas caller (addr / 4096) ⊎ HasSplit s.areas caller (addr / 4096 + pages_of len)))
 MayAllocate s (Offline node) = is_in s.online node ≡ true
 MayAllocate s (Online node) = ⊥
 MayAllocate s (FreeList node) = 0 < length (free_list s node)

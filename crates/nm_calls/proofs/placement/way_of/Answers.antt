@@ -1,16 +1,31 @@
-use Rattle.std.proofs.Common.{◌<◌, ap, sym, subst, ◌∙◌, arith, length}
+use Rattle.std.proofs.Common.{◌≡◌, ◌<◌, [], ap, sym, subst, ◌∙◌, arith, length}
+use Rattle.std.proofs.lemmas.Bool.{eqb-true}
+use Rattle.std.proofs.lemmas.List.{nil_from_length}
 use Rattle.std.specs.List.{AllByRecursion}
 use Rattle.std.proofs.lemmas.List.Elements.{All-from_recursion}
 use Rattle.nm_types.specs.Layout.{node_count}
-use Rattle.nm_model.specs.definitions.Cut.{wanted_of}
+use Rattle.nm_model.specs.definitions.Cut.{cut_within, wanted_of}
 use Rattle.nm_policy.specs.Turns.{by_turns}
 use Rattle.nm_model.specs.definitions.Effect.{with_areas_of}
 use Rattle.nm_model.specs.definitions.Run.{HasOneAll}
 use Rattle.nm_calls.specs.definitions.Passes.{passes}
-use Rattle.nm_calls.specs.definitions.Mbind.{nodes_tried, strays_of}
+use Rattle.nm_calls.specs.definitions.Mbind.{nodes_tried, runs_by, strays_of}
 use Rattle.nm_calls.specs.views.Runs.{nodes_named}
 use Rattle.nm_calls.proofs.Policies.Moves.{turns_go, turns_alike, tried_all, spots_alike, spots_length, passes_by}
+use Rattle.nm_calls.proofs.Policies.NoBytes.{no_moves}
 use Rattle.nm_calls.proofs.placement.way_of.Goals as goal
+
+pub returns-then-is_empty : goal.returns-then-is_empty
+returns-then-is_empty g c =
+    let s = c.args.machine.now in
+    let b = c.args.binding.now in
+    let none : c.args.pages.now ≡ [] = nil_from_length _ (eqb-true _ 0 (sym c.is_empty.ensures ∙ c.if-is_empty.true)) in
+    let empty : c.new.result.items ≡ [] = c.new.ensures.items in
+    record {
+      runs = λ limit m. ap (cut_within limit) empty ∙ sym (ap (runs_by limit (with_areas_of s m) b.policy c.args.home b.pid c.args.all) none ∙ no_moves limit (with_areas_of s m) b.policy c.args.home b.pid c.args.all);
+      can_go = (subst (AllByRecursion (λ e. e.target < node_count s.layout)) (sym empty) tt, subst (λ es. HasOneAll (wanted_of es)) (sym empty) (turns_alike b.pid c.args.all []));
+      asked = tt;
+    }
 
 pub returns-in-Interleave-clause-can_go : goal.returns-in-Interleave-clause-can_go
 returns-in-Interleave-clause-can_go g c =
@@ -39,4 +54,5 @@ returns g c =
         subst HasOneAll (sym wanted) (spots_alike b.pid c.args.all c.args.pages.now),
         omega (arith, few, c.requires.few),
       );
+      asked = tt;
     }

@@ -1,10 +1,13 @@
-use Rattle.std.proofs.Common.{◌≡◌, ℕ, Some, subst}
+use Rattle.std.proofs.Common.{◌≡◌, ◌<◌, ◌+◌, ◌/◌, ◌⊎◌, ℕ, true, Some, ap, subst, arith}
 use Rattle.nm_model.specs.definitions.Effect.{set_policy}
 use Rattle.nm_calls.specs.declared.mbind.Binding.{Binding}
 use Rattle.nm_steps.specs.Calls.{Mbind}
 use Rattle.nm_calls.specs.definitions.Answers.{Failed}
 use Rattle.nm_calls.specs.definitions.Systems.{SystemState, in_state}
-use Rattle.nm_calls.specs.definitions.Mbind.{mbind_runs}
+use Rattle.nm_areas.specs.Splits.{HasSplit}
+use Rattle.nm_model.specs.definitions.Areas.{pages_of}
+use Rattle.nm_calls.specs.definitions.Mbind.{mbind_runs, moves}
+use Rattle.nm_calls.specs.definitions.Memory.{MayAllocate}
 use Rattle.nm_calls.specs.definitions.Does.{Does}
 use Rattle.nm_calls.specs.views.Runs.{Binds}
 use Rattle.nm_calls.specs.definitions.Mbind.{mbind_refusal}
@@ -22,7 +25,7 @@ returns-clause-done g c =
     let y : SystemState = record { state = s; run_limit = limit } in
     let call = Mbind x.caller x.addr x.len x.mode x.nodes x.flags in
     let bound = subst (λ (f : ℕ). Binds c.bind.result s (set_policy s c.in_ok-asked.binding.pid x.addr x.len c.in_ok-asked.binding.policy) new c.in_ok-asked.binding
-    (mbind_runs limit (set_policy s c.in_ok-asked.binding.pid x.addr x.len c.in_ok-asked.binding.policy) c.in_ok-asked.binding f) f) c.in_ok-asked.ensures.flags c.bind.ensures in
+    (mbind_runs limit (set_policy s c.in_ok-asked.binding.pid x.addr x.len c.in_ok-asked.binding.policy) c.in_ok-asked.binding f) f) c.in_ok-asked.ensures.flags c.bind.ensures.bound in
     let asked = subst (λ (b : Binding). Binds c.bind.result s (set_policy s b.pid x.addr x.len b.policy) new b (mbind_runs limit (set_policy s b.pid x.addr x.len b.policy) b x.flags) x.flags)
     c.in_ok-asked.ensures.binding bound in
     subst (λ (z : SystemState). Does (λ done. Failed 0) c.bind.result z (in_state y new) call) c.self.view_is
@@ -37,3 +40,14 @@ returns-then-request-eq0-clause-done g c =
     let y : SystemState = record { state = c.self.inside.machine; run_limit = c.self.inside.run_limit } in
     subst (λ (z : SystemState). outcome z (Mbind x.caller x.addr x.len x.mode x.nodes x.flags) ≡ record { answer = Failed 0; system = z }) c.self.view_is
     (nothing_bound y x.caller x.addr x.mode x.nodes x.flags x.len c.if-request-eq0.true c.in_ok-asked.ensures.exact)
+
+pub returns-clause-asked : goal.returns-clause-asked
+returns-clause-asked g c = λ runs policy_set is.
+    let x = c.args.request.now in
+    let s = c.self.inside.machine in
+    let b = c.in_ok-asked.binding in
+    let pid : b.pid ≡ x.caller = ap (λ (d : Binding). d.pid) c.in_ok-asked.ensures.binding in
+    let some : 0 < x.len = omega (arith, c.if-request-eq0.false) in
+    let moved = subst (λ (f : ℕ). (moves f ≡ true) ⊎ (HasSplit s.areas b.pid (x.addr / 4096) ⊎ HasSplit s.areas b.pid (x.addr / 4096 + pages_of x.len))) c.in_ok-asked.ensures.flags (c.bind.ensures.asked runs policy_set is) in
+    let needed = subst (λ (p : ℕ). (moves x.flags ≡ true) ⊎ (HasSplit s.areas p (x.addr / 4096) ⊎ HasSplit s.areas p (x.addr / 4096 + pages_of x.len))) pid moved in
+    subst (λ (z : SystemState). MayAllocate z.state (Mbind x.caller x.addr x.len x.mode x.nodes x.flags)) c.self.view_is (some, needed)

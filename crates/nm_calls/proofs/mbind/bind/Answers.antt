@@ -1,0 +1,86 @@
+use Rattle.std.proofs.Common.{◌<◌, ◌&&◌, List, [], length, true, inl, ap, subst, refl, sym, ◌∙◌}
+use Rattle.std.specs.List.{list_any}
+use Rattle.nm_types.specs.State.{State}
+use Rattle.nm_model.specs.definitions.Areas.{with_policy}
+use Rattle.nm_model.specs.definitions.Cut.{Stretch}
+use Rattle.nm_model.specs.definitions.Effect.{areas_of, set_policy, with_areas_of}
+use Rattle.nm_model.specs.definitions.Run.{runs_from}
+use Rattle.nm_calls.specs.definitions.Mbind.{home_of, is_stray, is_strict, mbind_runs, runs_by}
+use Rattle.nm_calls.specs.definitions.Permission.{info_at, moves_all}
+use Rattle.nm_calls.specs.views.Runs.{runs_in, Stops}
+use Rattle.nm_calls.proofs.Policies.Late.{flag_is, late_is, stops_fail}
+use Rattle.nm_calls.proofs.Policies.NoBytes.{listed_moves, runs_some, stops_some}
+use Rattle.nm_calls.proofs.mbind.bind.Goals as goal
+
+pub returns-in-Err-clause-asked : goal.returns-in-Err-clause-asked
+returns-in-Err-clause-asked g c = λ runs policy_set is.
+    let s = c.args.machine.now in
+    let b = c.args.binding.now in
+    let x = c.args.request.now in
+    let limit = c.args.limit in
+    let way = c.in_ok-way.way in
+    let made : 0 < length (runs_in limit c.set_policy.new.self way) = stops_some true c.in-Err.error _ _ _ c.in-Err.ensures in
+    let m = with_policy (areas_of s) b.pid x.addr x.len b.policy in
+    let by = ap (λ (t : State). length (runs_in limit t way)) c.in_ok-set_policy.ensures.done.1
+    ∙ ap length (c.in_ok-way.ensures.runs limit m) in
+    let some = runs_some limit (with_areas_of s m) b.policy c.args.asked.home b.pid c.moves_all-all.result c.as_slice.result.now (subst (λ n. 0 < n) by made) in
+    inl (listed_moves s b c.args.asked.flags (subst (λ ps. 0 < length ps) (c.as_slice.ensures.value ∙ c.in_ok-pages.ensures.list) some))
+
+pub returns-in-Err-clause-bound : goal.returns-in-Err-clause-bound
+returns-in-Err-clause-bound g c =
+    let s = c.args.machine.now in
+    let b = c.args.binding.now in
+    let x = c.args.request.now in
+    let flags = c.args.asked.flags in
+    let limit = c.args.limit in
+    let way = c.in_ok-way.way in
+    let set = set_policy s b.pid x.addr x.len b.policy in
+    let home = home_of (info_at s b.pid) in
+    let runs = c.in_ok-way.ensures.runs limit (with_policy (areas_of s) b.pid x.addr x.len b.policy)
+    ∙ ap (λ h. runs_by limit set b.policy h b.pid c.moves_all-all.result c.as_slice.result.now) c.requires.home
+    ∙ ap (λ all. runs_by limit set b.policy home b.pid all c.as_slice.result.now) (flag_is _ _ c.moves_all-all.ensures)
+    ∙ ap (runs_by limit set b.policy home b.pid (moves_all flags)) (c.as_slice.ensures.value ∙ c.in_ok-pages.ensures.list) in
+    let stopped = subst (λ (t : State). Stops true c.in-Err.error t c.make.new.machine (runs_in limit t way)) c.in_ok-set_policy.ensures.done.1 c.in-Err.ensures in
+    stops_fail c.in-Err.error s set c.make.new.machine b (mbind_runs limit set b flags) flags (subst (λ (rs : List Stretch). Stops true c.in-Err.error set c.make.new.machine rs) runs stopped)
+
+pub returns-then-is_late-clause-bound : goal.returns-then-is_late-clause-bound
+returns-then-is_late-clause-bound g c =
+    let s = c.args.machine.now in
+    let b = c.args.binding.now in
+    let x = c.args.request.now in
+    let flags = c.args.asked.flags in
+    let limit = c.args.limit in
+    let way = c.in_ok-way.way in
+    let set = set_policy s b.pid x.addr x.len b.policy in
+    let home = home_of (info_at s b.pid) in
+    let runs = c.in_ok-way.ensures.runs limit (with_policy (areas_of s) b.pid x.addr x.len b.policy)
+    ∙ ap (λ h. runs_by limit set b.policy h b.pid c.moves_all-all.result c.as_slice.result.now) c.requires.home
+    ∙ ap (λ all. runs_by limit set b.policy home b.pid all c.as_slice.result.now) (flag_is _ _ c.moves_all-all.ensures)
+    ∙ ap (runs_by limit set b.policy home b.pid (moves_all flags)) (c.as_slice.ensures.value ∙ c.in_ok-pages.ensures.list) in
+    let made = c.in_default.ensures ∙ ap (λ (t : State). (runs_from 0 t (runs_in limit t way) []).state) c.in_ok-set_policy.ensures.done.1 ∙ ap (λ (rs : List Stretch). (runs_from 0 set rs []).state) runs in
+    let end = (runs_from 0 set (mbind_runs limit set b flags) []).state in
+    let late = sym (late_is s end b flags)
+    ∙ ap (λ ps. is_strict flags && list_any (is_stray end b.policy) ps) (sym (c.as_slice-2.ensures.value ∙ c.in_ok-pages.ensures.list))
+    ∙ ap (λ (t : State). is_strict flags && list_any (is_stray t b.policy) c.as_slice-2.result.now) (sym made) in
+    (late ∙ sym c.is_late.ensures ∙ c.if-is_late.true, refl, made)
+
+pub returns-clause-bound : goal.returns-clause-bound
+returns-clause-bound g c =
+    let s = c.args.machine.now in
+    let b = c.args.binding.now in
+    let x = c.args.request.now in
+    let flags = c.args.asked.flags in
+    let limit = c.args.limit in
+    let way = c.in_ok-way.way in
+    let set = set_policy s b.pid x.addr x.len b.policy in
+    let home = home_of (info_at s b.pid) in
+    let runs = c.in_ok-way.ensures.runs limit (with_policy (areas_of s) b.pid x.addr x.len b.policy)
+    ∙ ap (λ h. runs_by limit set b.policy h b.pid c.moves_all-all.result c.as_slice.result.now) c.requires.home
+    ∙ ap (λ all. runs_by limit set b.policy home b.pid all c.as_slice.result.now) (flag_is _ _ c.moves_all-all.ensures)
+    ∙ ap (runs_by limit set b.policy home b.pid (moves_all flags)) (c.as_slice.ensures.value ∙ c.in_ok-pages.ensures.list) in
+    let made = c.in_default.ensures ∙ ap (λ (t : State). (runs_from 0 t (runs_in limit t way) []).state) c.in_ok-set_policy.ensures.done.1 ∙ ap (λ (rs : List Stretch). (runs_from 0 set rs []).state) runs in
+    let end = (runs_from 0 set (mbind_runs limit set b flags) []).state in
+    let late = sym (late_is s end b flags)
+    ∙ ap (λ ps. is_strict flags && list_any (is_stray end b.policy) ps) (sym (c.as_slice-2.ensures.value ∙ c.in_ok-pages.ensures.list))
+    ∙ ap (λ (t : State). is_strict flags && list_any (is_stray t b.policy) c.as_slice-2.result.now) (sym made) in
+    (late ∙ sym c.is_late.ensures ∙ c.if-is_late.false, made)
