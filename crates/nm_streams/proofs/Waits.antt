@@ -3,9 +3,9 @@ use Rattle.std.proofs.Common.{◌≡◌, ◌≤◌, ◌+◌, ◌||◌, if◌then
 use Rattle.std.specs.Prelude.{OnOk, OnErr, is_err}
 use Rattle.std.specs.Io.KnownBytes.{Appends}
 use Rattle.nm_streams.specs.declared.block.Block.{Block}
-use Rattle.nm_streams.specs.Waiting.{BreaksOff}
+use Rattle.nm_streams.specs.Waiting.{BreaksOff, BreaksOffSoon}
 use Rattle.nm_streams.specs.Waiting.{Stands, Puts}
-use Rattle.nm_streams.proofs.Known.{appends_more}
+use Rattle.nm_streams.proofs.Known.{appends_more, appends_none}
 
 -- what breaks off also breaks off with more behind it
 pub breaks_before : (old new : Option (List ℕ)) (text more : List ℕ) → BreaksOff old new text → BreaksOff old new (text ++ more)
@@ -128,13 +128,6 @@ module _ {W A : Type 0} (contents : W → Option (List ℕ)) (old end : Option (
       let q = subst (λ (d : Block A). Appends (contents w) end d.waiting.items) kept (subst (λ (u : W). Appends (contents u) end c.waiting.items) same p) in
       subst (Appends old end) h.1 (appends_more old (contents w) end h.0 b.waiting.items h.2 q)
 
-  -- or it breaks off
-  pub ends_broken : BreaksOff (contents v) end c.waiting.items → BreaksOff old end whole
-  ends_broken p =
-      let h = stands_whole old (contents w) b.is_broken b.waiting.items whole sound stands in
-      let q = subst (λ (d : Block A). BreaksOff (contents w) end d.waiting.items) kept (subst (λ (u : W). BreaksOff (contents u) end c.waiting.items) same p) in
-      breaks_behind old (contents w) end h.0 b.waiting.items whole h.1 h.2 q
-
 -- before a writer that takes nothing all waits
 pub all_waits : {W A : Type 0} (contents : W → Option (List ℕ)) (failed : W → Bool) (w v : W) (b c : Block A) (text : List ℕ) → ((u : W) → contents u ≡ Some [])
     → b.waiting.items ≡ [] → b.is_broken ≡ false → c.is_broken ≡ false → Puts contents failed w b v c text → c.waiting.items ≡ text
@@ -143,3 +136,38 @@ all_waits {A = A} contents failed w v b c text none empty sound whole p =
     let h = stands_whole (Some []) (contents v) c.is_broken c.waiting.items text whole (p.stands (Some []) [] start) in
     let nothing : Appends (Some []) (Some []) h.0 = subst (λ (o : Option (List ℕ)). Appends (Some []) o h.0) (none v) h.2 in
     ap (λ (front : List ℕ). front ++ c.waiting.items) nothing ∙ h.1
+
+-- ---- how much was not written where a block breaks
+
+-- where what waits breaks off, or more behind it, at most what waited was not written of what was put before
+pub breaks_soon : (most : ℕ) (old mid new : Option (List ℕ)) (is : Bool) (waiting before early text more : List ℕ) → is ≡ false → Stands old mid is waiting before → length waiting ≤ most
+    → length early ≤ length before → text ≡ before ++ more → BreaksOff mid new (waiting ++ more) → BreaksOffSoon most old new early text
+breaks_soon most old mid new is waiting before early text more sound stands few short whole b =
+    let h = stands_whole old mid is waiting before sound stands in (
+      h.0 ++ b.0,
+      b.1,
+      append_assoc h.0 b.0 b.1 ∙ ap (λ t. h.0 ++ t) b.2 ∙ sym (append_assoc h.0 waiting more) ∙ ap (λ t. t ++ more) h.1 ∙ sym whole,
+      b.3,
+      appends_more old mid new h.0 b.0 h.2 b.4,
+      omega (arith, few, short, ap (λ (t : List ℕ). length t) h.1, length-append h.0 waiting, length-append h.0 b.0),
+    )
+
+module _ {W A : Type 0} (contents : W → Option (List ℕ)) (failed : W → Bool) where
+  -- a text that is put breaks a block
+  pub puts_broken : (most : ℕ) (old : Option (List ℕ)) (w v : W) (b c : Block A) (before early text more : List ℕ) → b.is_broken ≡ false → c.is_broken ≡ true
+      → Stands old (contents w) b.is_broken b.waiting.items before → length b.waiting.items ≤ most → length early ≤ length before → text ≡ before ++ more
+      → Puts contents failed w b v c more → BreaksOffSoon most old (contents v) early text
+  puts_broken most old w v b c before early text more sound broken stands few short whole p =
+      let start : Stands (contents w) (contents w) b.is_broken b.waiting.items b.waiting.items = rw sound ([], refl, appends_none (contents w)) in
+      let breaks = stands_broken (contents w) (contents v) c.is_broken c.waiting.items (b.waiting.items ++ more) broken (p.stands (contents w) b.waiting.items start) in
+      breaks_soon most old (contents w) (contents v) b.is_broken b.waiting.items before early text more sound stands few short whole breaks
+
+module _ {W A : Type 0} (contents : W → Option (List ℕ)) where
+  -- what waits cannot be written at last
+  pub finish_breaks : (most : ℕ) (old end : Option (List ℕ)) (before early : List ℕ) (w v : W) (b c : Block A) → b.is_broken ≡ false → v ≡ w → c ≡ b
+      → Stands old (contents w) b.is_broken b.waiting.items before → length b.waiting.items ≤ most → length early ≤ length before
+      → BreaksOff (contents v) end c.waiting.items → BreaksOffSoon most old end early before
+  finish_breaks most old end before early w v b c sound same kept stands few short p =
+      let q = subst (λ (d : Block A). BreaksOff (contents w) end d.waiting.items) kept (subst (λ (u : W). BreaksOff (contents u) end c.waiting.items) same p) in
+      breaks_soon most old (contents w) end b.is_broken b.waiting.items before early before [] sound stands few short (sym (append-nil before))
+      (subst (BreaksOff (contents w) end) (sym (append-nil b.waiting.items)) q)

@@ -1,5 +1,5 @@
 -- Text that is put into a block, which waits there or is written.
-use Rattle.std.specs.Prelude.{◌≡◌, ◌<◌, ◌≤◌, ◌||◌, length, ℕ, Bool, true, false, List, ◌++◌, Option}
+use Rattle.std.specs.Prelude.{◌≡◌, ◌+◌, ◌<◌, ◌≤◌, ◌||◌, length, ℕ, Bool, true, false, List, ◌++◌, Option}
 use Rattle.std.specs.Io.KnownBytes.{Appends}
 use Rattle.nm_streams.specs.declared.block.Block.{Block}
 
@@ -18,6 +18,12 @@ block_room b = b.room
 -- the written bytes, if known, grow by a prefix of the text that is not all of it
 abbrev pub BreaksOff : Option (List ℕ) → Option (List ℕ) → List ℕ → Type 0
 BreaksOff old new text = (front : List ℕ) × (rest : List ℕ) × (front ++ rest ≡ text) × (0 < length rest) × Appends old new front
+
+-- the same, and of a front of the text at most so many bytes were not written
+abbrev pub BreaksOffSoon : ℕ → Option (List ℕ) → Option (List ℕ) → List ℕ → List ℕ → Type 0
+BreaksOffSoon most old new before text =
+    (front : List ℕ) × (rest : List ℕ) × (front ++ rest ≡ text) × (0 < length rest) × Appends old new front
+    × (length before ≤ length front + most)
 
 -- what was put since a writer had the bytes old: it has a front of it, and the rest waits; or a write has failed, and it breaks off
 abbrev pub Stands : Option (List ℕ) → Option (List ℕ) → Bool → List ℕ → List ℕ → Type 0

@@ -1,6 +1,6 @@
 -- Reports that grow by a line.
-use Rattle.std.proofs.Common.{◌≡◌, ℕ, suc, ◌+◌, ◌<◌, List, [], ◌∷◌, ◌++◌, length, take, drop, get_or, map, refl, sym, ap, ◌∙◌, append_assoc, length-take, arith}
-use Rattle.std.proofs.lemmas.List.{take_more, take-append-drop, append-nil, length-map}
+use Rattle.std.proofs.Common.{◌≡◌, ℕ, suc, ◌+◌, ◌-◌, ◌<◌, ◌≤◌, length-append, List, [], ◌∷◌, ◌++◌, length, take, drop, get_or, map, refl, sym, ap, ◌∙◌, append_assoc, length-take, arith}
+use Rattle.std.proofs.lemmas.List.{take_more, take-append-drop, take-take, append-nil, length-map}
 use Rattle.std.proofs.Math.ListN.{get_or-map}
 use Rattle.nm_calls.specs.definitions.Systems.{SystemState}
 use Rattle.nm_steps.specs.Calls.{Call}
@@ -40,6 +40,13 @@ module _ (s : SystemState) (calls : List Call) (k : ℕ) (call : Call) (lt : k <
 -- the report on some first calls is a front of the report
 pub report_front : (s : SystemState) (calls : List Call) (k : ℕ) → (rest : List ℕ) × (report_from 0 s (take k calls) ++ rest ≡ report_from 0 s calls)
 report_front s calls k = (_, sym (report_append 0 s (take k calls) (drop k calls)) ∙ ap (report_from 0 s) (take-append-drop k calls))
+
+-- the report on all but the last of some calls is no longer than that on all of them
+pub report_short : (s : SystemState) (calls : List Call) (k : ℕ) → length (report_from 0 s (take (k - 1) calls)) ≤ length (report_from 0 s (take k calls))
+report_short s calls k =
+    let front = report_front s (take k calls) (k - 1) in
+    let early = ap (λ (cs : List Call). length (report_from 0 s cs)) (take-take (k - 1) k calls (omega arith)) in
+    omega (arith, early, ap (λ (t : List ℕ). length t) front.1, length-append (report_from 0 s (take (k - 1) (take k calls))) front.0)
 
 -- the call of a step, at its place
 pub call_at : {S : Type 0} (call_of : S → Call) (steps : List S) (k : ℕ) (step : S) → k < length steps → step ≡ get_or steps k step → (k < length (map call_of steps)) × (call_of step ≡ get_or (map call_of steps) k (call_of step))

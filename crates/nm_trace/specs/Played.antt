@@ -1,5 +1,5 @@
 -- What a play makes and writes, and what a run from bytes does.
-use Rattle.std.specs.Prelude.{◌≡◌, ◌⊎◌, ℕ, ◌≤◌, Bool, List, [], ◌++◌, length, take, slice_get, Option, Some, Result, Ok, Err}
+use Rattle.std.specs.Prelude.{◌≡◌, ◌⊎◌, ℕ, ◌-◌, ◌≤◌, Bool, List, [], ◌++◌, length, take, slice_get, Option, Some, Result, Ok, Err}
 use Rattle.std.specs.Io.KnownBytes.{Appends}
 use Rattle.nm_calls.specs.definitions.Systems.{SystemState, system_with}
 use Rattle.nm_steps.specs.Calls.{Call}
@@ -11,7 +11,7 @@ use Rattle.nm_steps.specs.declared.trace_error.TraceError.TheVariants.{ReadFault
 use Rattle.nm_steps.specs.Faults.{Plan}
 use Rattle.nm_calls.specs.definitions.Outcome.{outcome}
 use Rattle.nm_streams.specs.declared.block.Block.{Block}
-use Rattle.nm_streams.specs.Waiting.{BreaksOff, Puts}
+use Rattle.nm_streams.specs.Waiting.{BreaksOffSoon, Puts}
 use Rattle.nm_trace.specs.Report.{text_of, report_from, state_after}
 
 -- a call that runs out of host memory has made some of its first runs
@@ -31,6 +31,12 @@ StopsAt s calls k t =
     let before = state_after s (take k calls) in
     (call : Call) × (slice_get calls k ≡ Some call) × MayAllocate before.state call × StopsIn before call t
 
+-- the report on the first k calls breaks off; of the lines before those of the last of them, at most 65,536 bytes were
+-- not written: no further call is made after a write that fails
+abbrev pub BreaksOffAt : SystemState → List Call → ℕ → Option (List ℕ) → Option (List ℕ) → Type 0
+BreaksOffAt s calls k old new =
+    BreaksOffSoon 65536 old new (report_from 0 s (take (k - 1) calls)) (report_from 0 s (take k calls))
+
 -- a play makes every call and writes the report on them; if the writer fails, some first calls were made, and the
 -- report on them breaks off; if the host has no memory for step k, the report on the steps before it is written, and
 -- step k may have been made in part; there is no other fault
@@ -39,7 +45,7 @@ Plays s calls t old new (Ok summary) =
     (summary.steps ≡ length calls) × (t ≡ state_after s calls) × Appends old new (report_from 0 s calls)
 Plays s calls t old new (Err WriteFault) =
     (k : ℕ) × (k ≤ length calls) × ((t ≡ state_after s (take k calls)) ⊎ StopsAt s calls k t)
-    × BreaksOff old new (report_from 0 s (take k calls))
+    × BreaksOffAt s calls k old new
 Plays s calls t old new (Err (HostMemory k)) = StopsAt s calls k t × Appends old new (report_from 0 s (take k calls))
 Plays s calls t old new (Err e) = ⊥
 

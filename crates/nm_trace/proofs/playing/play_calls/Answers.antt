@@ -1,12 +1,12 @@
-use Rattle.std.proofs.Common.{◌≡◌, ◌+◌, map, take, refl, sym, ap, subst, inl, inr, ◌∙◌, arith}
+use Rattle.std.proofs.Common.{◌≡◌, ◌+◌, ◌-◌, ◌≤◌, length, map, take, refl, sym, ap, subst, inl, inr, ◌∙◌, arith}
 use Rattle.std.proofs.lemmas.List.{take_all, length-map}
 use Rattle.std.proofs.lemmas.Option.{slice_get_read}
 use Rattle.std.specs.Io.KnownBytes.{Appends}
 use Rattle.nm_steps.specs.Views.{call_of}
 use Rattle.nm_trace.specs.Report.{report_from, state_after}
-use Rattle.nm_streams.specs.Waiting.{BreaksOff, Stands}
-use Rattle.nm_trace.proofs.InParts.{call_at, state_more, report_more}
-use Rattle.nm_streams.proofs.Waits.{ends_whole, ends_broken, stands_broken}
+use Rattle.nm_streams.specs.Waiting.{Stands, block_waiting}
+use Rattle.nm_trace.proofs.InParts.{call_at, state_more, report_more, report_short}
+use Rattle.nm_streams.proofs.Waits.{ends_whole, finish_breaks, puts_broken}
 use Rattle.nm_trace.proofs.playing.play_calls.Goals as goal
 
 pub returns-in_default-finish-clause-plays : goal.returns-in_default-finish-clause-plays
@@ -19,7 +19,7 @@ returns-in_default-finish-clause-plays g c =
       c.loop-k.k,
       omega (arith, at.0),
       inr (_, slice_get_read calls _ c.loop-k.k _ refl at.0 at.1, asks, stop.0),
-      ends_broken g.W.Write.contents _ _ _ _ _ _ _ l.whole stop.1 stop.2 l.stands c.in_default-finish.ensures.broken,
+      finish_breaks g.W.Write.contents 65536 _ _ _ _ _ _ _ _ l.whole stop.1 stop.2 l.stands l.few (report_short c.args.system.now calls c.loop-k.k) c.in_default-finish.ensures.broken,
     )
 
 pub returns-in_default-clause-plays : goal.returns-in_default-clause-plays
@@ -38,11 +38,12 @@ returns-then-is_broken-clause-plays g c =
     let calls = map call_of c.args.calls.now in
     let at = call_at call_of c.args.calls.now c.loop-k.k c.index-calls-k.result c.loop-k-test.true c.index-calls-k.is in
     let l = c.loop-k.invariant in
-    let line = rw l.made at c.in-Ok.ensures.told in (
+    let line = rw l.made at c.in-Ok.ensures.told in
+    let next : c.loop-k.k + 1 - 1 ≡ c.loop-k.k = omega arith in (
       c.loop-k.k + 1,
       omega (arith, at.0),
       inl (line.1 ∙ sym (state_more c.args.system.now calls c.loop-k.k _ at.0 at.1)),
-      subst (BreaksOff _ _) (sym (report_more c.args.system.now calls c.loop-k.k _ at.0 at.1)) (stands_broken _ _ _ _ _ (sym c.is_broken.ensures ∙ c.if-is_broken.true) (line.0.stands _ _ l.stands)),
+      rw next (puts_broken g.W.Write.contents g.W.TellingWriter.has_failed 65536 _ _ _ _ _ _ (report_from 0 c.args.system.now (take c.loop-k.k calls)) _ _ l.whole (sym c.is_broken.ensures ∙ c.if-is_broken.true) l.stands l.few (omega arith) (report_more c.args.system.now calls c.loop-k.k _ at.0 at.1) line.0),
     )
 
 pub returns-then-is_broken-clause-told : goal.returns-then-is_broken-clause-told
@@ -57,6 +58,8 @@ loop-k-preserved g c =
       made = line.1 ∙ sym (state_more c.args.system.now calls c.loop-k.k _ at.0 at.1);
       whole = sym c.is_broken.ensures ∙ c.if-is_broken.false;
       stands = subst (Stands _ _ _ _) (sym (report_more c.args.system.now calls c.loop-k.k _ at.0 at.1)) (line.0.stands _ _ l.stands);
+      room = line.0.room ∙ l.room;
+      few = subst (λ n. length (block_waiting c.make_step.new.block) ≤ n) (line.0.room ∙ l.room) (line.0.within (subst (λ n. length (block_waiting c.loop-k.block) ≤ n) (sym l.room) l.few));
       failed = line.0.fails _ l.failed;
     }
 
@@ -66,7 +69,7 @@ returns-in_default-finish-2-clause-plays g c =
       c.loop-k.k,
       omega (arith, c.loop-k.auto.k-end, length-map c.args.calls.now call_of),
       inl l.made,
-      ends_broken g.W.Write.contents _ _ _ c.loop-k.writer c.loop-k.writer c.loop-k.block c.loop-k.block l.whole refl refl l.stands c.in_default-finish-2.ensures.broken,
+      finish_breaks g.W.Write.contents 65536 _ _ _ _ c.loop-k.writer c.loop-k.writer c.loop-k.block c.loop-k.block l.whole refl refl l.stands l.few (report_short c.args.system.now (map call_of c.args.calls.now) c.loop-k.k) c.in_default-finish-2.ensures.broken,
     )
 
 pub returns-clause-plays : goal.returns-clause-plays
