@@ -9,7 +9,7 @@ use Rattle.nm_streams.proofs.Known.{appends_more, appends_nothing, consumes_none
 use Rattle.numatrace_session.specs.declared.End.{End}
 use Rattle.numatrace_session.specs.declared.End.TheVariants.{BadTop, HostMemory, Stream}
 use Rattle.numatrace_session.specs.Replies.{HasByte, reply_of, replies_to, EndsEarly, EndsTalk, Replies, RepliesToLines}
-use Rattle.numatrace_session.proofs.Lines.{all_more, reads_more, reads_none, reads_top, replies_more}
+use Rattle.numatrace_session.proofs.Lines.{all_more, reads_more, reads_none, reads_top, replied_before, replies_but_last, replies_more}
 
 -- what holds of an error holds of the result that has it
 pub if_err : {X E : Type 0} (Holds : E → Type 0) (e : E) (result : Result X E) → result ≡ Err e → Holds e → IfErr result Holds
@@ -44,6 +44,7 @@ unreplied s t u a b c old new newer failed mid fails line Stream h is drops gone
         append_assoc so_far broken.0 broken.1 ∙ (ap (λ (x : List ℕ). so_far ++ x) (broken.2 ∙ text) ∙ sym (replies_more s lines line)),
         appends_more old new newer so_far broken.0 h.3 broken.4,
         w.0.1,
+        replied_before s lines line broken.0,
       ),
     )
 
@@ -53,7 +54,7 @@ pub unflushed : (s t : SessionState) (a c old new : Option (List ℕ)) (failed f
 unflushed s t a c old new failed fails e h is told =
     let whole = replies_to s h.0 in
     subst (λ (d : End). EndsEarly d s a c old new failed fails) (sym is)
-    (h.0, (c, [], h.1, consumes_none c), h.4, inr (whole, [], append-nil whole, h.3, told))
+    (h.0, (c, [], h.1, consumes_none c), h.4, inr (whole, [], append-nil whole, h.3, told, replies_but_last s h.0))
 
 -- ---- from the first line on
 

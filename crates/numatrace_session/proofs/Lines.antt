@@ -1,13 +1,13 @@
 -- Lines that are read and replied to.
-use Rattle.std.proofs.Common.{◌≡◌, ℕ, List, [], ◌∷◌, ◌++◌, Option, Some, None, IfSome, Result, Ok, Err, ap, refl, subst, sym, ◌∙◌, append_assoc}
-use Rattle.std.proofs.lemmas.List.{append-nil}
+use Rattle.std.proofs.Common.{◌≡◌, ℕ, zero, suc, ◌-◌, ◌≤◌, arith, length, length-append, take, List, [], ◌∷◌, ◌++◌, Option, Some, None, IfSome, Result, Ok, Err, ap, refl, subst, sym, ◌∙◌, append_assoc}
+use Rattle.std.proofs.lemmas.List.{append-nil, take_at}
 use Rattle.std.specs.List.{AllByRecursion}
 use Rattle.std.specs.Io.BufRead.{take_through, drop_through, DropsThrough}
 use Rattle.std.specs.Io.KnownBytes.{Appends, Keeps}
 use Rattle.std.specs.Prelude.{OnOk}
 use Rattle.nm_trace.specs.Session.{SessionState, asked, opened}
 use Rattle.nm_streams.proofs.Known.{appends_kept, appends_more, appends_none}
-use Rattle.numatrace_session.specs.Replies.{HasByte, after, after_lines, reply_of, replies_to, AreLines, ReadsLines, RepliesToLines, Talks}
+use Rattle.numatrace_session.specs.Replies.{HasByte, after, after_lines, but_last, reply_of, replies_to, AreLines, ReadsLines, RepliesToLines, Talks}
 
 -- ---- reading
 
@@ -42,6 +42,27 @@ replies_more s (l ∷ ls) line =
     let first = reply_of s (asked s l) in
     ap (λ (text : List ℕ). first ++ text) (replies_more (after s (asked s l)) ls line)
     ∙ sym (append_assoc first (replies_to (after s (asked s l)) ls) (reply_of (after_lines (after s (asked s l)) ls) (asked (after_lines (after s (asked s l)) ls) line)))
+
+-- the replies to some first lines are no longer than those to all
+replies_front : (s : SessionState) (n : ℕ) (lines : List (List ℕ)) → length (replies_to s (take n lines)) ≤ length (replies_to s lines)
+replies_front s zero lines = omega arith
+replies_front s (suc n) [] = omega arith
+replies_front s (suc n) (l ∷ ls) =
+    let first = reply_of s (asked s l) in
+    let then = after s (asked s l) in
+    omega (arith, replies_front then n ls, length-append first (replies_to then (take n ls)), length-append first (replies_to then ls))
+
+pub replies_but_last : (s : SessionState) (lines : List (List ℕ)) → length (replies_to s (but_last lines)) ≤ length (replies_to s lines)
+replies_but_last s lines = replies_front s (length lines - 1) lines
+
+but_last_more : (lines : List (List ℕ)) (line : List ℕ) → but_last (lines ++ line ∷ []) ≡ lines
+but_last_more lines line =
+    take_at lines (line ∷ []) (length (lines ++ line ∷ []) - 1) (omega (arith, length-append lines (line ∷ [])))
+
+-- all replies but that to the line that was read last are written
+pub replied_before : (s : SessionState) (lines : List (List ℕ)) (line front : List ℕ) → length (replies_to s (but_last (lines ++ line ∷ []))) ≤ length (replies_to s lines ++ front)
+replied_before s lines line front =
+    omega (arith, ap (λ (ls : List (List ℕ)). length (replies_to s ls)) (but_last_more lines line), length-append (replies_to s lines) front)
 
 pub no_lines : (s : SessionState) (left old : Option (List ℕ)) → RepliesToLines s s left left old old
 no_lines s left old = ([], reads_none left, refl, appends_none old, tt)

@@ -1,5 +1,5 @@
 -- What is served through buffers.
-use Rattle.std.proofs.Common.{◌≡◌, ◌⊎◌, ℕ, Bool, true, List, [], ◌∷◌, Option, Some, None, IfSome, Result, Ok, Err, refl, subst, ap, ◌∙◌, inl, inr}
+use Rattle.std.proofs.Common.{◌≡◌, ◌⊎◌, ℕ, Bool, true, List, [], ◌∷◌, Option, Some, None, Result, Ok, Err, refl, subst, ap, ◌∙◌, inl, inr}
 use Rattle.std.specs.Prelude.{IfErr, OnOk}
 use Rattle.std.specs.Io.BufRead.{drop_through, DropsThrough}
 use Rattle.std.specs.Io.Buffered.{reader_buffer, reader_capacity, reader_inner, reader_remaining}
@@ -24,7 +24,7 @@ refused_kept a b old new newer fault h kept = (h.0, h.1, h.2, appends_kept old n
 written_kept : (s : SessionState) (lines : List (List ℕ)) (old new newer : Option (List ℕ)) (failed mid fails : Bool) → WritesReplies s lines old new failed mid → Keeps new newer → fails ≡ mid
     → WritesReplies s lines old newer failed fails
 written_kept s lines old new newer failed mid fails (inl h) kept same = inl (appends_kept old new newer (replies_to s lines) h.0 kept, same ∙ h.1)
-written_kept s lines old new newer failed mid fails (inr h) kept same = inr (h.0, h.1, h.2, appends_kept old new newer h.0 h.3 kept, same ∙ h.4)
+written_kept s lines old new newer failed mid fails (inr h) kept same = inr (h.0, h.1, h.2, appends_kept old new newer h.0 h.3 kept, same ∙ h.4, h.5)
 
 early_kept : (end : End) (s : SessionState) (a b old new newer : Option (List ℕ)) (failed mid fails : Bool) → EndsEarly end s a b old new failed mid → Keeps new newer → fails ≡ mid
     → EndsEarly end s a b old newer failed fails
@@ -60,7 +60,7 @@ first_apart (Some xs) (Some ys) top lines h = (Some (drop_through 10 xs), (h.0, 
 written_lost : (s : SessionState) (lines : List (List ℕ)) (old new newer : Option (List ℕ)) (failed mid fails : Bool) → WritesReplies s lines old new failed mid → Keeps new newer → fails ≡ true
     → WritesReplies s lines old newer true fails
 written_lost s lines old new newer failed mid fails (inl h) kept told = inl (appends_kept old new newer (replies_to s lines) h.0 kept, told)
-written_lost s lines old new newer failed mid fails (inr h) kept told = inr (h.0, h.1, h.2, appends_kept old new newer h.0 h.3 kept, told)
+written_lost s lines old new newer failed mid fails (inr h) kept told = inr (h.0, h.1, h.2, appends_kept old new newer h.0 h.3 kept, told, h.5)
 
 early_lost : (end : End) (s : SessionState) (a b old new newer : Option (List ℕ)) (failed mid fails : Bool) → EndsEarly end s a b old new failed mid → Keeps new newer → fails ≡ true
     → EndsEarly Stream s a b old newer true fails

@@ -1,5 +1,5 @@
 -- What the reply to a line makes of a session, and of what is written.
-use Rattle.std.specs.Prelude.{◌≡◌, ◌==◌, ℕ, ◌<◌, ◌⊎◌, Bool, true, List, [], ◌∷◌, ◌++◌, length, codes, decimal, Option, Some, None, IfSome, Result, Ok, Err, OnOk}
+use Rattle.std.specs.Prelude.{◌≡◌, ◌==◌, ℕ, ◌-◌, ◌<◌, ◌≤◌, ◌⊎◌, Bool, true, List, [], ◌∷◌, ◌++◌, length, take, codes, decimal, Option, Some, None, IfSome, Result, Ok, Err, OnOk}
 use Rattle.std.specs.List.{AllByRecursion, list_any}
 use Rattle.std.specs.Io.BufRead.{take_through, drop_through}
 use Rattle.std.specs.Io.KnownBytes.{Appends, Consumes, IsAtEnd}
@@ -119,12 +119,17 @@ abbrev pub ReadsBeyond : Option (List ℕ) → Option (List ℕ) → List (List 
 ReadsBeyond left left_then lines =
     (between : Option (List ℕ)) × (bytes : List ℕ) × ReadsLines left between lines × Consumes between left_then bytes
 
+-- lines without the last one
+abbrev pub but_last : List (List ℕ) → List (List ℕ)
+but_last lines = take (length lines - 1) lines
+
 -- after lines that are read, all replies to them are written and the writer has not failed anew, or it has, and a front
--- of them is written
+-- of them is written, with all of them but the last: no line is read after a reply that could not be written
 abbrev pub WritesReplies : SessionState → List (List ℕ) → Option (List ℕ) → Option (List ℕ) → Bool → Bool → Type 0
 WritesReplies s lines old new failed fails =
     (Appends old new (replies_to s lines) × (fails ≡ failed))
-    ⊎ ((front : List ℕ) × (rest : List ℕ) × (front ++ rest ≡ replies_to s lines) × Appends old new front × (fails ≡ true))
+    ⊎ ((front : List ℕ) × (rest : List ℕ) × (front ++ rest ≡ replies_to s lines) × Appends old new front × (fails ≡ true)
+    × (length (replies_to s (but_last lines)) ≤ length front))
 
 -- replies to lines end early: for lack of memory, with all replies to the lines before; where a stream fails, with a front
 -- of them if it is the writer

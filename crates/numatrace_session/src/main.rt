@@ -264,7 +264,8 @@ fn talk_to_end<T: Threads + Wait + Sync, R: Read, W: FlushingWriter>(
         (W.contents out.old) (W.contents out.new) (W.has_failed out.old) (W.has_failed out.new)) }
 
     // In any case
-    ensures flushed { (W.has_failed out.new ≡ true) ⊎ W.is_flushed out.new }
+    ensures flushed { ((result ≡ Err End.Stream) × (W.has_failed out.new ≡ true))
+        ⊎ W.is_flushed out.new }
 {
     let ended = talk(rt, heap, input, out);
     let Ok(()) = out.flush_telling() else {
@@ -303,7 +304,7 @@ fn serve<T: Threads + Wait + Sync, R: Read + Drop, W: FlushingWriter>(
         (W.contents out.old) (W.contents out.new) (W.has_failed out.old) (W.has_failed out.new)) }
 
     // In any case
-    ensures flushed { (W.has_failed out.new ≡ true)
+    ensures flushed { ((result ≡ Err End.Stream) × (W.has_failed out.new ≡ true))
         ⊎ (W.is_flushed out.new ⊎ ((result ≡ Err End.HostMemory) × (out.new ≡ out.old))) }
 {
     let Ok(mut input) = BufReader::new(heap, from) else {
