@@ -62,7 +62,7 @@ impl<A: Allocator + Copy> Inner<A> {
 
     /// What a read or a write does before it reaches the bytes. Returns the frame of the page that the process then
     /// sees, or None if that is the page of zeros. If it sees a page before, or reads the page of zeros, nothing is
-    /// refused. Allocates only what it is not refused.
+    /// refused. Allocates only if it is not refused.
     pub(crate) fn touch(
         &mut self,
         t: ResolvedAddress,
