@@ -201,6 +201,36 @@ def bound_pages(size):
     return trace([8192, 8192], steps + [bind(1 - number % 2) for number in range(50)])
 
 
+def long_reports(size):
+    """N thousand areas of one page, all written, of which pagemap, numa_maps and the other node's free list tell 50 times."""
+    count = size * 1000
+    steps = []
+    for address in range(0, 2 * PAGE * count, 2 * PAGE):
+        steps += [map_step(address, 1), write(address)]
+    told = ['{"op":"pagemap","pid":1}', numa_maps(), '{"op":"free","node":1}']
+    return trace([8192, count], steps + told * 50)
+
+
+def set_policy(address, pages, mode, nodes):
+    form = '{"op":"mbind","caller":1,"addr":%d,"len":%d,"mode":%d,"nodes":%s,"flags":0}'
+    return form % (address, pages * PAGE, mode, nodes)
+
+
+def policies(size):
+    """256 areas of four pages, and N thousand policies, each set for one of them: in turn the nearest node, a preferred one, one
+    of two, two in turn, and the local one. A page of the area is written after each, so that the policy says where it goes, until
+    all are there. After each twenty numa_maps tells them."""
+    areas = [BASE + 8 * PAGE * area for area in range(256)]
+    asked = [(0, []), (1, [1]), (2, [0, 1]), (3, [0, 1]), (4, [])]
+    steps = [map_step(address, 4) for address in areas]
+    for number in range(size * 1000):
+        address = areas[number * 7919 % 256]
+        steps += [set_policy(address, 4, *asked[number % 5]), write(address + PAGE * (number // 256 % 4))]
+        if number % 20 == 19:
+            steps.append(numa_maps())
+    return trace([1024, 1024], steps)
+
+
 def evacuated_node(size):
     """N thousand pages of two processes on a node that goes offline and comes back, and then the other node, 50 times in
     all: each time all pages go to the other node."""
@@ -379,6 +409,8 @@ KINDS = {
     sparse_touches: 16,
     told_pages: 2,
     bound_pages: 2,
+    long_reports: 1,
+    policies: 5,
     evacuated_node: 1,
     many_areas: 7,
     many_runs: 4,
