@@ -45,6 +45,7 @@ unreplied s t u a b c old new newer failed mid fails line Stream h is drops gone
         appends_more old new newer so_far broken.0 h.3 broken.4,
         w.0.1,
         replied_before s lines line broken.0,
+        reads_more a b c lines line h.1 is drops,
       ),
     )
 
@@ -54,7 +55,7 @@ pub unflushed : (s t : SessionState) (a c old new : Option (List ℕ)) (failed f
 unflushed s t a c old new failed fails e h is told =
     let whole = replies_to s h.0 in
     subst (λ (d : End). EndsEarly d s a c old new failed fails) (sym is)
-    (h.0, (c, [], h.1, consumes_none c), h.4, inr (whole, [], append-nil whole, h.3, told, replies_but_last s h.0))
+    (h.0, (c, [], h.1, consumes_none c), h.4, inr (whole, [], append-nil whole, h.3, told, replies_but_last s h.0, h.1))
 
 -- ---- from the first line on
 

@@ -21,16 +21,16 @@ pub refused_kept : (a b old new newer : Option (List ℕ)) (fault : TraceError) 
 refused_kept a b old new newer fault h kept = (h.0, h.1, h.2, appends_kept old new newer [] h.3 kept)
 
 -- .. also where the session ends early
-written_kept : (s : SessionState) (lines : List (List ℕ)) (old new newer : Option (List ℕ)) (failed mid fails : Bool) → WritesReplies s lines old new failed mid → Keeps new newer → fails ≡ mid
-    → WritesReplies s lines old newer failed fails
-written_kept s lines old new newer failed mid fails (inl h) kept same = inl (appends_kept old new newer (replies_to s lines) h.0 kept, same ∙ h.1)
-written_kept s lines old new newer failed mid fails (inr h) kept same = inr (h.0, h.1, h.2, appends_kept old new newer h.0 h.3 kept, same ∙ h.4, h.5)
+written_kept : (s : SessionState) (lines : List (List ℕ)) (a b old new newer : Option (List ℕ)) (failed mid fails : Bool) → WritesReplies s lines a b old new failed mid → Keeps new newer → fails ≡ mid
+    → WritesReplies s lines a b old newer failed fails
+written_kept s lines a b old new newer failed mid fails (inl h) kept same = inl (appends_kept old new newer (replies_to s lines) h.0 kept, same ∙ h.1)
+written_kept s lines a b old new newer failed mid fails (inr h) kept same = inr (h.0, h.1, h.2, appends_kept old new newer h.0 h.3 kept, same ∙ h.4, h.5, h.6)
 
 early_kept : (end : End) (s : SessionState) (a b old new newer : Option (List ℕ)) (failed mid fails : Bool) → EndsEarly end s a b old new failed mid → Keeps new newer → fails ≡ mid
     → EndsEarly end s a b old newer failed fails
 early_kept (BadTop fault) s a b old new newer failed mid fails h kept same = absurd h
 early_kept HostMemory s a b old new newer failed mid fails h kept same = (h.0, h.1, h.2, appends_kept old new newer (replies_to s h.0) h.3 kept, same ∙ h.4)
-early_kept Stream s a b old new newer failed mid fails h kept same = (h.0, h.1, h.2, written_kept s h.0 old new newer failed mid fails h.3 kept same)
+early_kept Stream s a b old new newer failed mid fails h kept same = (h.0, h.1, h.2, written_kept s h.0 a b old new newer failed mid fails h.3 kept same)
 
 talk_kept : (end : End) (a b old new newer : Option (List ℕ)) (failed mid fails : Bool) → EndsTalk end a b old new failed mid → Keeps new newer → fails ≡ mid
     → EndsTalk end a b old newer failed fails
@@ -57,16 +57,16 @@ first_apart None b top lines h = (None, tt, tt)
 first_apart (Some xs) None top lines h = absurd h
 first_apart (Some xs) (Some ys) top lines h = (Some (drop_through 10 xs), (h.0, refl), h.1)
 
-written_lost : (s : SessionState) (lines : List (List ℕ)) (old new newer : Option (List ℕ)) (failed mid fails : Bool) → WritesReplies s lines old new failed mid → Keeps new newer → fails ≡ true
-    → WritesReplies s lines old newer true fails
-written_lost s lines old new newer failed mid fails (inl h) kept told = inl (appends_kept old new newer (replies_to s lines) h.0 kept, told)
-written_lost s lines old new newer failed mid fails (inr h) kept told = inr (h.0, h.1, h.2, appends_kept old new newer h.0 h.3 kept, told, h.5)
+written_lost : (s : SessionState) (lines : List (List ℕ)) (a b old new newer : Option (List ℕ)) (failed mid fails : Bool) → WritesReplies s lines a b old new failed mid → Keeps new newer → fails ≡ true
+    → WritesReplies s lines a b old newer true fails
+written_lost s lines a b old new newer failed mid fails (inl h) kept told = inl (appends_kept old new newer (replies_to s lines) h.0 kept, told)
+written_lost s lines a b old new newer failed mid fails (inr h) kept told = inr (h.0, h.1, h.2, appends_kept old new newer h.0 h.3 kept, told, h.5, h.6)
 
 early_lost : (end : End) (s : SessionState) (a b old new newer : Option (List ℕ)) (failed mid fails : Bool) → EndsEarly end s a b old new failed mid → Keeps new newer → fails ≡ true
     → EndsEarly Stream s a b old newer true fails
 early_lost (BadTop fault) s a b old new newer failed mid fails h kept told = absurd h
 early_lost HostMemory s a b old new newer failed mid fails h kept told = (h.0, h.1, h.2, inl (appends_kept old new newer (replies_to s h.0) h.3 kept, told))
-early_lost Stream s a b old new newer failed mid fails h kept told = (h.0, h.1, h.2, written_lost s h.0 old new newer failed mid fails h.3 kept told)
+early_lost Stream s a b old new newer failed mid fails h kept told = (h.0, h.1, h.2, written_lost s h.0 a b old new newer failed mid fails h.3 kept told)
 
 talk_lost : (end : End) (a b old new newer : Option (List ℕ)) (failed mid fails : Bool) → EndsTalk end a b old new failed mid → Keeps new newer → fails ≡ true
     → EndsTalk Stream a b old newer true fails

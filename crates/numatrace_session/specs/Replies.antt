@@ -124,12 +124,12 @@ abbrev pub but_last : List (List ℕ) → List (List ℕ)
 but_last lines = take (length lines - 1) lines
 
 -- after lines that are read, all replies to them are written and the writer has not failed anew, or it has, and a front
--- of them is written, with all of them but the last: no line is read after a reply that could not be written
-abbrev pub WritesReplies : SessionState → List (List ℕ) → Option (List ℕ) → Option (List ℕ) → Bool → Bool → Type 0
-WritesReplies s lines old new failed fails =
+-- of them is written, with all of them but the last, and nothing was read after these lines
+abbrev pub WritesReplies : SessionState → List (List ℕ) → Option (List ℕ) → Option (List ℕ) → Option (List ℕ) → Option (List ℕ) → Bool → Bool → Type 0
+WritesReplies s lines left left_then old new failed fails =
     (Appends old new (replies_to s lines) × (fails ≡ failed))
     ⊎ ((front : List ℕ) × (rest : List ℕ) × (front ++ rest ≡ replies_to s lines) × Appends old new front × (fails ≡ true)
-    × (length (replies_to s (but_last lines)) ≤ length front))
+    × (length (replies_to s (but_last lines)) ≤ length front) × ReadsLines left left_then lines)
 
 -- replies to lines end early: for lack of memory, with all replies to the lines before; where a stream fails, with a front
 -- of them if it is the writer
@@ -140,7 +140,7 @@ EndsEarly HostMemory s left left_then old new failed fails =
     × Appends old new (replies_to s lines) × (fails ≡ failed)
 EndsEarly Stream s left left_then old new failed fails =
     (lines : List (List ℕ)) × ReadsBeyond left left_then lines × AllByRecursion HasByte lines
-    × WritesReplies s lines old new failed fails
+    × WritesReplies s lines left left_then old new failed fails
 
 -- a session ends early: nothing was written, or its first line has begun it, and the replies to further ones end early
 abbrev pub EndsTalk : End → Option (List ℕ) → Option (List ℕ) → Option (List ℕ) → Option (List ℕ) → Bool → Bool → Type 0

@@ -11,7 +11,7 @@ use Rattle.nm_calls.specs.declared.mbind.Binding.{Binding}
 use Rattle.nm_calls.specs.definitions.Mbind.{has_stray, is_stray, is_strict, listed, moves, stray_pages, tells_late}
 use Rattle.nm_calls.specs.views.Runs.{Fails, Stops}
 
--- the pages that are listed tell late
+-- an error after the moves is told exactly where a listed page strays then
 pub late_is : (s t : State) (b : Binding) (flags : ℕ) → (is_strict flags && list_any (is_stray t b.policy) (listed s b flags)) ≡ (tells_late flags && has_stray s t b)
 late_is s t b flags = elim (moves flags) as (λ m. (is_strict flags && list_any (is_stray t b.policy) (if m then stray_pages s b else [])) ≡ ((is_strict flags && m) && has_stray s t b)) [
   | true ↦ strict (is_strict flags) (has_stray s t b)
@@ -31,7 +31,7 @@ pub stops_fail : (e : CallError) (old set new : State) (b : Binding) (runs : Lis
 stops_fail (Refused e) old set new b runs flags h = absurd h
 stops_fail (HostMemory k policy_set) old set new b runs flags h = inr h
 
--- a flag that is found is the one that is asked for
+-- a flag is found exactly where its bit is 1
 pub flag_is : (found : Bool) (n : ℕ) → (IsTrue found → n ≡ 1) × (n ≡ 1 → IsTrue found) → found ≡ (n == 1)
 flag_is true n h = sym (eq-eqb n 1 (h.0 refl))
 flag_is false n h = sym (ne_eqb n 1 (λ e. false≢true (h.1 e)))
