@@ -125,7 +125,8 @@ but_last lines = take (length lines - 1) lines
 
 -- after lines that are read, all replies to them are written and the writer has not failed anew, or it has, and a front
 -- of them is written, with all of them but the last, and nothing was read after these lines
-abbrev pub WritesReplies : SessionState → List (List ℕ) → Option (List ℕ) → Option (List ℕ) → Option (List ℕ) → Option (List ℕ) → Bool → Bool → Type 0
+abbrev pub WritesReplies : SessionState → List (List ℕ) → Option (List ℕ) → Option (List ℕ) → Option (List ℕ)
+    → Option (List ℕ) → Bool → Bool → Type 0
 WritesReplies s lines left left_then old new failed fails =
     (Appends old new (replies_to s lines) × (fails ≡ failed))
     ⊎ ((front : List ℕ) × (rest : List ℕ) × (front ++ rest ≡ replies_to s lines) × Appends old new front × (fails ≡ true)
