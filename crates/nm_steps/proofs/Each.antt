@@ -58,3 +58,10 @@ is_later limit view vs i v lt is call h place so_far =
     let split : drop i vs ≡ v ∷ drop (i + 1) vs = rw (add-one, drop-cons vs i v) (ap (λ w. w ∷ drop (suc i) vs) (sym is)) in
     let one : first_bad limit (items_seen view (drop i vs)) ≡ suc (first_bad limit (items_seen view (drop (i + 1) vs))) = rw (split, h) refl in
     omega (arith, one, so_far)
+
+-- an item that is no step is the first
+pub is_here : {V : Type 0} (limit : ℕ) (view : V → Data) (vs : List V) (i : ℕ) (v : V) → i < length vs → v ≡ get_or vs i v → step_of limit (view v) ≡ None → (place : ℕ) → i + first_bad limit (items_seen view (drop i vs)) ≡ place → place ≡ i
+is_here limit view vs i v lt is h place so_far =
+    let split : drop i vs ≡ v ∷ drop (i + 1) vs = rw (add-one, drop-cons vs i v) (ap (λ w. w ∷ drop (suc i) vs) (sym is)) in
+    let one : first_bad limit (items_seen view (drop i vs)) ≡ 0 = rw (split, h) refl in
+    omega (arith, one, so_far)

@@ -1,5 +1,5 @@
 -- What is told as lack of memory.
-use Rattle.std.proofs.Common.{◌≡◌, ℕ, ◌^◌, ◌<◌, ◌==◌, List, [], ◌∷◌, length, Bool, true, false, ◌||◌, ◌&&◌, Option, Some, None, is_some, option_map, option_and_then, refl, ap, ◌∙◌, sym, arith, codes}
+use Rattle.std.proofs.Common.{◌≡◌, ℕ, ◌^◌, ◌<◌, ◌==◌, List, [], ◌∷◌, length, Bool, true, false, ◌||◌, ◌&&◌, Option, Some, None, is_some, option_map, option_and_then, refl, ap, ◌∙◌, sym, subst, arith, codes}
 use Rattle.std.proofs.lemmas.Bool.{le-ltb}
 use Rattle.std.specs.Prelude.{Result, Ok, Err, IsErr, IsErrAnd, nat_le, if◌then◌else◌}
 use Rattle.std.specs.Option.{ok_or}
@@ -8,6 +8,8 @@ use Rattle.serde_json.specs.Find.{get, as_array}
 use Rattle.nm_types.specs.Layout.{Layout}
 use Rattle.nm_types.specs.Refusal.{refusal}
 use Rattle.nm_model.specs.definitions.Cut.{run_count}
+use Rattle.nm_steps.specs.declared.step_error.StepError.{StepError}
+use Rattle.nm_steps.specs.Gives.{Fails, Gives}
 use Rattle.nm_steps.specs.Tree.{items_seen}
 use Rattle.nm_steps.specs.Form.{◌>>=◌, below, each, number_of, number_at, numbers_at, number_below, smalls_at, items_at, batch_of, in_flight, limit_of, machine_of, row_of}
 use Rattle.nm_steps.specs.Memory.{has_items, holds, begins, begins_at, batch_starts, flight_asks, row_asks, machine_takes_memory, starts, starts_at, step_asks, steps_take_memory}
@@ -19,6 +21,11 @@ handed_on (Err x) called e f h was is =
     let here : x ≡ e = h.1 in
     let same : e ≡ f = cc in
     was ∙ ap Err same
+
+-- so the definition gives nothing, unless memory ran out
+pub fails_on : {X Y : Type 0} (view : X → Y) (r : Result X StepError) (e : StepError) (found : Option Y) → IsErr r × IsErrAnd r (λ x. x ≡ e) → Fails e found → Gives view r found
+fails_on view (Ok x) e found h fails = absurd (cc)
+fails_on view (Err x) e found h fails = subst (λ y. Fails y found) (sym h.1) fails
 
 -- the list of a value at a key
 pub listed_at : (key : List ℕ) (d v : Data) (ds : Items) → Some v ≡ get key d → as_array v ≡ Some ds → items_at key d ≡ Some ds

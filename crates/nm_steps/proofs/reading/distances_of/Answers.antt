@@ -1,0 +1,26 @@
+use Rattle.std.proofs.Common.{◌^◌, arith}
+use Rattle.nm_steps.specs.Form.{number_below}
+use Rattle.nm_steps.proofs.Each.{goes_on, ends, is_done, starts_by}
+use Rattle.nm_steps.proofs.Memory.{fails_on, is_there}
+use Rattle.nm_steps.proofs.reading.distances_of.Goals as goal
+
+pub returns-in_err-distance-clause-row : goal.returns-in_err-distance-clause-row
+returns-in_err-distance-clause-row g c =
+    fails_on _ c.from_residual.result _ _ c.from_residual.ensures
+    (ends (number_below (2 ^ 8)) c.loop-value.row.items g.V.JsonValue.as_data c.args.values.now c.loop-value.value-index c.value-item.result _ c.loop-value-test.true c.value-item.is _ c.in_err-distance.ensures.value c.loop-value.invariant.read)
+
+pub returns-in_err-push-clause-asked : goal.returns-in_err-push-clause-asked
+returns-in_err-push-clause-asked g c = λ is. omega (arith, c.loop-value-test.true)
+
+pub returns-in_err-push-clause-first : goal.returns-in_err-push-clause-first
+returns-in_err-push-clause-first g c = λ is.
+    starts_by (number_below (2 ^ 8)) g.V.JsonValue.as_data c.args.values.now c.loop-value.value-index c.value-item.result c.loop-value-test.true c.value-item.is (is_there _ _ c.in_ok-distance.ensures.value) c.loop-value.invariant.first
+
+pub loop-value-preserved : goal.loop-value-preserved
+loop-value-preserved g c = record {
+  read = rw c.in_ok-push.ensures.items (goes_on (number_below (2 ^ 8)) c.loop-value.row.items g.V.JsonValue.as_data c.args.values.now c.loop-value.value-index c.value-item.result _ c.loop-value-test.true c.value-item.is c.in_ok-distance.distance c.in_ok-distance.ensures.value c.loop-value.invariant.read);
+  first = λ more. starts_by (number_below (2 ^ 8)) g.V.JsonValue.as_data c.args.values.now c.loop-value.value-index c.value-item.result c.loop-value-test.true c.value-item.is (is_there _ _ c.in_ok-distance.ensures.value) c.loop-value.invariant.first;
+}
+
+pub returns-clause-row : goal.returns-clause-row
+returns-clause-row g c = is_done (number_below (2 ^ 8)) c.loop-value.row.items g.V.JsonValue.as_data c.args.values.now c.loop-value.value-index _ (omega (arith, c.loop-value-test.false)) c.loop-value.invariant.read
