@@ -3,6 +3,7 @@
 # passed on, crates are proved in their order, and what was proved is kept. And the version is the same wherever it is given.
 set -eu
 cd "$(dirname "$0")/.."
+top=$(pwd)
 there=$(mktemp -d)
 trap 'rm -rf "$there"' EXIT
 trap 'exit 130' HUP INT TERM
@@ -112,6 +113,7 @@ grep -q '^input' "$there/err" || fail "the unproved build does not get the trace
 
 # A toolchain that notes where it is called, needs the libraries of the crates below, and makes one; FAILS and SLOW name crates.
 toolchain() {
+    printf '#!/bin/sh\nexec rt "$@"\n' > "$all/tools/prove.py"
     cat > "$there/bin/rt" << 'END'
 #!/bin/sh
 [ "$1" != version ] || { echo "the kit"; exit; }
@@ -128,11 +130,11 @@ echo "$name" > "crates/$name/out/rlib/stamp"
 [ "$1" = lib ] || { echo program > "crates/$name/out/$name" && chmod +x "crates/$name/out/$name"; }
 echo "ends $name" >> "$NOTES"
 END
-    chmod +x "$there/bin/rt"
+    chmod +x "$there/bin/rt" "$all/tools/prove.py"
 }
-toolchain
 all=$there/all
-mkdir "$all"
+mkdir -p "$all/tools"
+toolchain
 cp -R build crates.txt HANDLES "$all/"
 for crate in crates/*/; do mkdir -p "$all/$crate/src"; done
 for crate in numatrace numatrace_session; do : | tee "$all/crates/$crate/stdin" > "$all/crates/$crate/src/main.rt"; done
@@ -145,7 +147,7 @@ count() {
 }
 
 expect_kept() {
-    [ "$(cat "$all/crates/nm_crew/out/kept")$(count room)" = kept0 ] || fail "$1"
+    [ "$(cat "$all/crates/nm_crew/out/kept")" = kept ] || fail "$1"
 }
 # Waits until the build that is under way notes this.
 until_noted() {
@@ -161,12 +163,11 @@ until_free() {
     flock -w 300 "$all/crates" true || fail "processes of a build that was told to stop do not end"
 }
 
-# Each crate of the programs is proved once, after those below it, that of sessions last; no room is left, and no crate is proved that
-# the programs do not need.
+# Each crate of the programs is proved once, after those below it, that of sessions last; no crate is proved that the programs do not
+# need.
 build_all '' '' || fail "a build fails: $(cat "$there/err" "$there/notes")"
 proved=$(count stamp)
 [ "$(grep -c '^begins' "$there/notes")" = "$proved" ] || fail "a crate is proved more than once"
-[ "$(count room)" = 0 ] || fail "a build leaves a room"
 [ ! -e "$all/crates/nm_checks/out" ] || fail "a build proves what the program does not depend on"
 [ "$(tail -n 3 "$there/notes" | tr '\n' ' ')" = "ends numatrace begins numatrace_session ends numatrace_session " ] ||
     fail "a build does not make the program for sessions last: $(tail -n 4 "$there/notes")"
@@ -215,27 +216,19 @@ wait "$building" || status=$?
 until_free
 expect_kept "a build that is told to stop loses what was kept"
 
-# One that is told to stop while it moves back what was proved moves all of it.
-: > "$there/notes"
-cat > "$there/bin/mv" << END
-#!/bin/sh
-case \$1 in crates/nm_crew/out/room/*) echo moves >> "$there/notes"; sleep 1 ;; esac
-exec $(command -v mv) "\$@"
-END
-chmod +x "$there/bin/mv"
-env FAILS= SLOW= NOTES="$there/notes" ALL="$all" PATH="$there/bin:$PATH" "$all/build" 2> "$there/err" &
-building=$!
-until_noted '^moves'
-kill "$building"
-status=0
-wait "$building" || status=$?
-rm "$there/bin/mv"
-[ "$status" = 130 ] || fail "a build that is told to stop while it moves what was proved ends with $status"
-until_free
-expect_kept "a build that is told to stop while it moves what was proved loses what was kept"
+# ---- tools/prove.py
 
-# What a killed build left in a room is recovered by the next.
-mkdir -p "$all/crates/nm_crew/out/room/crates/nm_crew/out"
-mv "$all/crates/nm_crew/out/kept" "$all/crates/nm_crew/out/room/crates/nm_crew/out/"
-build_all '' '' || fail "a build after one that was killed fails: $(cat "$there/err")"
-expect_kept "what a killed build left is lost"
+# A kit that says which flags keep the work of a check, and which of two crates, one below the other, are locked.
+cat > "$there/bin/rt" << 'END'
+import types
+rtlib = types.SimpleNamespace(KEPT=["--incremental", "out/incremental"], lock=lambda crates: crates)
+def main(words):
+    print(*words, *rtlib.KEPT, *rtlib.lock(["below", "own"]))
+END
+proved() {
+    (cd "$all/crates/nm_crew" && PATH="$there/bin:$PATH" "$top/tools/prove.py" "$@")
+}
+[ "$(proved lib --jobs 2)" = "lib --jobs 2 --statements own" ] || fail "a library is not proved from nothing: $(proved lib --jobs 2)"
+[ "$(proved run --jobs 1)" = "run --jobs 1 own" ] || fail "a program is not proved from nothing: $(proved run --jobs 1)"
+mkdir "$all/crates/nm_crew/out/incremental"
+[ "$(proved lib --jobs 2)" = "lib --jobs 2 --incremental out/incremental own" ] || fail "what a check kept is not used: $(proved lib --jobs 2)"

@@ -1,0 +1,42 @@
+#!/usr/bin/env python3
+"""Proves the crate in the current folder for ./build, over the libraries below it, which are proved: `rt lib` or `rt run` in two ways of
+its own.
+
+- From nothing it is proved as `rt ci` proves it, without keeping work for later checks, and its library holds what other crates may cite
+  of it, and not its proofs: that takes less time and memory, above all with several processes. Where `rt check` or `rt lib` kept work in
+  the crate (out/incremental), that is used, as ever.
+- It locks the crate's folder alone, and not those below it: several crates over the same ones are proved at a time.
+
+`tools/prove.py lib|run --jobs N`"""
+import importlib.machinery
+import importlib.util
+import os
+import shutil
+import sys
+
+
+def kit():
+    """The kit's command rt, as a module."""
+    sys.dont_write_bytecode = True
+    loader = importlib.machinery.SourceFileLoader("rt", os.path.realpath(shutil.which("rt")))
+    made = importlib.util.module_from_spec(importlib.util.spec_from_loader("rt", loader))
+    loader.exec_module(made)
+    return made
+
+
+def main(words):
+    rt = kit()
+    for name in ("KEPT", "lock"):
+        if not hasattr(rt.rtlib, name):
+            sys.exit("tools/prove.py: this kit's rt has no %s to change: `rt lib` proves a library all the same" % name)
+    lock = rt.rtlib.lock
+    # (the crate itself comes last)
+    rt.rtlib.lock = lambda crates: lock(crates[-1:])
+    if not os.path.isdir("out/incremental"):
+        # The flags with which a check keeps its work, and, of a library, its proofs.
+        rt.rtlib.KEPT = ["--statements"] if words[0] == "lib" else []
+    return rt.main(words)
+
+
+if __name__ == "__main__":
+    sys.exit(main(sys.argv[1:]))
