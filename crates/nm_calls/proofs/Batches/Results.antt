@@ -1,5 +1,5 @@
 -- The result of the runs of a batch, as stated by the functions that make them.
-use Rattle.std.proofs.Common.{◌≡◌, ℕ, Bool, true, false, ◌&&◌, inl, inr, List, [], refl, sym, ap, subst, ◌∙◌, arith, Result, Ok, Err}
+use Rattle.std.proofs.Common.{◌≡◌, ℕ, zero, suc, ◌<◌, Bool, true, false, ◌&&◌, inl, inr, List, [], refl, sym, ap, subst, ◌∙◌, arith, Result, Ok, Err}
 use Rattle.std.specs.Prelude.{OnErr}
 use Rattle.std.specs.Result.{IsErrAnd}
 use Rattle.std.proofs.lemmas.Result.{err_from_is_err_and}
@@ -30,6 +30,11 @@ err_of r e h = let p = err_from_is_err_and r h in p.1 ∙ ap (λ (x : CallError)
 pub on_err : {T E P : Type 0} (r : Result T E) → P → OnErr r P
 on_err (Ok value) p = tt
 on_err (Err e) p = p
+
+-- a list that takes memory has room for some
+pub takes_some : (n : ℕ) → (n ≡ 0 → false ≡ true) → 0 < n
+takes_some zero h = let e = h refl in absurd (cc)
+takes_some (suc n) h = omega arith
 
 -- no memory before the first run
 pub none_batched : {T : Type 0} (r : Result T CallError) (s : State) (rs : List Stretch) (Gives : T → Ran → Type 0) → IsErrAnd r (λ e. e ≡ out_of_memory 0) → Batches r s s rs Gives

@@ -1,10 +1,12 @@
 -- What is left to do for a read or a write, by what its touch found.
 use Rattle.std.proofs.Common.{◌≡◌, ℕ, ◌/◌, ◌%◌, List, Bool, true, false, refl, sym, ap, subst, ◌∙◌, length}
-use Rattle.std.specs.Prelude.{Some, Result, Ok, Err, if◌then◌else◌}
+use Rattle.std.specs.Prelude.{Option, Some, Result, Ok, Err, if◌then◌else◌}
 use Rattle.std.specs.List.{list_any}
 use Rattle.std.specs.Ordering.{nat_cmp}
 use Rattle.nm_types.specs.declared.page.Page.{Page}
 use Rattle.nm_types.specs.declared.errno.Errno.{Errno}
+use Rattle.nm_types.specs.declared.machine_error.MachineError.{MachineError}
+use Rattle.nm_types.specs.declared.machine_error.MachineError.TheVariants as error
 use Rattle.nm_types.specs.declared.sight.Sight.TheVariants.{Sees}
 use Rattle.nm_types.specs.Map.{get, same_page}
 use Rattle.nm_types.specs.State.{State, page_at}
@@ -15,6 +17,7 @@ use Rattle.nm_model.specs.definitions.Touch.{is_held}
 use Rattle.nm_model.specs.definitions.Seen.{frame_seen}
 use Rattle.nm_model.specs.definitions.Sound.{IsSoundMidRun}
 use Rattle.nm_model.specs.definitions.BeforeCopy.{Known, ToRead, ToWrite, BeforeCopy, held_before_copy, pending_read, pending_write, read_before_copy, write_before_copy, before_copy}
+use Rattle.nm_engine.specs.definitions.Does.{Touches}
 use Rattle.nm_laws.proofs.Seen.Frames.{page_of_frame}
 use Rattle.nm_laws.proofs.Early.Seen.{touch_areas}
 use Rattle.nm_laws.proofs.Early.Later.{early_ready}
@@ -36,6 +39,13 @@ module _ (s : State) (moved : List Page) where
   read_goes pid address len at r is free touches =
       ap (read_by pid address len) is ∙ ap (λ b. if b then held_before_copy s else read_before_copy s pid address len (touched s false (Ok at))) free ∙ ap (read_before_copy s pid address len) touches
 
+  -- a read whose touch is refused
+  pub read_turned_down : (t : State) (pid address len : ℕ) (at : AccessSite) (r : MachineError) (e : Errno) → site s pid address len ≡ Ok at → list_any (same_page (shown_at at)) moved ≡ false → r ≡ error.Refused e
+      → Touches {T = Option ℕ} (Err r) s t (touched_entry s at false (get nat_cmp at.process.sees at.vpn)) → (t ≡ s) × (before_copy s moved (Read pid address len) ≡ record { state = s; due = Known (Refused e) })
+  read_turned_down t pid address len at r e is free told touches =
+      let h = subst (λ z. Touches {T = Option ℕ} (Err z) s t (touched_entry s at false (get nat_cmp at.process.sees at.vpn))) told touches in
+      (h.1, read_goes pid address len at (Err e) is free h.0)
+
   -- a write
   abbrev write_by : ℕ → ℕ → List ℕ → Result AccessSite Errno → BeforeCopy
   write_by pid address new r = if is_held moved r then held_before_copy s else write_before_copy s pid address new (touched s true r)
@@ -44,6 +54,18 @@ module _ (s : State) (moved : List Page) where
       → touched_entry s at true (get nat_cmp at.process.sees at.vpn) ≡ r → before_copy s moved (Write pid address new) ≡ write_before_copy s pid address new r
   write_goes pid address new at r is free touches =
       ap (write_by pid address new) is ∙ ap (λ b. if b then held_before_copy s else write_before_copy s pid address new (touched s true (Ok at))) free ∙ ap (write_before_copy s pid address new) touches
+
+  pub write_refused : (pid address : ℕ) (new : List ℕ) (e : Errno) → site s pid address (length new) ≡ Err e → before_copy s moved (Write pid address new) ≡ record { state = s; due = Known (Refused e) }
+  write_refused pid address new e is = ap (write_by pid address new) is
+
+  pub write_held : (pid address : ℕ) (new : List ℕ) (at : AccessSite) → site s pid address (length new) ≡ Ok at → list_any (same_page (shown_at at)) moved ≡ true → before_copy s moved (Write pid address new) ≡ held_before_copy s
+  write_held pid address new at is held = ap (write_by pid address new) is ∙ ap (λ b. if b then held_before_copy s else write_before_copy s pid address new (touched s true (Ok at))) held
+
+  pub write_turned_down : (t : State) (pid address : ℕ) (new : List ℕ) (at : AccessSite) (r : MachineError) (e : Errno) → site s pid address (length new) ≡ Ok at → list_any (same_page (shown_at at)) moved ≡ false → r ≡ error.Refused e
+      → Touches {T = Option ℕ} (Err r) s t (touched_entry s at true (get nat_cmp at.process.sees at.vpn)) → (t ≡ s) × (before_copy s moved (Write pid address new) ≡ record { state = s; due = Known (Refused e) })
+  write_turned_down t pid address new at r e is free told touches =
+      let h = subst (λ z. Touches {T = Option ℕ} (Err z) s t (touched_entry s at true (get nat_cmp at.process.sees at.vpn))) told touches in
+      (h.1, write_goes pid address new at (Err e) is free h.0)
 
 -- the page that is seen after a touch is the one that is shown
 page_seen : (t : State) (l : List ℕ) (pid v f : ℕ) (p : Page) → IsSoundMidRun t l → page_at t.areas pid v ≡ Some p → frame_seen t pid v ≡ Some f → sight_at t pid v ≡ Some (Sees p)

@@ -1,9 +1,9 @@
 -- What the calls that change processes and areas keep of the parts of a machine.
-use Rattle.std.proofs.Common.{◌≡◌, ℕ, zero, suc, ◌+◌, ◌<◌, List, [], ◌∷◌, Bool, false, refl, sym, ap, subst, ◌∙◌, arith}
+use Rattle.std.proofs.Common.{◌≡◌, ℕ, zero, suc, ◌+◌, ◌<◌, ◌≤◌, List, [], ◌∷◌, Bool, true, false, refl, sym, ap, subst, ◌∙◌, arith}
 use Rattle.std.specs.Prelude.{Option, Some, None, IsTrue, nat_le, not, length, ◌||◌, ◌==◌, if◌then◌else◌}
 use Rattle.std.specs.Option.{is_some, option_map}
 use Rattle.std.specs.List.{list_any}
-use Rattle.std.proofs.lemmas.Bool.{false≢true, false_from_ne_true, eqb-true, lt-leb}
+use Rattle.std.proofs.lemmas.Bool.{false≢true, false_from_ne_true, eqb-true, lt-leb, le-leb}
 use Rattle.std.specs.Ordering.{nat_cmp, match_ordering}
 use Rattle.std.specs.declared.cmp.Ordering.TheVariants.{Greater}
 use Rattle.std.specs.Cmp.{nat_cmp_is}
@@ -79,6 +79,13 @@ none_holds a b c d e f ha hb hc hd he hf =
     ap (λ u. all u b c d e f) ha ∙ ap (λ v. all false v c d e f) hb ∙ ap (λ w. all false false w d e f) hc ∙ ap (λ x. all false false false x e f) hd
     ∙ ap (λ y. all false false false false y f) he ∙ ap (λ z. all false false false false false z) hf
 
+-- .. and the last alone
+last_holds : (a b c d e f : Bool) → a ≡ false → b ≡ false → c ≡ false → d ≡ false → e ≡ false → f ≡ true → first_error (((a || b) || (c || d || e), Einval) ∷ (f, Enomem) ∷ []) ≡ Some Enomem
+last_holds a b c d e f ha hb hc hd he hf =
+    let all = λ (u v w x y z : Bool). first_error (((u || v) || (w || x || y), Einval) ∷ (z, Enomem) ∷ []) in
+    ap (λ u. all u b c d e f) ha ∙ ap (λ v. all false v c d e f) hb ∙ ap (λ w. all false false w d e f) hc ∙ ap (λ x. all false false false x e f) hd
+    ∙ ap (λ y. all false false false false y f) he ∙ ap (λ z. all false false false false false z) hf
+
 no_process : (o : Option Process) → is_some (option_map info_of o) ≡ false → not (not (is_some o)) ≡ false
 no_process None h = refl
 no_process (Some p) h = absurd (true_false h)
@@ -100,6 +107,12 @@ pub spawn_fine : (s : State) (pid home : ℕ) (allowed : List ℕ) (o : Option P
 spawn_fine s pid home allowed o some e unknown there nodes below few =
     none_holds (pid == 0) (not (is_unknown s pid)) (nat_le (node_count s.layout) home) (length allowed == 0) (list_any (nat_le (node_count s.layout)) allowed) (nat_le 1024 (length s.processes))
     (false_from_ne_true _ (λ h. some (eqb-true pid 0 h))) (no_process (get nat_cmp s.processes pid) (ap is_some (sym e) ∙ unknown)) (lt-leb _ _ there) (some_nodes allowed nodes) below (lt-leb _ _ few)
+
+pub spawn_full : (s : State) (pid home : ℕ) (allowed : List ℕ) (o : Option ProcessInfo) → (pid ≡ 0 → ⊥) → o ≡ option_map info_of (get nat_cmp s.processes pid) → is_some o ≡ false → home < node_count s.layout
+    → (allowed ≡ [] → IsTrue false) → list_any (nat_le (node_count s.layout)) allowed ≡ false → 1024 ≤ length s.processes → spawn_refusal s pid home allowed ≡ Some Enomem
+spawn_full s pid home allowed o some e unknown there nodes below full =
+    last_holds (pid == 0) (not (is_unknown s pid)) (nat_le (node_count s.layout) home) (length allowed == 0) (list_any (nat_le (node_count s.layout)) allowed) (nat_le 1024 (length s.processes))
+    (false_from_ne_true _ (λ h. some (eqb-true pid 0 h))) (no_process (get nat_cmp s.processes pid) (ap is_some (sym e) ∙ unknown)) (lt-leb _ _ there) (some_nodes allowed nodes) below (le-leb _ _ full)
 
 pub list_fine : (s : State) (node : ℕ) → node < node_count s.layout → list_refusal s node ≡ None
 list_fine s node h = ap (λ b. if b then Some Einval else None) (lt-leb (node_count s.layout) node h)

@@ -7,7 +7,7 @@ use Rattle.nm_types.specs.declared.errno.Errno.{Errno}
 use Rattle.nm_types.specs.declared.machine_error.MachineError.{MachineError}
 use Rattle.nm_types.specs.declared.machine_error.MachineError.TheVariants as error
 use Rattle.nm_types.specs.State.{State}
-use Rattle.nm_engine.specs.definitions.Does.{AsksLast, Touches}
+use Rattle.nm_engine.specs.definitions.Does.{Makes, AsksLast, Touches}
 
 -- a call that is not refused may ask for memory
 pub may_ask : {T : Type 0} (r : Result T MachineError) (refusal : Option Errno) → refusal ≡ None → AsksLast r refusal
@@ -26,10 +26,21 @@ pub error_was : {T U : Type 0} (q : Result T MachineError) (r : Result U Machine
 error_was q (Ok v) e x is h told = absurd (false≢true h.0)
 error_was q (Err y) e x is h told = let same : y ≡ x = cc in is ∙ ap Err (sym h.1 ∙ same)
 
+-- a call that succeeds, or is refused, does not lack memory
+pub not_lacking : {T P : Type 0} (value : T) → ◌≡◌ {A = Result T MachineError} (Ok value) (Err error.HostMemory) → P
+not_lacking value told = absurd (cc)
+
+pub only_refused : {T P : Type 0} (e : Errno) → ◌≡◌ {A = Result T MachineError} (Err (error.Refused e)) (Err error.HostMemory) → P
+only_refused e told = absurd (cc)
+
 -- no memory, and nothing changed
 pub nothing_touched : {T : Type 0} (r : Result T MachineError) (old new : State) (f : Result State Errno) → IsErr r × IsErrAnd r (λ x. x ≡ error.HostMemory) → new ≡ old → Touches r old new f
 nothing_touched (Ok v) old new f h same = absurd (false≢true h.0)
 nothing_touched {T} (Err x) old new f h same = subst (λ z. Touches {T = T} (Err z) old new f) (sym h.1) same
+
+pub nothing_made : {T S : Type 0} (r : Result T MachineError) (old new after : S) (refusal : Option Errno) → IsErr r × IsErrAnd r (λ x. x ≡ error.HostMemory) → new ≡ old → Makes r old new refusal after
+nothing_made (Ok v) old new after refusal h same = absurd (false≢true h.0)
+nothing_made {T} {S} (Err x) old new after refusal h same = subst (λ z. Makes {T = T} {S = S} (Err z) old new refusal after) (sym h.1) same
 
 -- what a touch within the touch says, where both are defined to be the same
 pub touch_handed_on : {T U : Type 0} (q : Result T MachineError) (r : Result U MachineError) (e : MachineError) (old new : State) {f g : Result State Errno} → q ≡ Err e → IsErr r × IsErrAnd r (λ x. x ≡ e)

@@ -1,4 +1,4 @@
-use Rattle.std.proofs.Common.{arith, ◌≡◌, ◌+◌, ◌++◌, ◌∷◌, ◌<◌, [], ℕ, List, drop, length, map, length-append, ap, sym, ◌∙◌, Vec}
+use Rattle.std.proofs.Common.{arith, ◌≡◌, ◌+◌, ◌++◌, ◌∷◌, ◌<◌, ◌≤◌, [], ℕ, List, drop, length, map, length-append, ap, refl, sym, ◌∙◌, Vec}
 use Rattle.std.specs.Prelude.{slice_set}
 use Rattle.std.proofs.lemmas.List.{map-append, length-map, length-set, drop_all}
 use Rattle.nm_model.specs.definitions.Touch.{Access}
@@ -9,8 +9,27 @@ use Rattle.nm_steps.specs.Views.{shown_during}
 use Rattle.nm_calls.specs.definitions.Batch.{list_at}
 use Rattle.nm_calls.proofs.Accesses.Loops.{one_more_asked, none_asked, list_there, list_after, empty_more, append_none}
 use Rattle.nm_calls.proofs.Accesses.Lent.{one_lent, lent_shown}
+use Rattle.nm_calls.proofs.Batches.Results.{on_err, takes_some}
 use Rattle.nm_calls.proofs.batch.by_run.Goals as goal
 use Rattle.nm_calls.proofs.batch.by_run.Goals.{in-Some+in_ok-push-2, in_default}
+
+some_of : (k n m : ℕ) → k < n → n ≡ m → 0 < m
+some_of k n m more is = omega (arith, more, is)
+
+all_of : (n k m : ℕ) → n ≡ k → m ≤ k → k ≤ m → n ≡ m
+all_of n k m is past end = omega (arith, is, past, end)
+
+pub returns-in_err-lists-clause-asked : goal.returns-in_err-lists-clause-asked
+returns-in_err-lists-clause-asked g c = on_err c.from_residual.result (takes_some _ c.in_err-lists.ensures.succeeds)
+
+pub loop-init : goal.loop-init
+loop-init g c = record {
+  count = ap length c.in_ok-lists.ensures.items;
+  empty = λ k. ap (λ lists. list_at (map lent_shown lists) k) c.in_ok-lists.ensures.items;
+}
+
+pub returns-in_err-push-clause-asked : goal.returns-in_err-push-clause-asked
+returns-in_err-push-clause-asked g c = on_err c.from_residual-in_err-push.result (some_of _ _ _ c.loop-test.true refl)
 
 pub loop-preserved : goal.loop-preserved
 loop-preserved g c =
@@ -24,6 +43,15 @@ loop-preserved g c =
           ∙ ap (λ xs. list_at (map lent_shown before ++ map one_lent xs ∷ []) k) c.new.ensures.items
           ∙ empty_more (map lent_shown before) c.loop.invariant.empty k;
     }
+
+pub loop-asked-init : goal.loop-asked-init
+loop-asked-init g c = record {
+  count = all_of _ _ _ c.loop.invariant.count c.loop-test.false c.loop.auto.counter-end;
+  lists = λ k lt. ap (λ l. l ++ accesses_of k (shown_during c.args.during.now)) (c.loop.invariant.empty k);
+}
+
+pub returns-in_err-push-2-clause-asked : goal.returns-in_err-push-2-clause-asked
+returns-in_err-push-2-clause-asked g c = on_err c.from_residual-in_err-push-2.result (some_of _ _ _ c.in-Some.ensures.item.3.0 c.loop-asked.invariant.count)
 
 pub loop-asked-preserved : goal.loop-asked-preserved
 loop-asked-preserved g c =

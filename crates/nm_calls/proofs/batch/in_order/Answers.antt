@@ -1,18 +1,33 @@
-use Rattle.std.proofs.Common.{arith, ◌≡◌, ◌+◌, ◌++◌, ◌∷◌, [], List, drop, length, map, length-append, ap, refl, sym, ◌∙◌, Vec}
+use Rattle.std.proofs.Common.{arith, ◌≡◌, ℕ, ◌+◌, ◌<◌, ◌≤◌, ◌++◌, ◌∷◌, [], List, drop, length, map, length-append, length-drop, ap, refl, sym, ◌∙◌, Vec}
 use Rattle.std.specs.Prelude.{slice_set}
-use Rattle.std.proofs.lemmas.List.{map-append, length-map}
+use Rattle.std.proofs.lemmas.List.{map-append, length-map, drop_all}
 use Rattle.nm_memory.specs.views.Accesses.{answer_shown}
 use Rattle.nm_laws.proofs.Lists.{drop_item}
 use Rattle.nm_steps.specs.Views.{shown_during}
 use Rattle.std.specs.Map.{keys_of}
 use Rattle.nm_calls.specs.definitions.Batch.{in_order, left_shown}
-use Rattle.nm_calls.proofs.Accesses.Loops.{unmade_told, none_told, one_told, list_there, list_after}
+use Rattle.nm_calls.proofs.Accesses.Loops.{append_none, unmade_told, none_told, one_told, list_there, list_after}
 use Rattle.nm_calls.proofs.batch.in_order.Goals as goal
 use Rattle.nm_calls.proofs.batch.in_order.Goals.{in-Some+in-Some-next, in-Some+in_default-next, in_default}
 
 no_items : {X : Type 0} (xs : List X) → length xs ≡ 0 → xs ≡ []
 no_items [] h = refl
 no_items (x ∷ xs) h = absurd (omega (arith, h))
+
+room_for : (a b m : ℕ) → a ≡ 0 → b ≤ m → a + b ≤ m
+room_for a b m none room = omega (arith, none, room)
+
+has_room : {X : Type 0} (xs : List X) (k len n m : ℕ) → k < length xs → len ≡ n → n + length (drop k xs) ≤ m → len < m
+has_room xs k len n m more is room = omega (arith, length-drop k xs, more, is, room)
+
+pub loop-asked-init : goal.loop-asked-init
+loop-asked-init g c = record {
+  room = room_for (length c.args.answers.items) _ _ (ap length c.requires.empty) c.requires.room;
+  told = ap (λ xs. map answer_shown xs ++ in_order (keys_of (shown_during c.args.during.now)) (map left_shown c.args.told.items)) c.requires.empty;
+}
+
+pub push_reserved-requires : goal.push_reserved-requires
+push_reserved-requires g c = has_room c.args.during.now c.loop-asked.asked-index _ _ _ c.loop-asked-test.true c.loop-asked.answers.ok.0 c.loop-asked.invariant.room
 
 pub loop-asked-preserved : goal.loop-asked-preserved
 loop-asked-preserved g c =
@@ -71,3 +86,9 @@ loop-asked-preserved g c =
                 ∙ unmade_told told left asked.run runs all (omega (arith, same, past)) is;
           }
     ]
+
+pub returns : goal.returns
+returns g c =
+    let none = drop_all c.loop-asked.asked-index c.args.during.now c.loop-asked-test.false in
+    let told = map answer_shown c.loop-asked.answers.items in
+    sym (append_none _) ∙ ap (λ ds. told ++ in_order (keys_of (shown_during ds)) (map left_shown c.loop-asked.told.items)) (sym none) ∙ c.loop-asked.invariant.told

@@ -1,6 +1,9 @@
-use Rattle.std.proofs.Common.{◌≡◌, ◌<◌, ◌+◌, ◌++◌, ◌∷◌, arith, ap, refl, map, subst, sym, ◌∙◌, [], drop, length, length-append}
+use Rattle.std.proofs.Common.{◌≡◌, ℕ, ◌<◌, ◌≤◌, ◌+◌, ◌++◌, ◌∷◌, ◌-◌, Fits, w64, if◌then◌else◌, is_ok, List, ℤ, Vec, Result, Ok, arith, ap, refl, map, subst, sym, ◌∙◌, [], drop, length, length-append}
 use Rattle.std.proofs.lemmas.List.{map-append, length-map, drop_all}
 use Rattle.nm_types.specs.Layout.{node_count}
+use Rattle.nm_types.specs.State.{State}
+use Rattle.nm_model.specs.definitions.Cut.{Stretch}
+use Rattle.nm_model.specs.definitions.Touch.{Access, AccessAnswer}
 use Rattle.nm_runs.specs.Stretches.{stretches_of}
 use Rattle.nm_memory.specs.views.Accesses.{answer_shown}
 use Rattle.nm_model.specs.definitions.Run.{run, failures}
@@ -11,10 +14,54 @@ use Rattle.nm_calls.specs.definitions.Batch.{in_order, left_shown}
 use Rattle.nm_calls.proofs.Batches.StatusCounts.{run_length, run_layout, failures-append, failures-le-length}
 use Rattle.nm_calls.proofs.Accesses.Loops.{list_there}
 use Rattle.nm_calls.proofs.Accesses.Lent.{one_lent, lent_shown}
-use Rattle.nm_calls.proofs.Batches.Results.{none_moved}
+use Rattle.nm_calls.proofs.Batches.Results.{none_moved, on_err, takes_some}
 use Rattle.nm_calls.proofs.Trails.{states_are}
-use Rattle.nm_calls.proofs.Batches.Progress.{none_run, one_more_run, some_run, all_run, next_left, entries_left, not_last}
+use Rattle.nm_calls.proofs.Batches.Progress.{HaveRun, none_run, one_more_run, some_run, all_run, next_left, entries_left, not_last}
 use Rattle.nm_calls.proofs.batch.move_runs.Goals as goal
+
+some_first : (a b : ℕ) → 0 < a → 0 < a + b
+some_first a b some = omega (arith, some)
+
+some_last : (a b : ℕ) → 0 < b → 0 < a + b
+some_last a b some = omega (arith, some)
+
+fits_in : (old own len new all rest cap : ℕ) → len ≡ old → new ≡ own → all ≡ own + rest → old + all ≤ cap → len + new ≤ cap
+fits_in old own len new all rest cap is same left room = omega (arith, is, same, left, room)
+
+fits_still : (old own new made all rest cap more : ℕ) → new ≡ old + made → made ≡ own → all ≡ own + rest → cap ≤ more → old + all ≤ cap → new + rest ≤ more
+fits_still old own new made all rest cap more len count left capacity room = omega (arith, len, count, left, capacity, room)
+
+fits_first : (old all cap : ℕ) → old ≡ 0 → all ≤ cap → old + all ≤ cap
+fits_first old all cap none room = omega (arith, none, room)
+
+summed : (a b p q sum : ℕ) → sum ≡ p + q → b ≡ q → a ≡ p → a + b ≡ sum
+summed a b p q sum is own before = omega (arith, is, own, before)
+
+small_sum : {A : Type 0} (v : Vec ℤ A) (a b p q : ℕ) → failures v.items ≡ p + q → a ≡ p → b ≡ q → Fits w64 (a + b)
+small_sum v a b p q sum before own = omega (arith, sum, before, own, failures-le-length v.items, v.ok.0, v.ok.1, v.small)
+
+not_after : (k n : ℕ) → k ≤ n - 1 → k ≤ n
+not_after k n few = omega (arith, few)
+
+extended : {X E U : Type 0} (r : Result U E) (value : U) (old other own now : List X) → now ≡ (if is_ok r then old ++ other else old) → r ≡ Ok value → other ≡ own → now ≡ old ++ own
+extended r value old other own now is ok same = is ∙ ap (λ r. if is_ok r then old ++ other else old) ok ∙ ap (λ xs. old ++ xs) same
+
+-- what has run, by other names
+runs_on : (start : State) (all left : List Stretch) (during : List (ℕ × Access)) (k : ℕ) (s t : State) (xs ys : List ℤ) (told others : List (List AccessAnswer)) → s ≡ t → xs ≡ ys → told ≡ others → HaveRun start all left during k t ys others → HaveRun start all left during k s xs told
+runs_on start all left during k s t xs ys told others state statuses answers h =
+    subst (λ s. HaveRun start all left during k s xs told) (sym state) (subst (λ xs. HaveRun start all left during k t xs told) (sym statuses) (subst (HaveRun start all left during k t ys) (sym answers) h))
+
+some_after : (k n m : ℕ) → k < n → 0 < n + m
+some_after k n m more = omega (arith, more)
+
+listed : (k n own shown : ℕ) → k < n → shown ≡ n → shown ≡ own → k < own
+listed k n own shown more all same = omega (arith, more, all, same)
+
+one_of : (k n own shown len : ℕ) → k < n → shown ≡ n → shown ≡ own → len ≡ own → k < len
+one_of k n own shown len more all same is = omega (arith, more, all, same, is)
+
+reserved : (k n own len m : ℕ) → k < n → own ≡ k → n ≤ m → len ≡ own → len < m
+reserved k n own len m more queues places is = omega (arith, more, queues, places, is)
 
 pub returns-in_default-clause-moves : goal.returns-in_default-clause-moves
 returns-in_default-clause-moves g c =
@@ -22,14 +69,14 @@ returns-in_default-clause-moves g c =
     let during = shown_during c.args.during.now in
     let few = not_last runs c.loop-k.k c.loop-k-test.true in
     let made = some_run c.args.machine.now (stretches_of runs) (stretches_of (drop c.loop-k.k runs)) during c.loop-k.k c.loop-k.machine c.loop-k.statuses.items _ c.loop-k.invariant.made in
-    let trail = states_are 0 c.args.machine.now (stretches_of runs) during c.loop-k.k c.args.machine.now (omega (arith, few)) in
+    let trail = states_are 0 c.args.machine.now (stretches_of runs) during c.loop-k.k c.args.machine.now (not_after _ _ few) in
     (refl, few, c.in_default.ensures.err ∙ made ∙ sym trail)
 
 pub loop-k-init : goal.loop-k-init
 loop-k-init g c =
     let none = c.in_ok-told.ensures.items in
     record {
-      room = let room = c.requires.room in let empty = ap length c.requires.empty in omega (arith, room, empty);
+      room = fits_first (length c.args.statuses.items) _ _ (ap length c.requires.empty) c.requires.room;
       queues = ap length none;
       places = c.in_ok-told.ensures.capacity;
       nodes = refl;
@@ -49,17 +96,15 @@ unwrap-requires g c =
     let asked = c.index-runs-k.result in
     let n = ap length c.as_slice-in-loop-k.ensures.value ∙ ap length c.in-Ok.ensures.statuses ∙ run_length c.loop-k.machine asked.target asked.wanted.items (map one_lent c.as_slice.result.now) in
     let left = entries_left _ _ asked (next_left c.args.runs.now c.loop-k.k asked c.loop-k-test.true c.index-runs-k.is) in
-    c.extend_from_slice.ensures.succeeds (omega (arith, n, left, c.loop-k.invariant.room))
+    c.extend_from_slice.ensures.succeeds (fits_in _ _ _ _ _ _ _ c.loop-k.statuses.ok.0 n left c.loop-k.invariant.room)
 
 pub overflow_add-failed : goal.overflow_add-failed
 overflow_add-failed g c =
     let old = c.loop-k.statuses.items in
     let new = c.in-Ok.flown.statuses.items in
     let all = c.extend_from_slice.new.self in
-    let items : all.items ≡ old ++ new = grind (arith, c.extend_from_slice.ensures.items, c.unwrap.ensures, c.as_slice-in-loop-k.ensures.value) in
-    let sum = ap failures items ∙ failures-append old new in
-    let most = failures-le-length all.items in
-    omega (arith, sum, most, all.ok.0, all.ok.1, all.small, c.loop-k.invariant.failed, c.in-Ok.ensures.failed)
+    let items = extended c.extend_from_slice.result _ old c.as_slice-in-loop-k.result.now new all.items c.extend_from_slice.ensures.items c.unwrap.ensures c.as_slice-in-loop-k.ensures.value in
+    small_sum all _ _ (failures old) (failures new) (ap failures items ∙ failures-append old new) c.loop-k.invariant.failed c.in-Ok.ensures.failed
 
 pub loop-k-preserved : goal.loop-k-preserved
 loop-k-preserved g c =
@@ -73,7 +118,7 @@ loop-k-preserved g c =
     let few = c.loop-k-test.true in
     let shown = lent_shown {A = g.row.A.Denot} in
     let many = length-map c.in_ok-accesses.accesses.items shown in
-    let there : c.loop-k.k < length c.in_ok-accesses.accesses.items = omega (arith, many, lists.0, few) in
+    let there : c.loop-k.k < length c.in_ok-accesses.accesses.items = listed _ _ _ _ few lists.0 many in
     let these : map one_lent c.as_slice.result.now ≡ own =
     ap (map one_lent) c.as_slice.ensures.value
     ∙ sym (list_there shown c.in_ok-accesses.accesses.items c.loop-k.k c.index.result.now there c.index.ensures) ∙ lists.1 c.loop-k.k few in
@@ -83,7 +128,8 @@ loop-k-preserved g c =
     let statuses = c.in-Ok.ensures.statuses ∙ ap (λ xs. (run s asked.target asked.wanted.items xs).statuses) these in
     let answers : map answer_shown c.in-Ok.flown.answers.items ∷ [] ≡ made.answers =
     c.in-Ok.ensures.answers ∙ ap (λ xs. (run s asked.target asked.wanted.items xs).answers) these in
-    let items : c.extend_from_slice.new.self.items ≡ c.loop-k.statuses.items ++ made.statuses = grind (arith, c.extend_from_slice.ensures.items, c.unwrap.ensures, c.as_slice-in-loop-k.ensures.value, statuses) in
+    let items : c.extend_from_slice.new.self.items ≡ c.loop-k.statuses.items ++ made.statuses =
+    extended c.extend_from_slice.result _ c.loop-k.statuses.items c.as_slice-in-loop-k.result.now made.statuses c.extend_from_slice.new.self.items c.extend_from_slice.ensures.items c.unwrap.ensures (c.as_slice-in-loop-k.ensures.value ∙ statuses) in
     let queues : map left_shown c.push_reserved.new.self.items ≡ map left_shown c.loop-k.told.items ++ made.answers =
     ap (map left_shown) c.push_reserved.ensures.items ∙ map-append left_shown c.loop-k.told.items (c.into_iter.result ∷ [])
     ∙ ap (λ xs. map left_shown c.loop-k.told.items ++ map answer_shown xs ∷ []) c.into_iter.ensures.rest
@@ -94,19 +140,19 @@ loop-k-preserved g c =
     let count = run_length s asked.target asked.wanted.items own in
     let more = ap length c.push_reserved.ensures.items ∙ length-append c.loop-k.told.items (c.into_iter.result ∷ []) in
     record {
-      room = omega (arith, len, count, left, c.extend_from_slice.ensures.capacity, c.loop-k.invariant.room);
-      queues = omega (arith, more, c.loop-k.invariant.queues);
-      places = omega (arith, c.push_reserved.ensures.capacity, c.loop-k.invariant.places);
+      room = fits_still _ _ _ _ _ _ _ _ len count left c.extend_from_slice.ensures.capacity c.loop-k.invariant.room;
+      queues = more ∙ ap (λ n. n + 1) c.loop-k.invariant.queues;
+      places = subst (λ n. length runs ≤ n) (sym c.push_reserved.ensures.capacity) c.loop-k.invariant.places;
       nodes = ap (λ s. node_count s.layout) state ∙ ap node_count (run_layout s asked.target asked.wanted.items own) ∙ c.loop-k.invariant.nodes;
-      failed = omega (arith, sum, failed, c.loop-k.invariant.failed);
-      made = rw state (rw items (rw queues (one_more_run c.args.machine.now (stretches_of runs) (stretches_of (drop c.loop-k.k runs)) during c.loop-k.k s c.loop-k.statuses.items (map left_shown c.loop-k.told.items) (record { target = asked.target; wanted = asked.wanted.items }) (stretches_of (drop (c.loop-k.k + 1) runs)) (ap stretches_of next) c.loop-k.invariant.made)));
+      failed = summed _ _ _ _ _ sum failed c.loop-k.invariant.failed;
+      made = runs_on c.args.machine.now (stretches_of runs) (stretches_of (drop (c.loop-k.k + 1) runs)) during (c.loop-k.k + 1) _ _ _ _ _ _ state items queues (one_more_run c.args.machine.now (stretches_of runs) (stretches_of (drop c.loop-k.k runs)) during c.loop-k.k s c.loop-k.statuses.items (map left_shown c.loop-k.told.items) (record { target = asked.target; wanted = asked.wanted.items }) (stretches_of (drop (c.loop-k.k + 1) runs)) (ap stretches_of next) c.loop-k.invariant.made);
     }
 
 pub returns-clause-moves : goal.returns-clause-moves
 returns-clause-moves g c =
     let runs = c.args.runs.now in
     let during = shown_during c.args.during.now in
-    let none = drop_all c.loop-k.k runs (omega (arith, c.loop-k-test.false)) in
+    let none = drop_all c.loop-k.k runs c.loop-k-test.false in
     let made = all_run c.args.machine.now (stretches_of runs) (stretches_of (drop c.loop-k.k runs)) during c.loop-k.k c.loop-k.machine c.loop-k.statuses.items (map left_shown c.loop-k.told.items) (ap stretches_of none) c.loop-k.invariant.made in
     (made.0, c.loop-k.invariant.failed ∙ ap failures made.0, c.in_order.ensures ∙ ap (in_order (keys_of during)) made.1, made.2)
 
@@ -118,3 +164,32 @@ returns-in_err-told-clause-moves g c = none_moved _ _ _ _ c.from_residual-in_err
 
 pub returns-in_err-answers-clause-moves : goal.returns-in_err-answers-clause-moves
 returns-in_err-answers-clause-moves g c = none_moved _ _ _ _ c.from_residual-in_err-answers.ensures.1
+
+pub returns-in_err-accesses-clause-asked : goal.returns-in_err-accesses-clause-asked
+returns-in_err-accesses-clause-asked g c = on_err c.from_residual.result (some_first _ _ c.in_err-accesses.ensures.asked)
+
+pub returns-in_err-told-clause-asked : goal.returns-in_err-told-clause-asked
+returns-in_err-told-clause-asked g c = on_err c.from_residual-in_err-told.result (some_first _ _ (takes_some _ c.in_err-told.ensures.succeeds))
+
+pub returns-in_err-answers-clause-asked : goal.returns-in_err-answers-clause-asked
+returns-in_err-answers-clause-asked g c = on_err c.from_residual-in_err-answers.result (some_last _ _ (takes_some _ c.in_err-answers.ensures.succeeds))
+
+pub index-requires : goal.index-requires
+index-requires g c =
+    let lists = c.in_ok-accesses.accesses.items in
+    one_of _ _ (length lists) _ _ c.loop-k-test.true c.in_ok-accesses.ensures.lists.0 (length-map lists (lent_shown {A = g.row.A.Denot})) c.in_ok-accesses.accesses.ok.0
+
+pub returns-in_default-clause-asked : goal.returns-in_default-clause-asked
+returns-in_default-clause-asked g c = some_after _ _ _ c.loop-k-test.true
+
+pub push_reserved-requires : goal.push_reserved-requires
+push_reserved-requires g c = reserved _ _ _ _ _ c.loop-k-test.true c.loop-k.invariant.queues c.loop-k.invariant.places c.loop-k.told.ok.0
+
+pub in_order-requires-clause-empty : goal.in_order-requires-clause-empty
+in_order-requires-clause-empty g c κs within = c.in_ok-answers.ensures.items
+
+pub in_order-requires-clause-room : goal.in_order-requires-clause-room
+in_order-requires-clause-room g c κs within = c.in_ok-answers.ensures.capacity
+
+pub returns-clause-asked : goal.returns-clause-asked
+returns-clause-asked g c = tt

@@ -1,7 +1,9 @@
-use Rattle.std.proofs.Common.{◌++◌, [], ◌∷◌, map, take, ap, sym, ◌∙◌}
-use Rattle.std.proofs.lemmas.List.{map_more, map_push}
+use Rattle.std.proofs.Common.{arith, ◌++◌, [], ◌∷◌, map, take, ap, sym, ◌∙◌}
+use Rattle.std.proofs.lemmas.List.{map_more, map_push, take_all}
+use Rattle.std.proofs.lemmas.Result.{IfOk-from_err}
 use Rattle.std.specs.Prelude.{string_bytes}
 use Rattle.nm_calls.specs.definitions.Maps.{area_text, lines_shown}
+use Rattle.nm_calls.proofs.Batches.Results.{on_err}
 use Rattle.nm_calls.proofs.maps.areas_text.Goals as goal
 
 pub loop-area-preserved : goal.loop-area-preserved
@@ -13,3 +15,24 @@ loop-area-preserved g c =
     ∙ ap (λ l. l ++ string_bytes text ∷ []) c.loop-area.invariant
     ∙ ap (λ bytes. map show so_far ++ bytes ∷ []) c.in_ok-area_text.ensures
     ∙ sym (map_more show c.args.areas.now c.loop-area.area-index c.area-item.result c.loop-area-test.true ∙ ap (λ area. map show so_far ++ show area ∷ []) (sym c.area-item.is))
+
+pub returns-in_err-lines-clause-list : goal.returns-in_err-lines-clause-list
+returns-in_err-lines-clause-list g c = IfOk-from_err _ _ c.from_residual.ensures.0
+
+pub loop-area-init : goal.loop-area-init
+loop-area-init g c = ap lines_shown c.in_ok-lines.ensures.items
+
+pub returns-in_err-area_text-clause-list : goal.returns-in_err-area_text-clause-list
+returns-in_err-area_text-clause-list g c = IfOk-from_err _ _ c.from_residual-in_err-area_text.ensures.0
+
+pub returns-in_err-area_text-clause-asked : goal.returns-in_err-area_text-clause-asked
+returns-in_err-area_text-clause-asked g c = on_err c.from_residual-in_err-area_text.result (omega (arith, c.loop-area-test.true))
+
+pub returns-in_err-push-clause-list : goal.returns-in_err-push-clause-list
+returns-in_err-push-clause-list g c = IfOk-from_err _ _ c.from_residual-in_err-push.ensures.0
+
+pub returns-in_err-push-clause-asked : goal.returns-in_err-push-clause-asked
+returns-in_err-push-clause-asked g c = on_err c.from_residual-in_err-push.result (omega (arith, c.loop-area-test.true))
+
+pub returns-clause-list : goal.returns-clause-list
+returns-clause-list g c = c.loop-area.invariant ∙ ap (map (area_text c.args.machine.now c.args.pid)) (take_all c.loop-area.area-index c.args.areas.now (omega (arith, c.loop-area-test.false)))

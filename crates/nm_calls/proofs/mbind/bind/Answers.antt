@@ -1,5 +1,6 @@
-use Rattle.std.proofs.Common.{◌<◌, ◌&&◌, List, [], length, true, inl, ap, subst, refl, sym, ◌∙◌}
+use Rattle.std.proofs.Common.{arith, ◌≡◌, ◌≤◌, ℕ, Result, Ok, Err, IsErrAnd, ◌<◌, ◌&&◌, List, [], length, true, inl, ap, subst, refl, sym, ◌∙◌}
 use Rattle.std.specs.List.{list_any}
+use Rattle.nm_types.specs.Layout.{node_count}
 use Rattle.nm_types.specs.State.{State}
 use Rattle.nm_model.specs.definitions.Areas.{with_policy}
 use Rattle.nm_model.specs.definitions.Cut.{Stretch}
@@ -7,10 +8,31 @@ use Rattle.nm_model.specs.definitions.Effect.{areas_of, set_policy, with_areas_o
 use Rattle.nm_model.specs.definitions.Run.{runs_from}
 use Rattle.nm_calls.specs.definitions.Mbind.{home_of, is_stray, is_strict, mbind_runs, runs_by}
 use Rattle.nm_calls.specs.definitions.Permission.{info_at, moves_all}
-use Rattle.nm_calls.specs.views.Runs.{runs_in, Stops}
+use Rattle.nm_calls.specs.declared.call_error.CallError.{CallError}
+use Rattle.nm_calls.specs.declared.mbind.Binding.{Binding}
+use Rattle.nm_calls.specs.views.Errors.{out_of_memory}
+use Rattle.nm_calls.specs.views.Runs.{runs_in, Binds, CanGo, Fails, Stops}
 use Rattle.nm_calls.proofs.Policies.Late.{flag_is, late_is, stops_fail}
 use Rattle.nm_calls.proofs.Policies.NoBytes.{listed_moves, runs_some, stops_some}
 use Rattle.nm_calls.proofs.mbind.bind.Goals as goal
+
+-- no memory before the policy is set
+none_bound : {T : Type 0} (r : Result T CallError) (s set : State) (b : Binding) (runs : List Stretch) (flags : ℕ) → IsErrAnd r (λ e. e ≡ out_of_memory 0) → Binds r s set s b runs flags
+none_bound (Ok x) s set b runs flags h = absurd h
+none_bound (Err e) s set b runs flags h = subst (λ e. Fails e s set s b runs flags) (sym h) (inl (refl, refl, refl))
+
+few_of : (n m k most : ℕ) → n ≡ m → m ≤ k → k ≤ most → n ≤ most
+few_of n m k most same few small = omega (arith, same, few, small)
+
+pub returns-in_err-pages-clause-bound : goal.returns-in_err-pages-clause-bound
+returns-in_err-pages-clause-bound g c = none_bound c.from_residual.result _ _ _ _ _ c.from_residual.ensures.1
+
+pub returns-in_err-way-clause-bound : goal.returns-in_err-way-clause-bound
+returns-in_err-way-clause-bound g c = none_bound c.from_residual-in_err-way.result _ _ _ _ _ c.from_residual-in_err-way.ensures.1
+
+pub make-requires-clause-can_go : goal.make-requires-clause-can_go
+make-requires-clause-can_go g c κs within =
+    subst (λ (t : State). CanGo (node_count t.layout) c.in_ok-way.way) (sym c.in_ok-set_policy.ensures.done.1) c.in_ok-way.ensures.can_go
 
 pub returns-in-Err-clause-asked : goal.returns-in-Err-clause-asked
 returns-in-Err-clause-asked g c = λ runs policy_set is.
@@ -84,3 +106,24 @@ returns-clause-bound g c =
     ∙ ap (λ ps. is_strict flags && list_any (is_stray end b.policy) ps) (sym (c.as_slice-2.ensures.value ∙ c.in_ok-pages.ensures.list))
     ∙ ap (λ (t : State). is_strict flags && list_any (is_stray t b.policy) c.as_slice-2.result.now) (sym made) in
     (late ∙ sym c.is_late.ensures ∙ c.if-is_late.false, made)
+
+pub way_of-requires-clause-nodes : goal.way_of-requires-clause-nodes
+way_of-requires-clause-nodes g c κs within = c.requires.nodes
+
+pub way_of-requires-clause-few : goal.way_of-requires-clause-few
+way_of-requires-clause-few g c κs within = few_of _ _ _ _ (ap length c.as_slice.ensures.value) c.in_ok-pages.ensures.few c.requires.few
+
+pub make-requires-clause-some : goal.make-requires-clause-some
+make-requires-clause-some g c κs within = c.requires.some
+
+pub returns-in_err-pages-clause-asked : goal.returns-in_err-pages-clause-asked
+returns-in_err-pages-clause-asked g c = λ runs policy_set is. inl c.in_err-pages.ensures.asked
+
+pub returns-in_err-way-clause-asked : goal.returns-in_err-way-clause-asked
+returns-in_err-way-clause-asked g c = λ runs policy_set is. inl (listed_moves c.args.machine.now c.args.binding.now c.args.asked.flags (subst (λ ps. 0 < length ps) (c.as_slice.ensures.value ∙ c.in_ok-pages.ensures.list) c.in_err-way.ensures.asked))
+
+pub returns-then-is_late-clause-asked : goal.returns-then-is_late-clause-asked
+returns-then-is_late-clause-asked g c = λ runs policy_set is. absurd (cc is)
+
+pub returns-clause-asked : goal.returns-clause-asked
+returns-clause-asked g c = λ runs policy_set is. absurd (cc is)

@@ -1,8 +1,10 @@
-use Rattle.std.proofs.Common.{arith, ◌≡◌, w32, to_z, of_z, ℕ, ℤ, ◌++◌, [], ◌∷◌, get_or, ap, sym, ◌∙◌}
+use Rattle.std.proofs.Common.{arith, ◌≡◌, w32, to_z, of_z, ℕ, ℤ, ◌++◌, [], ◌∷◌, get_or, map, ap, sym, ◌∙◌}
 use Rattle.std.proofs.lemmas.Int.{to_z-of_z}
 use Rattle.std.specs.Prelude.{◌/◌}
-use Rattle.std.proofs.lemmas.List.{map_more}
+use Rattle.std.proofs.lemmas.List.{map_more, take_all}
+use Rattle.std.proofs.lemmas.Result.{IfOk-from_err}
 use Rattle.nm_model.specs.definitions.Status.{node_status}
+use Rattle.nm_calls.proofs.Batches.Results.{on_err}
 use Rattle.nm_calls.proofs.status.statuses_of.Goals as goal
 
 pub loop-address-preserved : goal.loop-address-preserved
@@ -14,3 +16,20 @@ loop-address-preserved g c =
     ∙ ap (λ z. c.loop-address.statuses.items ++ z ∷ []) (told ∙ c.node_status-status.ensures ∙ ap (node_status c.args.machine.now c.args.pid) c.of_address.ensures)
     ∙ ap (λ l. l ++ status address ∷ []) c.loop-address.invariant
     ∙ sym (map_more status c.args.pages.now c.loop-address.address-index 0 c.loop-address-test.true)
+
+pub returns-in_err-statuses-clause-list : goal.returns-in_err-statuses-clause-list
+returns-in_err-statuses-clause-list g c = IfOk-from_err _ _ c.from_residual.ensures.0
+
+pub loop-address-init : goal.loop-address-init
+loop-address-init g c = c.in_ok-statuses.ensures.items
+
+pub returns-in_err-push-clause-list : goal.returns-in_err-push-clause-list
+returns-in_err-push-clause-list g c = IfOk-from_err _ _ c.from_residual-in_err-push.ensures.0
+
+pub returns-in_err-push-clause-asked : goal.returns-in_err-push-clause-asked
+returns-in_err-push-clause-asked g c = on_err c.from_residual-in_err-push.result (omega (arith, c.loop-address-test.true))
+
+pub returns-clause-list : goal.returns-clause-list
+returns-clause-list g c =
+    let status : ℕ → ℤ = λ address. node_status c.args.machine.now c.args.pid (address / 4096) in
+    c.loop-address.invariant ∙ ap (map status) (take_all c.loop-address.address-index c.args.pages.now (omega (arith, c.loop-address-test.false)))

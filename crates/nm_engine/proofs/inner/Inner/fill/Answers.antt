@@ -1,19 +1,22 @@
-use Rattle.std.proofs.Common.{◌≡◌, ◌<◌, ◌∙◌, refl, sym, ap, subst, Some, None, Ok}
-use Rattle.std.specs.Prelude.{slice_get}
+use Rattle.std.proofs.Common.{◌≡◌, ◌<◌, ◌∙◌, refl, sym, ap, subst, Some, None, Ok, Err}
+use Rattle.std.specs.Prelude.{Option, IsSome, slice_get}
 use Rattle.std.specs.Result.{result_err}
 use Rattle.std.specs.Ordering.{nat_cmp}
 use Rattle.nm_types.specs.declared.page.Page.{Page}
 use Rattle.nm_types.specs.declared.sight.Sight.TheVariants.{Sees}
 use Rattle.nm_types.specs.Map.{get, page_cmp}
+use Rattle.nm_types.specs.State.{Process, State, Placed, page_of, page_shown}
+use Rattle.nm_types.specs.declared.errno.Errno.TheVariants.{Enomem}
+use Rattle.nm_engine.specs.declared.inner.resolved_address.ResolvedAddress.{ResolvedAddress}
 use Rattle.nm_model.specs.definitions.Seen.{sight_in, sight_at}
 use Rattle.nm_model.specs.definitions.Order.{first_touch_order}
-use Rattle.nm_model.specs.definitions.Touch.{filled, first_free}
-use Rattle.nm_types.specs.Layout.{frame_count}
+use Rattle.nm_model.specs.definitions.Touch.{allocated, filled, first_free}
+use Rattle.nm_types.specs.Layout.{frame_count, node_count}
 use Rattle.nm_frames.specs.Populated.{IsPopulated}
 use Rattle.nm_spaces.specs.views.AddressSpaces.{AddressSpacesView, table_of, with_new_page}
 use Rattle.nm_memory.specs.views.Frames.{FramesView, free_on}
 use Rattle.nm_engine.specs.views.Shown.{shown, shown_by, paged_frames}
-use Rattle.nm_engine.specs.views.MidRun.{MidRun, IsKept, IsSiteOf, access_site}
+use Rattle.nm_engine.specs.views.MidRun.{MidRun, IsKept, IsSiteOf, access_site, with_state}
 use Rattle.nm_model.specs.definitions.Seen.{frame_of}
 use Rattle.nm_engine.proofs.Shown.BothParts.{kept_stocked, front_spare, stocked_both}
 use Rattle.nm_engine.proofs.Shown.PopulatedFrames.{same_shown, kept_again, view_again}
@@ -140,3 +143,55 @@ returns-in_err-allocate-clause-memory g c p a known =
     may_ask c.from_residual-in_err-allocate.result _
     (ap (λ (y : MidRun). result_err (filled y.state (access_site c.args.t p a))) (sym c.self.view_is)
     ∙ ap result_err (filled_is i.spaces.processes (table_of i.spaces) (paged_frames i.spaces i.frames) i.online i.totals.moved i.totals.failed _ c.args.t p a c.self.invariant touched c.in-Some.node found))
+
+pub take_front-requires : goal.take_front-requires
+take_front-requires g c =
+    let found = inside _ _ _ _ c.self.view_is (λ s. first_free s.free (first_touch_order s.layout s.online c.args.t.info.home c.args.t.info.allowed c.args.t.policy c.args.t.page.index) ≡ Some c.in-Some.node) (sym c.first_node.ensures ∙ c.in-Some.is) in
+    subst (λ (k : FramesView). c.in-Some.node < node_count k.layout) (sym c.in_ok-populate.ensures.same)
+    (subst (λ n. c.in-Some.node < n) c.self.invariant.sound.frames.lists (short_list c.self.inside.frames.free c.in-Some.node (found_free c.self.inside.frames.free _ c.in-Some.node found)))
+
+-- frames that keep what a run has left, and the room for more, show the same but for the state
+same_but : (s before : State) (k old : FramesView) (now : MidRun) → k.vacated ≡ old.vacated → k.room ≡ old.room → record { state = before; left = old.vacated; room = old.room } ≡ now
+    → record { state = s; left = k.vacated; room = k.room } ≡ with_state now s
+same_but s before k old now left room is = (λ i. record { state = s; left = left i; room = room i }) ∙ ap (λ (y : MidRun). with_state y s) is
+
+pub returns-clause-same : goal.returns-clause-same
+returns-clause-same g c =
+    let left : c.zero.new.self.vacated ≡ c.self.inside.frames.vacated = ap (λ (k : FramesView). k.vacated) c.zero.ensures ∙ ap (λ (k : FramesView). k.vacated) c.take_front.ensures.rest ∙ ap (λ (k : FramesView). k.vacated) c.in_ok-populate.ensures.same in
+    let room : c.zero.new.self.room ≡ c.self.inside.frames.room = ap (λ (k : FramesView). k.room) c.zero.ensures ∙ ap (λ (k : FramesView). k.room) c.take_front.ensures.rest ∙ ap (λ (k : FramesView). k.room) c.in_ok-populate.ensures.same in
+    same_but _ _ c.zero.new.self c.self.inside.frames c.args.self.now left room c.self.view_is
+
+pub returns-in_err-allocate-clause-same : goal.returns-in_err-allocate-clause-same
+returns-in_err-allocate-clause-same g c =
+    same_but _ _ c.populate.new.self c.self.inside.frames c.args.self.now (ap (λ (k : FramesView). k.vacated) c.in_ok-populate.ensures.same) (ap (λ (k : FramesView). k.room) c.in_ok-populate.ensures.same) c.self.view_is
+
+pub returns-in_err-populate-clause-same : goal.returns-in_err-populate-clause-same
+returns-in_err-populate-clause-same g c =
+    same_but _ _ c.populate.new.self c.self.inside.frames c.args.self.now (ap (λ (k : FramesView). k.vacated) c.in_err-populate.ensures.same) (ap (λ (k : FramesView). k.room) c.in_err-populate.ensures.same) c.self.view_is
+
+pub allocate-requires-clause-unplaced : goal.allocate-requires-clause-unplaced
+allocate-requires-clause-unplaced g c = inside _ _ _ _ c.self.view_is (λ s. get page_cmp s.place c.args.t.page ≡ None) c.requires.unplaced
+
+pub allocate-requires-clause-unseen : goal.allocate-requires-clause-unseen
+allocate-requires-clause-unseen g c = inside _ _ _ _ c.self.view_is (λ s. (q : Page) → sight_at s c.args.t.pid c.args.t.vpn ≡ Some (Sees q) → ⊥) c.requires.unseen
+
+pub allocate-requires-clause-known : goal.allocate-requires-clause-known
+allocate-requires-clause-known g c =
+    let touched = inside _ _ _ _ c.self.view_is (λ s. IsSiteOf s c.args.t c.requires.touched.0 c.requires.touched.1) c.requires.touched.2 in
+    subst (λ (o : Option Process). IsSome o) (sym touched.known) refl
+
+pub allocate-requires-clause-shown : goal.allocate-requires-clause-shown
+allocate-requires-clause-shown g c =
+    let touched = inside _ _ _ _ c.self.view_is (λ s. IsSiteOf s c.args.t c.requires.touched.0 c.requires.touched.1) c.requires.touched.2 in
+    ap (λ (o : Option Placed). page_shown o c.args.t.vpn) touched.over ∙ ap Some touched.page
+
+-- no node has a free frame
+none_free : (s : State) (t : ResolvedAddress) (p : Process) (a : Placed) → IsSiteOf s t p a → first_free s.free (first_touch_order s.layout s.online t.info.home t.info.allowed t.policy t.page.index) ≡ None
+    → filled s (access_site t p a) ≡ Err Enomem
+none_free s t p a h none =
+    let order : first_touch_order s.layout s.online p.home p.allowed a.1.policy (page_of a t.vpn).index ≡ first_touch_order s.layout s.online t.info.home t.info.allowed t.policy t.page.index =
+    λ i. first_touch_order s.layout s.online (h.info i).home (h.info i).allowed (h.policy i) (h.page i).index in
+    ap (allocated s (access_site t p a)) (ap (first_free s.free) order ∙ none)
+
+pub returns-in_default-clause-touches : goal.returns-in_default-clause-touches
+returns-in_default-clause-touches g c p a known = (none_free c.args.self.now.state c.args.t p a known (sym c.first_node.ensures ∙ c.in_default.is), refl)

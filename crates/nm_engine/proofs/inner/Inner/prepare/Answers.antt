@@ -151,3 +151,6 @@ pub returns-then-is_empty-clause-len : goal.returns-then-is_empty-clause-len
 returns-then-is_empty-clause-len g c =
     let none = no_access c.args.accesses.now (sym c.if-is_empty.true ∙ c.is_empty.ensures) in
     c.in_ok-dues.ensures.len ∙ ap (λ xs. length xs) (sym none)
+
+pub returns-in-Err-clause-asked : goal.returns-in-Err-clause-asked
+returns-in-Err-clause-asked g c = omega (arith, c.loop-access-test.true)

@@ -1,4 +1,4 @@
-use Rattle.std.proofs.Common.{◌≡◌, ℕ, List, Ok, ◌++◌, ◌%◌, ap, sym, subst, ◌∙◌}
+use Rattle.std.proofs.Common.{◌≡◌, ℕ, List, Ok, ◌++◌, ◌%◌, refl, ap, sym, subst, ◌∙◌, arith}
 use Rattle.std.specs.Prelude.{Option, Some, IfNone, replicate}
 use Rattle.std.specs.List.{list_any}
 use Rattle.nm_types.specs.declared.sight.Sight.TheVariants.{ZeroPage}
@@ -6,10 +6,10 @@ use Rattle.nm_types.specs.Map.{same_page}
 use Rattle.nm_types.specs.State.{State}
 use Rattle.nm_model.specs.definitions.Seen.{sight_at}
 use Rattle.nm_model.specs.definitions.BeforeCopy.{BeforeCopy, Known, ToRead, pending_read}
-use Rattle.nm_model.specs.definitions.Touch.{Bytes}
+use Rattle.nm_model.specs.definitions.Touch.{Bytes, Refused}
 use Rattle.nm_engine.specs.views.MidRun.{with_state}
 use Rattle.nm_model.specs.definitions.Seen.{frame_seen}
-use Rattle.nm_engine.proofs.InFlight.PendingAccesses.{read_due, read_refused, read_held, read_goes}
+use Rattle.nm_engine.proofs.InFlight.PendingAccesses.{read_due, read_refused, read_held, read_goes, read_turned_down}
 use Rattle.nm_engine.proofs.Undo.Touches.{touches_err}
 use Rattle.std.specs.Result.{result_err}
 use Rattle.nm_model.specs.definitions.Touch.{is_held}
@@ -88,3 +88,56 @@ returns-clause-asked g c =
     let there = c.in-Ok.ensures.ok in
     let free = ap (λ p. list_any (same_page p) c.args.moving.now.keys) there.3.page ∙ sym c.contains.ensures ∙ c.if-contains.false in
     (ap result_err there.2, ap (is_held c.args.moving.now.keys) there.2 ∙ free)
+
+pub touch_noted-requires : goal.touch_noted-requires
+touch_noted-requires g c = let there = c.in-Ok.ensures.ok in (there.0, there.1, there.3)
+
+pub push_zeros-requires : goal.push_zeros-requires
+push_zeros-requires g c = omega (arith, c.in_ok-bytes.ensures.len, c.in_ok-bytes.ensures.capacity)
+
+pub returns-in-Err-Refused-clause-state : goal.returns-in-Err-Refused-clause-state
+returns-in-Err-Refused-clause-state g c =
+    let there = c.in-Ok.ensures.ok in
+    let free = ap (λ p. list_any (same_page p) c.args.moving.now.keys) there.3.page ∙ sym c.contains.ensures ∙ c.if-contains.false in
+    let goes = read_turned_down c.args.self.now.state c.args.moving.now.keys c.touch_noted.new.self.state c.args.pid c.args.addr c.args.len _ c.in-Err-Refused.field-0 c.in-Err-Refused.error there.2 free c.in-Err-Refused.field-0-is (c.in-Err-Refused.ensures.touches there.0 there.1 there.3) in
+    goes.0 ∙ sym (ap (λ (e : BeforeCopy). e.state) goes.1)
+
+pub returns-in-Err-Refused-clause-due : goal.returns-in-Err-Refused-clause-due
+returns-in-Err-Refused-clause-due g c =
+    let there = c.in-Ok.ensures.ok in
+    let free = ap (λ p. list_any (same_page p) c.args.moving.now.keys) there.3.page ∙ sym c.contains.ensures ∙ c.if-contains.false in
+    let goes = read_turned_down c.args.self.now.state c.args.moving.now.keys c.touch_noted.new.self.state c.args.pid c.args.addr c.args.len _ c.in-Err-Refused.field-0 c.in-Err-Refused.error there.2 free c.in-Err-Refused.field-0-is (c.in-Err-Refused.ensures.touches there.0 there.1 there.3) in
+    ap (λ e. Known (Refused e)) c.in-Err-Refused.error-is ∙ sym (ap (λ (e : BeforeCopy). e.due) goes.1)
+
+pub returns-in-Ok-Some-clause-room : goal.returns-in-Ok-Some-clause-room
+returns-in-Ok-Some-clause-room g c = (c.in_ok-bytes.ensures.items, c.in_ok-bytes.ensures.capacity)
+
+pub returns-in-Ok-Some-clause-same : goal.returns-in-Ok-Some-clause-same
+returns-in-Ok-Some-clause-same g c = c.in-Ok-Some.ensures.same
+
+pub returns-in-Ok-None-clause-same : goal.returns-in-Ok-None-clause-same
+returns-in-Ok-None-clause-same g c = c.in-Ok-None.ensures.same
+
+pub returns-in-Err-Refused-clause-same : goal.returns-in-Err-Refused-clause-same
+returns-in-Err-Refused-clause-same g c = c.in-Err-Refused.ensures.same
+
+pub returns-clause-same : goal.returns-clause-same
+returns-clause-same g c = c.in-Err-HostMemory.ensures.same
+
+pub returns-in-Ok-Some-clause-back : goal.returns-in-Ok-Some-clause-back
+returns-in-Ok-Some-clause-back g c = c.in-Ok-Some.ensures.back
+
+pub returns-in-Ok-None-clause-back : goal.returns-in-Ok-None-clause-back
+returns-in-Ok-None-clause-back g c = c.in-Ok-None.ensures.back
+
+pub returns-in-Err-Refused-clause-back : goal.returns-in-Err-Refused-clause-back
+returns-in-Err-Refused-clause-back g c = c.in-Err-Refused.ensures.back
+
+pub returns-clause-back : goal.returns-clause-back
+returns-clause-back g c = c.in-Err-HostMemory.ensures.back
+
+pub returns-then-contains-clause-back : goal.returns-then-contains-clause-back
+returns-then-contains-clause-back g c can = (can, refl)
+
+pub returns-in-Err-clause-back : goal.returns-in-Err-clause-back
+returns-in-Err-clause-back g c can = (can, refl)

@@ -286,3 +286,36 @@ returns-in_err-see_zero-in-None-clause-zero g c = on_any c.from_residual-in_err-
 
 pub returns-in_err-join-in-None-clause-zero : goal.returns-in_err-join-in-None-clause-zero
 returns-in_err-join-in-None-clause-zero g c = on_any c.from_residual-in_err-join-in-None.result (λ reads sees. absurd (none_some (sym (outside _ _ _ _ c.self.view_is (λ z. sight_at z c.args.t.pid c.args.t.vpn ≡ None) (sym c.sight.ensures ∙ c.in-None.is)) ∙ sees)))
+
+pub returns-in_ok-see_zero-in-None-clause-some : goal.returns-in_ok-see_zero-in-None-clause-some
+returns-in_ok-see_zero-in-None-clause-some g c writes = sym c.if-writes-2.false ∙ writes
+
+pub returns-in_ok-fill-in-None-clause-frame : goal.returns-in_ok-fill-in-None-clause-frame
+returns-in_ok-fill-in-None-clause-frame g c = sym c.in_ok-fill-in-None.ensures.frame
+
+pub returns-in_ok-join-in-None-clause-frame : goal.returns-in_ok-join-in-None-clause-frame
+returns-in_ok-join-in-None-clause-frame g c = sym c.in_ok-join-in-None.ensures.frame
+
+pub returns-in_ok-fill-in-Some-ZeroPage-clause-frame : goal.returns-in_ok-fill-in-Some-ZeroPage-clause-frame
+returns-in_ok-fill-in-Some-ZeroPage-clause-frame g c = sym c.in_ok-fill-in-Some-ZeroPage.ensures.frame
+
+pub returns-else-writes-clause-zeros : goal.returns-else-writes-clause-zeros
+returns-else-writes-clause-zeros g c = outside _ _ _ _ c.self.view_is (λ z. sight_at z c.args.t.pid c.args.t.vpn ≡ Some ZeroPage) (sym c.sight.ensures ∙ c.in-Some-ZeroPage.is ∙ ap Some c.in-Some-ZeroPage.field-0-is)
+
+pub returns-in_ok-fill-in-None-clause-same : goal.returns-in_ok-fill-in-None-clause-same
+returns-in_ok-fill-in-None-clause-same g c = c.in_ok-fill-in-None.ensures.same
+
+pub returns-in_ok-join-in-None-clause-same : goal.returns-in_ok-join-in-None-clause-same
+returns-in_ok-join-in-None-clause-same g c = c.in_ok-join-in-None.ensures.same
+
+pub returns-in_ok-fill-in-Some-ZeroPage-clause-same : goal.returns-in_ok-fill-in-Some-ZeroPage-clause-same
+returns-in_ok-fill-in-Some-ZeroPage-clause-same g c = c.in_ok-fill-in-Some-ZeroPage.ensures.same
+
+pub returns-in_err-fill-in-None-clause-same : goal.returns-in_err-fill-in-None-clause-same
+returns-in_err-fill-in-None-clause-same g c = c.in_err-fill-in-None.ensures.same
+
+pub returns-in_err-join-in-None-clause-same : goal.returns-in_err-join-in-None-clause-same
+returns-in_err-join-in-None-clause-same g c = c.in_err-join-in-None.ensures.same
+
+pub returns-in_err-fill-in-Some-ZeroPage-clause-same : goal.returns-in_err-fill-in-Some-ZeroPage-clause-same
+returns-in_err-fill-in-Some-ZeroPage-clause-same g c = c.in_err-fill-in-Some-ZeroPage.ensures.same

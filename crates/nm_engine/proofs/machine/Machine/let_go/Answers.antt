@@ -1,8 +1,14 @@
-use Rattle.std.proofs.Common.{◌+◌, ◌/◌, List, ℕ, refl, ap, sym, subst, ◌∙◌, arith}
+use Rattle.std.proofs.Common.{◌+◌, ◌/◌, ◌<◌, List, ℕ, length, refl, ap, sym, subst, ◌∙◌, arith}
+use Rattle.std.specs.Prelude.{◌⊎◌}
 use Rattle.nm_types.specs.declared.page.Page.{Page}
 use Rattle.nm_model.specs.definitions.Effect.{dropped}
 use Rattle.nm_memory.specs.views.Frames.{pool_of, CanFree}
 use Rattle.nm_types.specs.State.{State}
+use Rattle.nm_areas.specs.Splits.{HasSplit}
+use Rattle.nm_spaces.specs.views.AddressSpaces.{AddressSpacesView}
+use Rattle.nm_engine.specs.views.Shown.{shown_by}
+use Rattle.nm_engine.specs.views.MidRun.{IsKept}
+use Rattle.nm_engine.proofs.inner.HandedOn.{error_was, not_lacking}
 use Rattle.nm_engine.proofs.Between.{shows, none_left}
 use Rattle.nm_engine.proofs.MidRun.LostFrames.{frames_of, can_go, gone_shows, gone_kept}
 use Rattle.nm_engine.proofs.machine.Machine.let_go.Goals as goal
@@ -29,3 +35,19 @@ returns-clause-done g c =
           c.self-inside.invariant.sound.pins.same_pages c.in_ok-freed.ensures.ok (c.as_slice.ensures.value ∙ c.in_ok-freed.ensures.freed) c.free_each.ensures
           ∙ ap (λ (s : State). dropped s c.args.pid (c.args.addr / 4096) (c.args.addr / 4096 + c.args.pages)) (shows c.self-inside.view_is c.self.view_is),
     )
+
+pub invariant_of-self-inside : goal.invariant_of-self-inside
+invariant_of-self-inside g c =
+    let i = c.self-inside.inside.0.0 in
+    subst (λ (z : AddressSpacesView). IsKept (shown_by z i.frames i.online i.totals.moved i.totals.failed) i.frames.vacated z.frames) (sym c.in_err-freed.ensures.err) c.self-inside.invariant
+
+pub returns-in_err-freed-clause-needed : goal.returns-in_err-freed-clause-needed
+returns-in_err-freed-clause-needed g c told =
+    subst (λ (s : State). (0 < length s.place) ⊎ HasSplit s.areas c.args.pid (c.args.addr / 4096) ⊎ HasSplit s.areas c.args.pid (c.args.addr / 4096 + c.args.pages)) (shows c.self-inside.view_is c.self.view_is)
+    (c.remove.ensures.needed (error_was c.remove.result c.from_residual.result _ _ c.in_err-freed.was c.from_residual.ensures told))
+
+pub returns-clause-asked : goal.returns-clause-asked
+returns-clause-asked g c told = not_lacking tt told
+
+pub returns-clause-needed : goal.returns-clause-needed
+returns-clause-needed g c told = not_lacking tt told

@@ -132,3 +132,60 @@ returns-in_err-dues-clause-asked g c =
     let t = c.args.requests.now.target in
     let ws = c.args.requests.now.wanted.items in
     err_always c.from_residual-in_err-dues.result (asked_for _ t ws c.in_ok-plan.plan c.moves-moves.result.now (length c.args.accesses.now) c.in_ok-plan.ensures.plan c.moves-moves.ensures c.in_err-dues.ensures.asked)
+
+-- the run's plan, and the state that it is made in, are those of the machine
+pub carry_out-answers-requires-clause-few : goal.carry_out-answers-requires-clause-few
+carry_out-answers-requires-clause-few g c κs within = omega (arith, c.in_ok-dues.ensures.room, c.in_ok-reserve.ensures.room)
+
+pub carry_out-answers-requires-clause-taken : goal.carry_out-answers-requires-clause-taken
+carry_out-answers-requires-clause-taken g c κs within = c.in_ok-dues.ensures.left
+
+pub carry_out-answers-requires-clause-room : goal.carry_out-answers-requires-clause-room
+carry_out-answers-requires-clause-room g c κs within = c.in_ok-dues.ensures.ready
+
+pub carry_out-answers-requires-clause-unanswered : goal.carry_out-answers-requires-clause-unanswered
+carry_out-answers-requires-clause-unanswered g c κs within = c.in_ok-answers.ensures.items
+
+pub carry_out-answers-requires-clause-space : goal.carry_out-answers-requires-clause-space
+carry_out-answers-requires-clause-space g c κs within = omega (arith, c.in_ok-dues.ensures.len, c.in_ok-answers.ensures.capacity)
+
+pub begin-requires-clause-target : goal.begin-requires-clause-target
+begin-requires-clause-target g c =
+    let nodes = ap (λ (x : MidRun). node_count x.state.layout) c.in_ok-reserve.ensures.same ∙ ap (λ (s : State). node_count s.layout) c.self.view_is in
+    omega (arith, nodes, c.requires.target)
+
+pub begin-requires-clause-room : goal.begin-requires-clause-room
+begin-requires-clause-room g c = omega (arith, c.in_ok-reserve.ensures.room)
+
+pub begin-requires-clause-none : goal.begin-requires-clause-none
+begin-requires-clause-none g c = ap (λ (x : MidRun). x.left) c.in_ok-reserve.ensures.same ∙ c.self.invariant
+
+pub begin-requires-clause-moves : goal.begin-requires-clause-moves
+begin-requires-clause-moves g c =
+    let t = c.args.requests.now.target in
+    subst (λ (ms : List Taken). CanMove c.reserve.new.self.state t ms) (sym c.moves-moves.ensures) (subst (λ (x : State). CanMove x t c.in_ok-plan.plan.taken) (sym (ap (λ (x : MidRun). x.state) c.in_ok-reserve.ensures.same)) c.in_ok-plan.ensures.plan.can)
+
+pub invariant_of-self-in_err-answers : goal.invariant_of-self-in_err-answers
+invariant_of-self-in_err-answers g c = ap (λ (x : MidRun). x.left) c.in_ok-reserve.ensures.same ∙ c.self.invariant
+
+pub invariant_of-self-in_err-dues : goal.invariant_of-self-in_err-dues
+invariant_of-self-in_err-dues g c = ap (λ (x : MidRun). x.left) (c.in_err-dues.ensures.err ∙ c.in_ok-reserve.ensures.same) ∙ c.self.invariant
+
+pub returns-clause-statuses : goal.returns-clause-statuses
+returns-clause-statuses g c =
+    let plan = subst (λ (x : State). IsPlanOf x c.args.requests.now.target c.args.requests.now.wanted.items c.in_ok-plan.plan) c.self.view_is c.in_ok-plan.ensures.plan in
+    c.into_statuses.ensures ∙ sym plan.agrees.statuses
+
+pub returns-in_err-reserve-clause-err : goal.returns-in_err-reserve-clause-err
+returns-in_err-reserve-clause-err g c = err_always c.from_residual-in_err-reserve.result (ap (λ (x : MidRun). x.state) c.in_err-reserve.ensures.same ∙ c.self.view_is)
+
+pub returns-in_err-answers-clause-err : goal.returns-in_err-answers-clause-err
+returns-in_err-answers-clause-err g c = err_always c.from_residual-in_err-answers.result (ap (λ (x : MidRun). x.state) c.in_ok-reserve.ensures.same ∙ c.self.view_is)
+
+pub returns-in_err-dues-clause-err : goal.returns-in_err-dues-clause-err
+returns-in_err-dues-clause-err g c = err_always c.from_residual-in_err-dues.result (ap (λ (x : MidRun). x.state) (c.in_err-dues.ensures.err ∙ c.in_ok-reserve.ensures.same) ∙ c.self.view_is)
+
+pub returns-in_err-reserve-clause-asked : goal.returns-in_err-reserve-clause-asked
+returns-in_err-reserve-clause-asked g c =
+    let none = ap (λ (xs : List ℕ). length xs) c.self.invariant in
+    err_always c.from_residual-in_err-reserve.result (asked_for _ c.args.requests.now.target c.args.requests.now.wanted.items c.in_ok-plan.plan c.moves-moves.result.now (length c.args.accesses.now) c.in_ok-plan.ensures.plan c.moves-moves.ensures (omega (arith, none, c.in_err-reserve.ensures.asked)))
