@@ -23,8 +23,12 @@ done
 # ---- The script numatrace
 
 clone=$there/clone
-mkdir -p "$clone/crates/numatrace/out" "$clone/crates/numatrace/src" "$there/bin"
+mkdir -p "$clone/crates/numatrace/out" "$clone/crates/numatrace/src" "$clone/tools" "$there/bin"
 cp numatrace build "$clone/"
+cp tools/prove_all.py "$clone/tools/"
+printf '#!/bin/sh\n' > "$clone/tools/prove.py"
+chmod +x "$clone/tools/prove.py"
+: > "$clone/crates/numatrace/stdin"
 printf 'numatrace: clap\n' > "$clone/crates.txt"
 echo 'fn main() {}' > "$clone/crates/numatrace/src/main.rt"
 cat > "$there/stand_in" << 'END'
@@ -134,6 +138,7 @@ END
 }
 all=$there/all
 mkdir -p "$all/tools"
+cp tools/prove_all.py "$all/tools/"
 toolchain
 cp -R build crates.txt HANDLES "$all/"
 for crate in crates/*/; do mkdir -p "$all/$crate/src"; done
