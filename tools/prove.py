@@ -1,10 +1,10 @@
 #!/usr/bin/env python3
-"""Proves the crate in the current folder for ./build, over the libraries below it, which are proved: `rt lib` or `rt run` in two ways of
-its own.
+"""Proves the crate in the current folder for ./build, over the libraries below it, which are proved: `rt lib` or `rt run`, changed in two
+ways.
 
-- From nothing it is proved as `rt ci` proves it, without keeping work for later checks, and its library holds what other crates may cite
-  of it, and not its proofs: that takes less time and memory, above all with several processes. Where `rt check` or `rt lib` kept work in
-  the crate (out/incremental), that is used, as ever.
+- From nothing it is proved as `rt ci` proves it (but not searched for contracts that no call can meet), without keeping work for later
+  checks, and its library holds what other crates may cite of it, and not its proofs: that takes less time and memory, above all with
+  several processes. Where `rt check` or `rt lib` kept work in the crate (out/incremental), that is used.
 - It locks the crate's folder alone, and not those below it: several crates over the same ones are proved at a time.
 
 `tools/prove.py lib|run --jobs N`"""
