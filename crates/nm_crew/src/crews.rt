@@ -1,13 +1,16 @@
-//! Crews: the workers that copy the pages of a run.
+//! Crews: the workers that look at what a run asks for, and copy its pages.
 
-ghost use Rattle.std.specs.Prelude.{◌≡◌, ◌<◌, ◌≤◌, ◌↔◌, map, IsSome};
+ghost use Rattle.std.specs.Prelude.{◌≡◌, ◌<◌, ◌≤◌, ◌^◌, length, map, IfOk, OnErr};
 ghost use Rattle.nm_frames.specs.Job.{copied};
 ghost use Rattle.nm_board.specs.Tickets.{InTicketOrder};
+ghost use Rattle.nm_runs.specs.Shown.{class_shown, ShowsItsFrames};
 
 use crate::crew::copy_while;
 use crate::gate::Gate;
 use nm_frames::CopyJob;
-use std::alloc::Allocator;
+use nm_runs::{Class, Run, classify, classify_here};
+use nm_types::{Geometry, PageView};
+use std::alloc::{AllocError, Allocator};
 use std::marker::Model;
 use std::sync::Wait;
 use std::thread::Threads;
@@ -56,14 +59,30 @@ impl<'a, R: Threads + Wait + Sync, G: Gate + Sync> Crew<'a, R, G> {
         copy_while(self.rt, alloc, jobs, self.workers, self.gate, work)
     }
 
-    /// The runtime for more threads. None if the caller is the only worker.
-    pub fn runtime(&self) -> Option<&'a R>
-        ensures { IsSome result ↔ (1 < self.now) }
+    /// What to do with each request of a run, in order, from a look at what it names. The view must show frames of this
+    /// machine only. A crew of one worker looks on the calling thread; otherwise several threads look if the run is
+    /// long. An error means that the host is out of memory; a run without requests takes none. The target's number is
+    /// also used as a status, so it must be below 2^31.
+    pub fn classify<A: Allocator + Copy + Send + Sync, V: PageView + Sync>(
+        &self,
+        alloc: A,
+        geometry: &Geometry<A>,
+        view: &V,
+        run: &Run<A>,
+    ) -> Result<Vec<Class, A>, AllocError>
+        requires target { run.now.target < 2 ^ 31 }
+        requires frames { ShowsItsFrames geometry.now (V.seen_at view.now) (V.placed_at view.now) }
+        ensures classes { IfOk result
+            (λ classes. classes.items
+            ≡ map
+            (class_shown geometry.now (V.seen_at view.now)
+            (V.placed_at view.now) run.now.target) run.now.wanted.items) }
+        ensures asked { OnErr result (0 < length run.now.wanted.items) }
     {
         if self.workers > 1 {
-            Some(self.rt)
+            classify(self.rt, alloc, geometry, view, run)
         } else {
-            None
+            classify_here(alloc, geometry, view, run)
         }
     }
 

@@ -1,5 +1,5 @@
-//! Workers that copy jobs while the caller works. Each draws the next job from a board, so a faster worker copies more,
-//! and every job comes back copied, in order, however many workers there are.
+//! Workers that look at what a run asks for, and copy jobs while the caller works. To copy, each draws the next job from a
+//! board, so a faster worker copies more, and every job comes back copied, in order, however many workers there are.
 #![tactic(auto)]
 
 mod crew;

@@ -3,10 +3,11 @@ ghost use Rattle.nm_board.specs.Tickets.{InTicketOrder};
 
 use crate::crew::copy_with;
 use crate::starts::{DefaultStart, Starts};
-use crate::{Gate, OpenGate, copy_while};
+use crate::{Crew, Gate, OpenGate, copy_while};
 use nm_frames::{CopyJob, FrameStore};
 use nm_refusing::Refusing;
-use nm_types::FrameId;
+use nm_runs::{Class, Run, Wanted};
+use nm_types::{FrameId, Geometry, NodeId, Page, PageView, Pid, Vpn};
 use std::alloc::{AllocError, Allocator, Global};
 use std::sync::Wait;
 use std::sync::atomic::{AtomicBool, AtomicU64, Ordering};
@@ -393,5 +394,89 @@ fn copied_without_memory(
 fn no_memory_for_two_jobs(rt: HostRuntime) -> Result<(), Fail> {
     let heap = Refusing::new(rt.alloc());
     assert!(rt; copied_without_memory(&rt, &heap)?);
+    Ok(())
+}
+
+/// Page numbers without an area, and pages without a frame.
+struct Nothing;
+
+impl PageView for Nothing {
+    ghost use Rattle.nm_types.specs.declared.seen.Seen.TheVariants.{NoArea, Absent};
+
+    ghost seen_at = { λ nothing pid v. NoArea };
+
+    ghost placed_at = { λ nothing p. Absent };
+
+    fn seen(&self, _pid: Pid, _vpn: Vpn) -> nm_types::Seen {
+        nm_types::Seen::NoArea
+    }
+
+    fn placed(&self, _page: Page) -> nm_types::Seen {
+        nm_types::Seen::Absent
+    }
+}
+
+/// A run of requests for this many page numbers, and then for a page.
+fn run_of(alloc: Global, count: u64) -> Result<Run<Global>, AllocError>
+    ensures { IfOk result (λ run. run.target ≡ 0) }
+{
+    let mut wanted = Vec::new(alloc);
+    for number in 0..count {
+        wanted.push(Wanted::At {
+            pid: Pid::new(1),
+            vpn: Vpn::new(number),
+            all: false,
+        })?;
+    }
+    wanted.push(Wanted::Whole(Page {
+        segment: 0,
+        index: 0,
+    }))?;
+    Ok(Run {
+        target: NodeId::new(0),
+        wanted,
+    })
+}
+
+/// Whether a crew of this many workers gives each request of such a run its class, where it sees nothing.
+fn classifies(
+    rt: &(impl Threads + Wait + Sync),
+    alloc: Global,
+    geometry: &Geometry<Global>,
+    workers: usize,
+    count: u64,
+) -> Result<bool, AllocError>
+    requires { (0 < workers) × (workers ≤ 64) }
+{
+    let run = run_of(alloc, count)?;
+    let crew = Crew::new(rt, workers, &OpenGate);
+    let mut classes = crew.classify(alloc, geometry, &Nothing, &run)?;
+    let last = classes.pop();
+    Ok(
+        last == Some(Class::Status(-2))
+            && classes.len() as u64 == count
+            && classes.iter().all(|class| *class == Class::Status(-14)),
+    )
+}
+
+/// A machine of one node.
+fn one_node(alloc: Global) -> Result<Geometry<Global>, Fail> {
+    let distances = vec![in alloc; vec![in alloc; 10u8]?]?;
+    Ok(Geometry::new(vec![in alloc; 4u32]?, distances)?)
+}
+
+/// Crews of one worker and of two give each request its class, in a short run and in one that is long enough for
+/// several threads.
+#[test]
+fn crews_classify(rt: HostRuntime) -> Result<(), Fail> {
+    let geometry = one_node(rt.alloc())?;
+    for workers in [1, 2] {
+        for count in [2, 40_000] {
+            assert!(rt;
+                classifies(&rt, rt.alloc(), &geometry, workers, count)?,
+                "{count} requests with {workers} workers"
+            );
+        }
+    }
     Ok(())
 }

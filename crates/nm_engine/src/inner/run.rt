@@ -1,9 +1,8 @@
 //! Runs: pages that move to one node, one after another.
 
-ghost use Rattle.std.specs.Prelude.{◌≡◌, ◌+◌, ◌<◌, ◌≤◌, ◌^◌, [], map, length, IfOk, OnOk, OnErr, vec_len, vec_capacity};
+ghost use Rattle.std.specs.Prelude.{◌≡◌, ◌+◌, ◌<◌, ◌≤◌, [], map, length, IfOk, OnOk, OnErr, vec_len, vec_capacity};
 ghost use Rattle.std.specs.List.{AllByRecursion};
 ghost use Rattle.nm_types.specs.Layout.{node_count};
-ghost use Rattle.nm_runs.specs.Shown.{class_shown, ShowsItsFrames};
 ghost use Rattle.nm_laws.specs.Laws.{with_moves};
 ghost use Rattle.nm_laws.specs.Moves.{CanMove, IsPlanOf};
 ghost use Rattle.nm_model.specs.definitions.Run.{frames_left, HasOneAll, with_all_free, failures, with_counts};
@@ -15,8 +14,8 @@ use crate::inner::Inner;
 use nm_crew::{Crew, Gate};
 use nm_memory::{AccessAnswer, PendingAccess};
 use nm_plan::{Plan, Taken, plan};
-use nm_runs::{Class, Run, classify, classify_here};
-use nm_types::{Errno, Geometry, NodeId, PageView};
+use nm_runs::Run;
+use nm_types::{Errno, NodeId};
 use std::alloc::{AllocError, Allocator};
 use std::sync::Wait;
 use std::thread::Threads;
@@ -47,7 +46,7 @@ impl<A: Allocator + Copy + Send + Sync> Inner<A> {
         let geometry = self.frames.geometry();
         prove!(geometry.node_count() <= 64);
         let target = requests.target;
-        let classes = classes(crew, self.alloc, geometry, &self.spaces, requests)?;
+        let classes = crew.classify(self.alloc, geometry, &self.spaces, requests)?;
         let front = self.frames.free_front(self.alloc, target, classes.len())?;
         plan(self.alloc, classes.as_slice(), front.as_slice(), target)
     }
@@ -110,35 +109,6 @@ impl<A: Allocator + Copy + Send + Sync> Inner<A> {
         let moved = self.frames.free_vacated() as u64;
         self.totals = totals.after(moved, failed as u64);
         failed
-    }
-}
-
-/// What to do with each request of a run, in order, from a look at what it names. A crew of one worker looks on the
-/// calling thread; otherwise several threads look if the run is long.
-fn classes<
-    R: Threads + Wait + Sync,
-    A: Allocator + Copy + Send + Sync,
-    G: Gate + Sync,
-    V: PageView + Sync,
->(
-    crew: &Crew<R, G>,
-    alloc: A,
-    geometry: &Geometry<A>,
-    view: &V,
-    run: &Run<A>,
-) -> Result<Vec<Class, A>, AllocError>
-    requires target { run.now.target < 2 ^ 31 }
-    requires frames { ShowsItsFrames geometry.now (V.seen_at view.now) (V.placed_at view.now) }
-    ensures classes { IfOk result
-        (λ classes. classes.items
-        ≡ map
-        (class_shown geometry.now (V.seen_at view.now)
-        (V.placed_at view.now) run.now.target) run.now.wanted.items) }
-    ensures asked { OnErr result (0 < length run.now.wanted.items) }
-{
-    match crew.runtime() {
-        Some(rt) => classify(rt, alloc, geometry, view, run),
-        None => classify_here(alloc, geometry, view, run),
     }
 }
 

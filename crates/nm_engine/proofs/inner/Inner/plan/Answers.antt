@@ -15,8 +15,8 @@ use Rattle.nm_engine.specs.views.Shown.{shown_by}
 use Rattle.nm_engine.proofs.Runs.OneByOne.{shows_its_frames, classes_by_view, planned_is, is_plan_of}
 use Rattle.nm_engine.proofs.inner.Inner.plan.Goals as goal
 
-pub classes-requires-clause-frames : goal.classes-requires-clause-frames
-classes-requires-clause-frames g c κs within =
+pub classify-requires-clause-frames : goal.classify-requires-clause-frames
+classify-requires-clause-frames g c κs within =
     let i = c.self.inside in
     let y = i.spaces in
     subst (λ (l : Layout). ShowsItsFrames l (λ pid v. look_in y.processes y.areas y.place y.pins pid v) (λ p. look_at_place y.processes y.pins p (get page_cmp y.place p))) (sym c.geometry-geometry.ensures)
