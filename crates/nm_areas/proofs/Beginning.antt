@@ -1,5 +1,5 @@
 -- Where areas begin.
-use Rattle.std.proofs.Common.{◌≡◌, ℕ, ◌+◌, ◌<◌, [], ◌∷◌, true, false, not, cond, refl, sym, ap, subst, ◌∙◌, arith, inl, inr, eq-eqb}
+use Rattle.std.proofs.Common.{◌≡◌, ℕ, ◌+◌, ◌/◌, ◌<◌, Bool, [], ◌∷◌, true, false, not, cond, refl, sym, ap, subst, ◌∙◌, arith, inl, inr, eq-eqb}
 use Rattle.std.specs.Prelude.{Some, None, IfSome}
 use Rattle.std.specs.List.{AllByRecursion, list_any}
 use Rattle.std.specs.Ordering.{eq_by_cmp, is_eq}
@@ -97,3 +97,9 @@ module _ (pid at start : ℕ) (area : Area) (areas : Map (ℕ × ℕ) Area) (apa
             let whose = one_over from.0 from.1 (part_covers pid at at from.0 b pid start part (covers_from b pid start refl (omega arith) (omega (arith, some)))) in
             part.segment ∙ ap (λ (z : Placed). z.1.page.segment) whose
       ] refl
+
+-- whether a range is free, in the number of its pages
+pub free_pages : (areas : Map (ℕ × ℕ) Area) (pid addr pages : ℕ) {first end : ℕ} {free : Bool} → first ≡ addr / 4096 → end ≡ addr / 4096 + pages → free ≡ not (list_any (overlaps pid first end) areas)
+    → free ≡ not (list_any (overlaps pid first (first + pages)) areas)
+free_pages areas pid addr pages {first} at past told =
+    told ∙ ap (λ (n : ℕ). not (list_any (overlaps pid first n) areas)) (past ∙ ap (λ (n : ℕ). n + pages) (sym at))

@@ -51,9 +51,9 @@ module _ (m : Map Page Step) (segments : Map ℕ Segment) (areas : Map (ℕ × �
   was_cut now is = subst (IsCoverage m segments) (sym is) cut_both
 
   -- and those between get a policy
-  pub was_policed : (policy : Policy) (n count : ℕ) (now : Map (ℕ × ℕ) Area) → end ≡ n + count → n ≡ first → now ≡ flat_map (repoliced pid first (first + count) policy) areas → IsCoverage m segments now
-  was_policed policy n count now sum same is =
-      subst (IsCoverage m segments) (all_repoliced pid first end policy less areas some ∙ ap (λ k. flat_map (repoliced pid first k policy) areas) (sum ∙ ap (λ k. k + count) same) ∙ sym is)
+  pub was_policed : (policy : Policy) (now : Map (ℕ × ℕ) Area) → now ≡ flat_map (repoliced pid first end policy) areas → IsCoverage m segments now
+  was_policed policy now is =
+      subst (IsCoverage m segments) (all_repoliced pid first end policy less areas some ∙ sym is)
       (steps_same m _ _ _ _ cut_both
       (λ p. masked_same segments (ends_at both) (ends_at (with_values (painted pid first end policy) both)) p (λ k. sym (painted_total pid first end policy p (ends_of p) (λ x. refl) both)))
       (λ p. masked_same segments (covers_at both) (covers_at (with_values (painted pid first end policy) both)) p (λ k. sym (painted_total pid first end policy p (covers_of p) (λ x. refl) both))))

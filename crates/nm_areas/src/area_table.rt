@@ -15,6 +15,7 @@ ghost use Rattle.nm_model.specs.definitions.AreaRefusal.{overlaps, is_stretch};
 ghost use Rattle.nm_model.specs.views.Table.{with_areas};
 
 use crate::lines::is_shared;
+use crate::ranges::PageRange;
 use crate::scan::put;
 use nm_types::{Area, Page, Pid, Policy, Segment, Vpn};
 use std::alloc::{AllocError, Allocator};
@@ -133,15 +134,14 @@ impl<A: Allocator + Copy> AreaTable<A> {
         }
     }
 
-    /// Whether no area of the process covers any of the `pages` page numbers from `first` on.
-    pub(crate) fn is_free(&self, pid: Pid, first: Vpn, pages: u64) -> bool
+    /// Whether no area of the process covers a page number of a range.
+    pub(crate) fn is_free(&self, pid: Pid, range: &PageRange) -> bool
         requires apart { AreasAreApart self.now.areas }
         requires whole { AllByRecursion IsSomePages self.now.areas }
         requires low { AllByRecursion EndsLow self.now.areas }
-        requires end { first + pages ≤ 2 ^ 35 }
-        ensures { result ≡ not (list_any (overlaps pid first (first + pages)) self.now.areas) }
+        ensures { result ≡ not (list_any (overlaps pid range.now.first range.now.end) self.now.areas) }
     {
-        let end = Vpn::new(first.number() + pages);
+        let PageRange { first, end } = *range;
         match self.areas.range(..(pid, end)).next_back() {
             Some(((owner, start), area)) => {
                 *owner != pid || start.number() + area.pages <= first.number()

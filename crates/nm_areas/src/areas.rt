@@ -10,7 +10,7 @@ ghost use Rattle.nm_model.specs.definitions.AreaRefusal.{insert_refusal, stretch
 
 use crate::area_table::{AreaTable, new_area};
 use crate::counting::{count_in, count_out};
-use crate::ranges::range_start;
+use crate::ranges::PageRange;
 use nm_counts::Steps;
 use nm_types::limits::MAX_SEGMENTS;
 use nm_types::{Area, Errno, FrameId, MachineError, Page, Pid, Vpn};
@@ -105,16 +105,17 @@ impl<A: Allocator + Copy> Areas<A> {
             ≡ over_with self.old.areas
             ((pid, addr / 4096), new_area self.old.next 0 pages) q v) }
     {
-        let Some(first) = range_start(addr, pages) else {
+        let Some(range) = PageRange::of_pages(addr, pages) else {
             return Err(MachineError::Refused(Errno::Einval));
         };
         // An area in the way is reported before the limit.
-        if !self.table.is_free(pid, first, pages) {
+        if !self.table.is_free(pid, &range) {
             return Err(MachineError::Refused(Errno::Einval));
         }
         if self.table.next_segment() >= MAX_SEGMENTS {
             return Err(MachineError::Refused(Errno::Enomem));
         }
+        let PageRange { first, .. } = range;
         let next = self.table.next_segment();
         count_in(
             &self.table,
@@ -153,15 +154,16 @@ impl<A: Allocator + Copy> Areas<A> {
             ≡ over_with self.old.areas
             ((pid, addr / 4096), new_area segment offset pages) q v) }
     {
-        let Some(first) = range_start(addr, pages) else {
+        let Some(range) = PageRange::of_pages(addr, pages) else {
             return Err(MachineError::Refused(Errno::Einval));
         };
-        if !self.table.is_free(pid, first, pages) {
+        if !self.table.is_free(pid, &range) {
             return Err(MachineError::Refused(Errno::Einval));
         }
         let Some(number) = self.table.stretch_of(segment, offset, pages) else {
             return Err(MachineError::Refused(Errno::Einval));
         };
+        let PageRange { first, .. } = range;
         count_in(
             &self.table,
             &mut self.steps,

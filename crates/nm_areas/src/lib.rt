@@ -17,4 +17,4 @@ mod unmap;
 
 pub use areas::Areas;
 pub use lines::Line;
-pub use ranges::range_start;
+pub use ranges::PageRange;

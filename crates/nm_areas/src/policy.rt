@@ -3,7 +3,7 @@
 ghost use Rattle.std.specs.List.{AllByRecursion, flat_map};
 ghost use Rattle.std.specs.List.Sorted.{IsStrictlySortedBy};
 ghost use Rattle.std.specs.Map.{keys_of};
-ghost use Rattle.std.specs.Prelude.{None, OnErr, OnOk, Some, false, true, ℕ, ◌*◌, ◌+◌, ◌-◌, ◌/◌, ◌<◌, ◌^◌, ◌≡◌, ◌≤◌, ◌⊎◌, IfErr};
+ghost use Rattle.std.specs.Prelude.{None, OnErr, OnOk, Some, false, true, ℕ, ◌+◌, ◌-◌, ◌/◌, ◌<◌, ◌≡◌, ◌≤◌, ◌⊎◌, IfErr, IfOk};
 ghost use Rattle.nm_types.specs.Does.{Makes};
 ghost use Rattle.nm_areas.specs.Splits.{HasSplit};
 ghost use Rattle.nm_model.specs.definitions.Areas.{with_policy};
@@ -17,25 +17,28 @@ ghost use Rattle.nm_types.specs.State.{area_over, page_at};
 use crate::area_table::AreaTable;
 use crate::areas::Areas;
 use crate::counting::{join_steps, split_steps};
-use crate::ranges::whole_pages;
+use crate::ranges::PageRange;
 use crate::scan::step_area;
 use nm_types::{Area, Errno, MachineError, Pid, Policy, Vpn};
 use std::alloc::{AllocError, Allocator};
 use std::collections::BTreeMap;
 
 impl<A: Allocator + Copy> Areas<A> {
-    /// Whether `split_policy` would accept a range. If not, returns the same EINVAL or EFAULT. Does not allocate.
-    pub fn check_policy(&self, pid: Pid, addr: u64, len: u64) -> Result<(), Errno>
+    /// The page numbers whose policy `split_policy` would set. If it would refuse, returns the same EINVAL or EFAULT.
+    /// Does not allocate.
+    pub fn check_policy(&self, pid: Pid, addr: u64, len: u64) -> Result<PageRange, Errno>
         ensures ok { OnOk result (range_refusal self.now pid addr len ≡ None) }
+        ensures range { IfOk result
+            (λ range. (range.first ≡ addr / 4096) × (range.end ≡ addr / 4096 + pages_of len)) }
         ensures err { IfErr result (λ e. range_refusal self.now pid addr len ≡ Some e) }
     {
-        let Some((first, count)) = whole_pages(addr, len) else {
+        let Some(range) = PageRange::of_bytes(addr, len) else {
             return Err(Errno::Einval);
         };
-        if !self.table.is_mapped(pid, first, count) {
+        if !self.table.is_mapped(pid, &range) {
             return Err(Errno::Efault);
         }
-        Ok(())
+        Ok(range)
     }
 
     /// Sets the policy of the whole pages of `len` bytes from address `addr` on, and of no others: the process's areas
@@ -61,16 +64,16 @@ impl<A: Allocator + Copy> Areas<A> {
             ⊎ HasSplit self.old.areas pid (addr / 4096 + pages_of len) }
         ensures pages { (q v : ℕ) → page_at self.new.areas q v ≡ page_at self.old.areas q v }
     {
-        let Some((first, count)) = whole_pages(addr, len) else {
+        let Some(range) = PageRange::of_bytes(addr, len) else {
             return Err(MachineError::Refused(Errno::Einval));
         };
-        if !self.table.is_mapped(pid, first, count) {
+        if !self.table.is_mapped(pid, &range) {
             return Err(MachineError::Refused(Errno::Efault));
         }
         if len > 0 {
-            let end = Vpn::new(first.number() + count);
+            let PageRange { first, end } = range;
             split_steps(&self.table, &mut self.steps, pid, first, end)?;
-            let Ok(()) = self.table.set_policy(pid, first, count, policy) else {
+            let Ok(()) = self.table.set_policy(pid, range, policy) else {
                 join_steps(&self.table, &mut self.steps, pid, first, end);
                 return Err(MachineError::HostMemory);
             };
@@ -80,60 +83,58 @@ impl<A: Allocator + Copy> Areas<A> {
 }
 
 impl<A: Allocator + Copy> AreaTable<A> {
-    /// Whether areas of the process cover each of the `count` page numbers from `first` on.
-    pub(crate) fn is_mapped(&self, pid: Pid, first: Vpn, count: u64) -> bool
+    /// Whether areas of the process cover each page number of a range.
+    pub(crate) fn is_mapped(&self, pid: Pid, range: &PageRange) -> bool
         requires apart { AreasAreApart self.now.areas }
         requires whole { AllByRecursion IsSomePages self.now.areas }
         requires low { AllByRecursion EndsLow self.now.areas }
-        requires end { first + count < 2 ^ 64 }
-        ensures { result ≡ is_mapped self.now.areas pid first count }
+        requires order { range.now.first ≤ range.now.end }
+        ensures { result
+            ≡ is_mapped self.now.areas pid range.now.first (range.now.end - range.now.first) }
     {
+        let PageRange { first, end } = *range;
         match self.over(pid, first) {
             Some((start, area)) => {
-                let end = first.number() + count;
                 let past = start.number() + area.pages;
-                if past >= end {
+                if past >= end.number() {
                     return true;
                 }
-                if self.over(pid, Vpn::new(end - 1)).is_some() {
-                    return goes_on(&self.areas, pid, start, area, end);
+                if self.over(pid, Vpn::new(end.number() - 1)).is_some() {
+                    return goes_on(&self.areas, pid, start, area, end.number());
                 }
                 // A range that ends in a hole needs no walk.
                 false
             }
-            None => count == 0,
+            None => first == end,
         }
     }
 
-    /// Splits the process's areas at both ends of one or more pages from a page number on, and sets the policy of those
-    /// between. An error means that no area has changed. Allocates only if an area covers one of the ends and begins
-    /// before it.
+    /// Splits the process's areas at both ends of a range, and sets the policy of those between. An error means that no
+    /// area has changed. Allocates only if an area covers one of the ends and begins before it.
     pub(crate) fn set_policy(
         &mut self,
         pid: Pid,
-        first: Vpn,
-        count: u64,
+        range: PageRange,
         policy: Policy,
     ) -> Result<(), AllocError>
         requires apart { AreasAreApart self.old.areas }
         requires whole { AllByRecursion IsSomePages self.old.areas }
         requires indices { AllByRecursion HasIndices self.old.areas }
         requires ordered { IsStrictlySortedBy spot_cmp (keys_of self.old.areas) }
-        requires some { 0 < count }
-        requires end { first + count < 2 ^ 64 }
+        requires some { range.first < range.end }
 
         // On success
         ensures ok { OnOk result
             (self.new
             ≡ with_areas self.old
-            (flat_map (repoliced pid first (first + count) policy) self.old.areas)) }
+            (flat_map (repoliced pid range.first range.end policy) self.old.areas)) }
 
         // Without memory
         ensures err { OnErr result (self.new ≡ self.old) }
         ensures asked { OnErr result
-            (HasSplit self.old.areas pid first ⊎ HasSplit self.old.areas pid (first + count)) }
+            (HasSplit self.old.areas pid range.first ⊎ HasSplit self.old.areas pid range.end) }
     {
-        let end = Vpn::new(first.number() + count);
+        let PageRange { first, end } = range;
         self.cut(pid, first, end)?;
         paint(&mut self.areas, pid, first, end, &policy);
         Ok(())

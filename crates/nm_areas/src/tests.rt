@@ -1,4 +1,4 @@
-use crate::Areas;
+use crate::{Areas, PageRange};
 use nm_types::{Errno, FrameId, MachineError, Page, Pid, Policy, Vpn};
 use std::alloc::{AllocError, Global};
 use std::test::Fail;
@@ -173,7 +173,11 @@ fn frames_of_pages(rt: HostRuntime) -> Result<(), Fail> {
 /// The same, after process 1 unmaps its second page.
 fn second_gone(alloc: Global) -> Result<Areas<Global>, MachineError> {
     let mut areas = second_apart(alloc)?;
-    areas.remove(Pid::new(1), 0x11000, 1)?;
+    let second = PageRange {
+        first: Vpn::new(17),
+        end: Vpn::new(18),
+    };
+    areas.remove(Pid::new(1), second)?;
     Ok(areas)
 }
 
@@ -246,8 +250,12 @@ fn frames_are_found_where_they_are_shown(rt: HostRuntime) -> Result<(), Fail> {
 }
 
 /// Whether a process that unmaps all that it has frees these frames.
-fn gives(areas: &mut Areas<Global>, pid: u32, frames: &[u16]) -> Result<bool, MachineError> {
-    let freed = areas.remove(Pid::new(pid), 0, 34_359_738_368)?;
+fn gives(areas: &mut Areas<Global>, pid: u32, frames: &[u16]) -> Result<bool, AllocError> {
+    let all = PageRange {
+        first: Vpn::new(0),
+        end: Vpn::new(34_359_738_368),
+    };
+    let freed = areas.remove(Pid::new(pid), all)?;
     Ok(
         freed
             .iter()

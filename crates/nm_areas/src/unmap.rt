@@ -4,14 +4,13 @@ ghost use Rattle.std.specs.List.{AllByRecursion, fold, list_any};
 ghost use Rattle.std.specs.List.Sorted.{IsStrictlySortedBy};
 ghost use Rattle.std.specs.Map.{keys_of};
 ghost use Rattle.std.specs.Ordering.{nat_cmp};
-ghost use Rattle.std.specs.Prelude.{Err, IfOk, None, OnOk, Some, false, true, length, min, vec_capacity, vec_len, ℕ, [], ◌*◌, ◌++◌, ◌+◌, ◌-◌, ◌/◌, ◌<◌, ◌^◌, ◌≡◌, ◌≤◌, ◌⊎◌};
+ghost use Rattle.std.specs.Prelude.{IfOk, None, OnErr, OnOk, Some, false, true, length, min, vec_capacity, vec_len, ℕ, [], ◌++◌, ◌+◌, ◌-◌, ◌<◌, ◌^◌, ◌≡◌, ◌≤◌, ◌⊎◌};
 ghost use Rattle.nm_areas.specs.Splits.{HasSplit};
-ghost use Rattle.nm_types.specs.Does.{Makes};
 ghost use Rattle.nm_areas.specs.Coverage.{IsCoverage};
 ghost use Rattle.nm_model.specs.definitions.Areas.{is_shared};
 ghost use Rattle.nm_model.specs.definitions.Areas.{AllShown, AreasAreApart, HasIndices, PrivateIsOnce, shows_segment};
 ghost use Rattle.nm_model.specs.definitions.Areas.{pages_from};
-ghost use Rattle.nm_model.specs.definitions.AreaRefusal.{overlaps, remove_refusal};
+ghost use Rattle.nm_model.specs.definitions.AreaRefusal.{overlaps};
 ghost use Rattle.nm_model.specs.definitions.Areas.{IsAlone, all_lost, frames_lost, lost, others, page_outside, pages_of_area, pages_of_own, place_left, removed, without_own};
 ghost use Rattle.nm_types.specs.declared.area.Segment.{Segment};
 ghost use Rattle.nm_types.specs.Map.{Map, get, page_cmp, spot_cmp, without};
@@ -21,64 +20,60 @@ use crate::area_table::AreaTable;
 use crate::areas::Areas;
 use crate::counting::{count_out_own, join_steps, split_steps};
 use crate::coverage::count_at;
-use crate::ranges::range_start;
+use crate::ranges::PageRange;
 use crate::scan::next_of;
 use nm_counts::Steps;
-use nm_types::{Area, Errno, FrameId, MachineError, Page, Pid, Vpn};
-use std::alloc::Allocator;
+use nm_types::{Area, FrameId, Page, Pid, Vpn};
+use std::alloc::{AllocError, Allocator};
 use std::collections::BTreeMap;
 
 impl<A: Allocator + Copy> Areas<A> {
-    /// Unmaps `pages` pages of a process from address `addr` on; the range may have holes. The process's areas are
-    /// split at both ends, and those between are removed, with the segments that no other area shows. Pages that no
-    /// other area of any process covers lose their frames. Returns these pages with the frames that they had, in
-    /// address order, each page at its lowest address.
+    /// Unmaps a range of one or more page numbers of a process, which may have holes. The process's areas are split at
+    /// both ends, and those between are removed, with the segments that no other area shows. Pages that no other area of
+    /// any process covers lose their frames. Returns these pages with the frames that they had, in address order, each
+    /// page at its lowest address.
     ///
-    /// Errors: EINVAL if the address is not a multiple of 4,096, `pages` is 0, or the pages end past 2^47. Allocates
-    /// only if the call is not refused, an area of the process covers a page of the range, and some page has a frame or
-    /// an area begins before one end of the range and covers it; the returned list has room for at most as many pages as
-    /// have frames, and at most as many as the range has.
+    /// An error means that nothing has changed. Allocates only if an area of the process covers a page of the range, and
+    /// some page has a frame or an area begins before one end of the range and covers it; the returned list has room for
+    /// at most as many pages as have frames, and at most as many as the range has.
     pub fn remove(
         &mut self,
         pid: Pid,
-        addr: u64,
-        pages: u64,
-    ) -> Result<Vec<(Page, FrameId), A>, MachineError>
-        // In any case
-        ensures done { Makes result self.old self.new (remove_refusal addr pages)
-            (removed self.old pid (addr / 4096) (addr / 4096 + pages)) }
-
-        // Without memory
-        ensures memory { result ≡ Err MachineError.HostMemory → remove_refusal addr pages ≡ None }
-        ensures asked { result ≡ Err MachineError.HostMemory →
-            list_any (overlaps pid (addr / 4096) (addr / 4096 + pages)) self.old.areas ≡ true }
-        ensures needed { result ≡ Err MachineError.HostMemory →
-            (0 < length self.old.place)
-            ⊎ HasSplit self.old.areas pid (addr / 4096)
-            ⊎ HasSplit self.old.areas pid (addr / 4096 + pages) }
+        range: PageRange,
+    ) -> Result<Vec<(Page, FrameId), A>, AllocError>
+        requires some { range.first < range.end }
 
         // On success
+        ensures ok { OnOk result (self.new ≡ removed self.old pid range.first range.end) }
         ensures pages { OnOk result
             ((q v : ℕ) →
             page_at self.new.areas q v
-            ≡ page_outside self.old.areas pid (addr / 4096) (addr / 4096 + pages) q v) }
+            ≡ page_outside self.old.areas pid range.first range.end q v) }
         ensures freed { IfOk result
-            (λ freed. freed.items ≡ frames_lost self.old pid (addr / 4096) (addr / 4096 + pages)) }
-        ensures room { IfOk result (λ freed. vec_capacity freed ≤ min (length self.old.place) pages) }
+            (λ freed. freed.items ≡ frames_lost self.old pid range.first range.end) }
+        ensures room { IfOk result
+            (λ freed. vec_capacity freed ≤ min (length self.old.place) (range.end - range.first)) }
+
+        // Without memory
+        ensures err { OnErr result (self.new ≡ self.old) }
+        ensures asked { OnErr result
+            (list_any (overlaps pid range.first range.end) self.old.areas ≡ true) }
+        ensures needed { OnErr result
+            ((0 < length self.old.place)
+            ⊎ HasSplit self.old.areas pid range.first
+            ⊎ HasSplit self.old.areas pid range.end) }
     {
-        let Some(first) = range_start(addr, pages) else {
-            return Err(MachineError::Refused(Errno::Einval));
-        };
-        if self.table.is_free(pid, first, pages) {
+        if self.table.is_free(pid, &range) {
             return Ok(Vec::new(self.alloc));
         }
-        let end = Vpn::new(first.number() + pages);
+        let PageRange { first, end } = range;
+        let pages = end.number() - first.number();
         let most = self.places.len().min(pages as usize);
         let mut freed = Vec::with_capacity(self.alloc, most)?;
         split_steps(&self.table, &mut self.steps, pid, first, end)?;
         let Ok(()) = self.table.cut(pid, first, end) else {
             join_steps(&self.table, &mut self.steps, pid, first, end);
-            return Err(MachineError::HostMemory);
+            return Err(AllocError);
         };
         // Pages that other areas cover keep their frames, so the steps are those of the others before the first page
         // loses its.

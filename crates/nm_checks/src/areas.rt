@@ -1,6 +1,6 @@
-use nm_areas::{Areas, Line};
+use nm_areas::{Areas, Line, PageRange};
 use nm_refusing::Refusing;
-use nm_types::{FrameId, MachineError, Page, Pid, Policy};
+use nm_types::{FrameId, MachineError, Page, Pid, Policy, Vpn};
 use std::alloc::Global;
 use std::process::Abort;
 use std::test::Fail;
@@ -55,7 +55,15 @@ fn perform<'a>(areas: &mut Areas<Heap<'a>>, call: Call, round: u16) -> Result<()
             areas.lines(one)?;
             Ok(())
         }
-        Call::Remove => areas.remove(one, addr, 2).map(|_| ()),
+        Call::Remove => {
+            let first = u64::from(round) * 16;
+            let range = PageRange {
+                first: Vpn::new(first),
+                end: Vpn::new(first + 2),
+            };
+            areas.remove(one, range)?;
+            Ok(())
+        }
     }
 }
 

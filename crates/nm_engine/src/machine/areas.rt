@@ -1,20 +1,20 @@
 //! Adding, splitting and removing areas.
 
-ghost use Rattle.std.specs.Prelude.{Err, IfOk, None, false, length, map, true, ◌+◌, ◌/◌, ◌<◌, ◌≡◌, ◌⊎◌};
+ghost use Rattle.std.specs.Prelude.{Err, IfOk, OnErr, OnOk, false, length, map, true, ◌+◌, ◌/◌, ◌<◌, ◌≡◌, ◌⊎◌};
 ghost use Rattle.nm_model.specs.definitions.AreaRefusal.{overlaps};
 ghost use Rattle.std.specs.List.{list_any};
 ghost use Rattle.nm_engine.specs.definitions.Does.{AsksLast, Makes};
-ghost use Rattle.nm_model.specs.definitions.Effect.{attach, attach_refusal, dropped, is_range, is_unknown, map_new, map_refusal, policy_refusal, set_policy, shows_pinned, unmap, unmap_refusal};
+ghost use Rattle.nm_model.specs.definitions.Effect.{attach, attach_refusal, dropped, is_unknown, map_new, map_refusal, policy_refusal, set_policy, shows_pinned, unmap, unmap_refusal};
 ghost use Rattle.nm_areas.specs.Splits.{HasSplit};
 ghost use Rattle.nm_model.specs.definitions.Areas.{pages_of};
 ghost use Rattle.nm_memory.specs.views.Frames.{CanFree, pool_of, with_freed};
 ghost use Rattle.nm_runs.specs.Targets.{Checks};
 
 use crate::machine::Machine;
-use nm_areas::range_start;
+use nm_areas::PageRange;
 use nm_memory::Frames;
-use nm_types::{Errno, FrameId, MachineError, Page, Pid, Policy, Vpn};
-use std::alloc::Allocator;
+use nm_types::{Errno, FrameId, MachineError, Page, Pid, Policy};
+use std::alloc::{AllocError, Allocator};
 
 impl<A: Allocator + Copy + Send + Sync> Machine<A> {
     /// Makes a segment of `pages` pages, private or shared, and an area of the process over all of it from address
@@ -86,40 +86,47 @@ impl<A: Allocator + Copy + Send + Sync> Machine<A> {
         if self.inner.spaces.info(pid).is_none() {
             return Err(MachineError::Refused(Errno::Esrch));
         }
-        let Some(first) = range_start(addr, pages) else {
+        let Some(range) = PageRange::of_pages(addr, pages) else {
             return Err(MachineError::Refused(Errno::Einval));
         };
-        if self.shows_pinned(pid, first, Vpn::new(first.number() + pages)) {
+        let PageRange { first, end } = range;
+        if self.shows_pinned(pid, first, end) {
             return Err(MachineError::Refused(Errno::Ebusy));
         }
-        self.let_go(pid, addr, pages)
+        Ok(self.let_go(pid, range)?)
     }
 
-    /// Unmaps `pages` pages of a process from an address on, none of which may have a pin. The frames of pages that no
-    /// area covers become free, in address order.
-    pub(crate) fn let_go(&mut self, pid: Pid, addr: u64, pages: u64) -> Result<(), MachineError>
+    /// Unmaps a range of one or more page numbers of a process, none of which may show a page with a pin. The frames of
+    /// pages that no area covers become free, in address order.
+    pub(crate) fn let_go(&mut self, pid: Pid, range: PageRange) -> Result<(), AllocError>
         requires known { is_unknown self.old pid ≡ false }
-        requires range { is_range addr pages ≡ true }
-        requires unpinned { shows_pinned self.old.areas self.old.pins pid (addr / 4096)
-            (addr / 4096 + pages)
+        requires some { range.first < range.end }
+        requires unpinned { shows_pinned self.old.areas self.old.pins pid range.first range.end
             ≡ false }
-        ensures done { Makes result self.old self.new None
-            (dropped self.old pid (addr / 4096) (addr / 4096 + pages)) }
-        ensures asked { result ≡ Err MachineError.HostMemory →
-            list_any (overlaps pid (addr / 4096) (addr / 4096 + pages)) self.old.areas ≡ true }
-        ensures needed { result ≡ Err MachineError.HostMemory →
-            (0 < length self.old.place)
-            ⊎ HasSplit self.old.areas pid (addr / 4096)
-            ⊎ HasSplit self.old.areas pid (addr / 4096 + pages) }
+
+        // On success
+        ensures ok { OnOk result (self.new ≡ dropped self.old pid range.first range.end) }
+
+        // Without memory
+        ensures err { OnErr result (self.new ≡ self.old) }
+        ensures asked { OnErr result
+            (list_any (overlaps pid range.first range.end) self.old.areas ≡ true) }
+        ensures needed { OnErr result
+            ((0 < length self.old.place)
+            ⊎ HasSplit self.old.areas pid range.first
+            ⊎ HasSplit self.old.areas pid range.end) }
     {
-        let freed = self.inner.spaces.remove(pid, addr, pages)?;
+        let freed = self.inner.spaces.remove(pid, range)?;
         free_each(&mut self.inner.frames, freed.as_slice());
         Ok(())
     }
 
-    /// Whether `set_policy` would set a policy. If not, returns the same ESRCH, EINVAL or EFAULT. Does not allocate.
-    pub fn check_policy(&self, pid: Pid, addr: u64, len: u64) -> Result<(), Errno>
-        ensures { Checks result (policy_refusal self.now pid addr len) }
+    /// The page numbers whose policy `set_policy` would set. If it would refuse, returns the same ESRCH, EINVAL or
+    /// EFAULT. Does not allocate.
+    pub fn check_policy(&self, pid: Pid, addr: u64, len: u64) -> Result<PageRange, Errno>
+        ensures exact { Checks result (policy_refusal self.now pid addr len) }
+        ensures range { IfOk result
+            (λ range. (range.first ≡ addr / 4096) × (range.end ≡ addr / 4096 + pages_of len)) }
     {
         if self.inner.spaces.info(pid).is_none() {
             return Err(Errno::Esrch);

@@ -7,6 +7,7 @@ ghost use Rattle.nm_engine.specs.definitions.Does.{AsksLast, Makes};
 ghost use Rattle.nm_model.specs.definitions.Effect.{exit, exit_refusal, spawn, spawn_refusal};
 
 use crate::machine::Machine;
+use nm_areas::PageRange;
 use nm_types::limits::{MAX_PROCESSES, PAGE_NUMBERS};
 use nm_types::{Errno, MachineError, NodeId, NodeMask, Pid, ProcessInfo, Vpn};
 use std::alloc::Allocator;
@@ -66,10 +67,12 @@ impl<A: Allocator + Copy + Send + Sync> Machine<A> {
         if self.inner.spaces.info(pid).is_none() {
             return Err(MachineError::Refused(Errno::Esrch));
         }
-        if self.shows_pinned(pid, Vpn::new(0), Vpn::new(PAGE_NUMBERS)) {
+        let first = Vpn::new(0);
+        let end = Vpn::new(PAGE_NUMBERS);
+        if self.shows_pinned(pid, first, end) {
             return Err(MachineError::Refused(Errno::Ebusy));
         }
-        self.let_go(pid, 0, PAGE_NUMBERS)?;
+        self.let_go(pid, PageRange { first, end })?;
         self.inner.spaces.remove_task(pid);
         Ok(())
     }

@@ -10,7 +10,7 @@ ghost use Rattle.nm_types.specs.State.{Process, page_at};
 ghost use Rattle.nm_types.specs.Does.{Makes};
 ghost use Rattle.nm_areas.specs.Splits.{HasSplit};
 ghost use Rattle.nm_model.specs.definitions.Areas.{inserted, attached, pages_of, with_policy};
-ghost use Rattle.nm_model.specs.definitions.AreaRefusal.{insert_refusal, stretch_refusal, range_refusal, remove_refusal, overlaps};
+ghost use Rattle.nm_model.specs.definitions.AreaRefusal.{insert_refusal, stretch_refusal, range_refusal, overlaps};
 ghost use Rattle.nm_model.specs.definitions.Areas.{removed, frames_lost};
 ghost use Rattle.nm_model.specs.definitions.Effect.{shows_pinned};
 ghost use Rattle.nm_model.specs.definitions.PageTables.{entry_at};
@@ -20,10 +20,11 @@ ghost use Rattle.nm_spaces.specs.views.AddressSpaces.{is_pinned, mapped_of, with
 
 use crate::address_spaces::AddressSpaces;
 use crate::process_table::ProcessTable;
+use nm_areas::PageRange;
 use nm_rmap::ReverseMap;
 use nm_tables::Entry;
 use nm_types::{FrameId, MachineError, Page, Pid, Policy, Vpn};
-use std::alloc::Allocator;
+use std::alloc::{AllocError, Allocator};
 
 impl<A: Allocator + Copy> AddressSpaces<A> {
     /// Makes the next segment, and an area of the process over all of it. Returns the segment's number.
@@ -120,43 +121,34 @@ impl<A: Allocator + Copy> AddressSpaces<A> {
         }
     }
 
-    /// Unmaps `pages` pages of a process from an address on, none of which may have a pin: the process loses what it
-    /// sees there, and the parts of its areas there. Returns the pages that no area covers, with the frames that they
-    /// had, in address order.
+    /// Unmaps a range of one or more page numbers of a process, none of which may show a page with a pin: the process
+    /// loses what it sees there, and the parts of its areas there. Returns the pages that no area covers, with the
+    /// frames that they had, in address order.
     pub fn remove(
         &mut self,
         pid: Pid,
-        addr: u64,
-        pages: u64,
-    ) -> Result<Vec<(Page, FrameId), A>, MachineError>
-        requires unpinned { shows_pinned self.old.areas self.old.pins pid (addr / 4096)
-            (addr / 4096 + pages)
+        range: PageRange,
+    ) -> Result<Vec<(Page, FrameId), A>, AllocError>
+        requires some { range.first < range.end }
+        requires unpinned { shows_pinned self.old.areas self.old.pins pid range.first range.end
             ≡ false }
 
-        // In any case
-        ensures done { Makes result (mapped_of self.old) (mapped_of self.new)
-            (remove_refusal addr pages)
-            (removed (mapped_of self.old) pid (addr / 4096) (addr / 4096 + pages)) }
-
         // On success
-        ensures ok { OnOk result
-            (self.new ≡ without_range self.old pid (addr / 4096) (addr / 4096 + pages)) }
+        ensures ok { OnOk result (self.new ≡ without_range self.old pid range.first range.end) }
         ensures freed { IfOk result
-            (λ freed. freed.items
-            ≡ frames_lost (mapped_of self.old) pid (addr / 4096) (addr / 4096 + pages)) }
+            (λ freed. freed.items ≡ frames_lost (mapped_of self.old) pid range.first range.end) }
 
-        // On an error
+        // Without memory
         ensures err { OnErr result (self.new ≡ self.old) }
-        ensures asked { result ≡ Err MachineError.HostMemory →
-            list_any (overlaps pid (addr / 4096) (addr / 4096 + pages)) self.old.areas ≡ true }
-        ensures needed { result ≡ Err MachineError.HostMemory →
-            (0 < length self.old.place)
-            ⊎ HasSplit self.old.areas pid (addr / 4096)
-            ⊎ HasSplit self.old.areas pid (addr / 4096 + pages) }
+        ensures asked { OnErr result
+            (list_any (overlaps pid range.first range.end) self.old.areas ≡ true) }
+        ensures needed { OnErr result
+            ((0 < length self.old.place)
+            ⊎ HasSplit self.old.areas pid range.first
+            ⊎ HasSplit self.old.areas pid range.end) }
     {
-        let freed = self.areas.remove(pid, addr, pages)?;
-        let first = Vpn::of_address(addr);
-        let end = Vpn::new(first.number() + pages);
+        let PageRange { first, end } = range;
+        let freed = self.areas.remove(pid, range)?;
         clear_between(&mut self.tasks, &mut self.rmap, pid, first, end);
         Ok(freed)
     }

@@ -19,26 +19,26 @@ pub overflow_add-result : goal.overflow_add-result
 overflow_add-result g c =
     let e : Placed = (c.in-Some.field-0-0.now, c.in-Some.area.now) in
     let low : e.0.1 + e.1.pages ≤ 2 ^ 35 =
-    last_has c.self.inside.areas c.args.self.now.areas (ap (λ (x : Table). x.areas) c.self.view_is) c.requires.apart c.requires.whole EndsLow c.args.pid c.new-end.result c.range.result c.next_back.new.self e
+    last_has c.self.inside.areas c.args.self.now.areas (ap (λ (x : Table). x.areas) c.self.view_is) c.requires.apart c.requires.whole EndsLow c.args.pid c.args.range.now.end c.range.result c.next_back.new.self e
     (c.range.ensures.in_range tt) c.in-Some.ensures.steps c.requires.low in
-    omega (arith, low, c.number-else-ne.ensures)
+    omega (arith, low, c.number.ensures)
 
 pub returns-then-ne : goal.returns-then-ne
 returns-then-ne g c =
     let e : Placed = (c.in-Some.field-0-0.now, c.in-Some.area.now) in
     c.if-ne.true
-    ∙ free_other c.self.inside.areas c.args.self.now.areas (ap (λ (x : Table). x.areas) c.self.view_is) c.requires.apart c.requires.whole c.args.pid c.args.first c.new-end.result (c.args.first + c.args.pages) c.range.result c.next_back.new.self e
-    (c.range.ensures.in_range tt) c.in-Some.ensures.steps (c.new-end.ensures ∙ ap (λ n. n + c.args.pages) c.number.ensures) (false_from_not c.ne.result (nat_eq e.0.0 c.args.pid) c.ne.ensures c.if-ne.true)
+    ∙ free_other c.self.inside.areas c.args.self.now.areas (ap (λ (x : Table). x.areas) c.self.view_is) c.requires.apart c.requires.whole c.args.pid c.args.range.now.first c.args.range.now.end c.args.range.now.end c.range.result c.next_back.new.self e
+    (c.range.ensures.in_range tt) c.in-Some.ensures.steps refl (false_from_not c.ne.result (nat_eq e.0.0 c.args.pid) c.ne.ensures c.if-ne.true)
 
 pub returns-else-ne : goal.returns-else-ne
 returns-else-ne g c =
     let e : Placed = (c.in-Some.field-0-0.now, c.in-Some.area.now) in
-    ap (λ n. nat_le (n + e.1.pages) c.number-else-ne-2.result) c.number-else-ne.ensures
-    ∙ ap (nat_le (e.0.1 + e.1.pages)) c.number-else-ne-2.ensures
-    ∙ free_own c.self.inside.areas c.args.self.now.areas (ap (λ (x : Table). x.areas) c.self.view_is) c.requires.apart c.requires.whole c.args.pid c.args.first c.new-end.result (c.args.first + c.args.pages) c.range.result c.next_back.new.self e
-    (c.range.ensures.in_range tt) c.in-Some.ensures.steps (c.new-end.ensures ∙ ap (λ n. n + c.args.pages) c.number.ensures) (true_from_not (nat_eq e.0.0 c.args.pid) c.if-ne.ensures)
+    ap (λ n. nat_le (n + e.1.pages) c.number-else-ne.result) c.number.ensures
+    ∙ ap (nat_le (e.0.1 + e.1.pages)) c.number-else-ne.ensures
+    ∙ free_own c.self.inside.areas c.args.self.now.areas (ap (λ (x : Table). x.areas) c.self.view_is) c.requires.apart c.requires.whole c.args.pid c.args.range.now.first c.args.range.now.end c.args.range.now.end c.range.result c.next_back.new.self e
+    (c.range.ensures.in_range tt) c.in-Some.ensures.steps refl (true_from_not (nat_eq e.0.0 c.args.pid) c.if-ne.ensures)
 
 pub returns-in-None : goal.returns-in-None
 returns-in-None g c =
-    free_none c.self.inside.areas c.args.self.now.areas (ap (λ (x : Table). x.areas) c.self.view_is) c.requires.apart c.requires.whole c.args.pid c.args.first c.new-end.result (c.args.first + c.args.pages) c.range.result
-    (c.range.ensures.in_range tt) c.in-None.ensures.steps.0 (c.new-end.ensures ∙ ap (λ n. n + c.args.pages) c.number.ensures)
+    free_none c.self.inside.areas c.args.self.now.areas (ap (λ (x : Table). x.areas) c.self.view_is) c.requires.apart c.requires.whole c.args.pid c.args.range.now.first c.args.range.now.end c.args.range.now.end c.range.result
+    (c.range.ensures.in_range tt) c.in-None.ensures.steps.0 refl

@@ -1,4 +1,4 @@
-use Rattle.std.proofs.Common.{◌≡◌, ℕ, Bool, true, false, not, refl, sym, subst, ◌∙◌, ap, ◌/◌, ◌+◌, ◌<◌, ◌^◌}
+use Rattle.std.proofs.Common.{◌≡◌, ℕ, Bool, true, false, not, refl, sym, subst, ◌∙◌, ap, ◌/◌, ◌+◌, ◌<◌, ◌^◌, arith}
 use Rattle.std.specs.Prelude.{Some, None, ◌&&◌, if◌then◌else◌}
 use Rattle.std.specs.List.{list_any}
 use Rattle.std.specs.Ordering.{nat_cmp}
@@ -10,7 +10,7 @@ use Rattle.nm_model.specs.definitions.Areas.{is_shared}
 use Rattle.nm_model.specs.views.Table.{Table, with_areas}
 use Rattle.nm_model.specs.definitions.Areas.{Mapped, mapped}
 use Rattle.nm_model.specs.definitions.AreaRefusal.{stretch_refusal, is_range, is_room, is_stretch, overlaps}
-use Rattle.nm_areas.proofs.Beginning.{none_begins}
+use Rattle.nm_areas.proofs.Beginning.{none_begins, free_pages}
 use Rattle.nm_model.proofs.areas.Shown.{over_more}
 use Rattle.nm_model.specs.definitions.Areas.{new_area, over_with, attached}
 use Rattle.nm_areas.proofs.Inserted.{attached_mapped, stretch_ends}
@@ -64,9 +64,6 @@ is_free-requires-clause-whole g c = c.self.invariant.0.whole
 pub is_free-requires-clause-low : goal.is_free-requires-clause-low
 is_free-requires-clause-low g c = c.self.invariant.0.low
 
-pub is_free-requires-clause-end : goal.is_free-requires-clause-end
-is_free-requires-clause-end g c = c.in-Some.ensures.some.3
-
 pub stretch_of-requires : goal.stretch_of-requires
 stretch_of-requires g c = record { numbers = c.self.invariant.0.numbers }
 
@@ -85,16 +82,16 @@ returns-in_default-clause-done g c = (no_range c.args.self.now c.args.pid c.args
 pub returns-then-not-is_free-clause-done : goal.returns-then-not-is_free-clause-done
 returns-then-not-is_free-clause-done g c =
     let range = c.in-Some.ensures.some in (
-      occupied (mapped c.self.inside.table c.self.inside.places.entries) c.args.self.now c.args.pid c.args.addr c.args.segment c.args.offset c.args.pages c.in-Some.first c.is_free.result c.self.view_is
-          range.0 range.1 c.is_free.ensures c.if-not-is_free.true,
+      occupied (mapped c.self.inside.table c.self.inside.places.entries) c.args.self.now c.args.pid c.args.addr c.args.segment c.args.offset c.args.pages c.in-Some.range.first c.is_free.result c.self.view_is
+          range.0 range.2 (free_pages c.self.inside.table.areas c.args.pid _ _ range.0 range.1 c.is_free.ensures) c.if-not-is_free.true,
       refl,
     )
 
 pub returns-in_default-stretch_of-clause-done : goal.returns-in_default-stretch_of-clause-done
 returns-in_default-stretch_of-clause-done g c =
     let range = c.in-Some.ensures.some in (
-      no_stretch (mapped c.self.inside.table c.self.inside.places.entries) c.args.self.now c.args.pid c.args.addr c.args.segment c.args.offset c.args.pages c.in-Some.first c.is_free.result c.self.view_is
-          range.0 range.1 c.is_free.ensures c.if-not-is_free.false c.in_default-stretch_of.ensures.none,
+      no_stretch (mapped c.self.inside.table c.self.inside.places.entries) c.args.self.now c.args.pid c.args.addr c.args.segment c.args.offset c.args.pages c.in-Some.range.first c.is_free.result c.self.view_is
+          range.0 range.2 (free_pages c.self.inside.table.areas c.args.pid _ _ range.0 range.1 c.is_free.ensures) c.if-not-is_free.false c.in_default-stretch_of.ensures.none,
       refl,
     )
 
@@ -102,22 +99,22 @@ pub returns-in_err-count_in-clause-memory : goal.returns-in_err-count_in-clause-
 returns-in_err-count_in-clause-memory g c = λ _.
     let range = c.in-Some.ensures.some in
     let stretch = c.in-Some-stretch_of.ensures.some in
-    accepted (mapped c.self.inside.table c.self.inside.places.entries) c.args.self.now c.args.pid c.args.addr c.args.segment c.args.offset c.args.pages c.in-Some.first c.is_free.result c.self.view_is
-    range.0 range.1 c.is_free.ensures c.if-not-is_free.false c.in-Some-stretch_of.number stretch.0 stretch.1
+    accepted (mapped c.self.inside.table c.self.inside.places.entries) c.args.self.now c.args.pid c.args.addr c.args.segment c.args.offset c.args.pages c.in-Some.range.first c.is_free.result c.self.view_is
+    range.0 range.2 (free_pages c.self.inside.table.areas c.args.pid _ _ range.0 range.1 c.is_free.ensures) c.if-not-is_free.false c.in-Some-stretch_of.number stretch.0 stretch.1
 
 pub returns-in_default-attach-clause-memory : goal.returns-in_default-attach-clause-memory
 returns-in_default-attach-clause-memory g c = λ _.
     let range = c.in-Some.ensures.some in
     let stretch = c.in-Some-stretch_of.ensures.some in
-    accepted (mapped c.self.inside.table c.self.inside.places.entries) c.args.self.now c.args.pid c.args.addr c.args.segment c.args.offset c.args.pages c.in-Some.first c.is_free.result c.self.view_is
-    range.0 range.1 c.is_free.ensures c.if-not-is_free.false c.in-Some-stretch_of.number stretch.0 stretch.1
+    accepted (mapped c.self.inside.table c.self.inside.places.entries) c.args.self.now c.args.pid c.args.addr c.args.segment c.args.offset c.args.pages c.in-Some.range.first c.is_free.result c.self.view_is
+    range.0 range.2 (free_pages c.self.inside.table.areas c.args.pid _ _ range.0 range.1 c.is_free.ensures) c.if-not-is_free.false c.in-Some-stretch_of.number stretch.0 stretch.1
 
 pub returns-clause-memory : goal.returns-clause-memory
 returns-clause-memory g c = λ _.
     let range = c.in-Some.ensures.some in
     let stretch = c.in-Some-stretch_of.ensures.some in
-    accepted (mapped c.self.inside.table c.self.inside.places.entries) c.args.self.now c.args.pid c.args.addr c.args.segment c.args.offset c.args.pages c.in-Some.first c.is_free.result c.self.view_is
-    range.0 range.1 c.is_free.ensures c.if-not-is_free.false c.in-Some-stretch_of.number stretch.0 stretch.1
+    accepted (mapped c.self.inside.table c.self.inside.places.entries) c.args.self.now c.args.pid c.args.addr c.args.segment c.args.offset c.args.pages c.in-Some.range.first c.is_free.result c.self.view_is
+    range.0 range.2 (free_pages c.self.inside.table.areas c.args.pid _ _ range.0 range.1 c.is_free.ensures) c.if-not-is_free.false c.in-Some-stretch_of.number stretch.0 stretch.1
 
 pub returns-in_default-attach-clause-done : goal.returns-in_default-attach-clause-done
 returns-in_default-attach-clause-done g c = ap (λ (t : Table). mapped t c.self.inside.places.entries) c.in_default-attach.ensures.err ∙ c.self.view_is
@@ -126,15 +123,15 @@ pub returns-clause-done : goal.returns-clause-done
 returns-clause-done g c =
     let range = c.in-Some.ensures.some in
     let stretch = c.in-Some-stretch_of.ensures.some in (
-      accepted (mapped c.self.inside.table c.self.inside.places.entries) c.args.self.now c.args.pid c.args.addr c.args.segment c.args.offset c.args.pages c.in-Some.first c.is_free.result c.self.view_is
-          range.0 range.1 c.is_free.ensures c.if-not-is_free.false c.in-Some-stretch_of.number stretch.0 stretch.1,
-      attached_at c.self.inside.table c.attach.new.self c.self.inside.places.entries c.args.pid c.args.addr c.args.segment c.args.offset c.args.pages c.in-Some.first c.in-Some-stretch_of.number range.0 stretch.0 c.in-Ok.ensures.ok
+      accepted (mapped c.self.inside.table c.self.inside.places.entries) c.args.self.now c.args.pid c.args.addr c.args.segment c.args.offset c.args.pages c.in-Some.range.first c.is_free.result c.self.view_is
+          range.0 range.2 (free_pages c.self.inside.table.areas c.args.pid _ _ range.0 range.1 c.is_free.ensures) c.if-not-is_free.false c.in-Some-stretch_of.number stretch.0 stretch.1,
+      attached_at c.self.inside.table c.attach.new.self c.self.inside.places.entries c.args.pid c.args.addr c.args.segment c.args.offset c.args.pages c.in-Some.range.first c.in-Some-stretch_of.number range.0 stretch.0 c.in-Ok.ensures.ok
           ∙ ap (λ (m : Mapped). attached m c.args.pid c.args.addr c.args.segment c.args.offset c.args.pages) c.self.view_is,
     )
 
 pub attach-requires : goal.attach-requires
 attach-requires g c =
-    record { free = none_begins c.self.inside.table.areas c.args.pid c.in-Some.first c.args.pages c.in-Some.ensures.some.2 c.self.invariant.0.whole (sym c.if-not-is_free.false ∙ c.is_free.ensures) }
+    record { free = none_begins c.self.inside.table.areas c.args.pid c.in-Some.range.first c.args.pages (omega (arith, c.in-Some.ensures.some.0, c.in-Some.ensures.some.1, c.in-Some.ensures.some.3)) c.self.invariant.0.whole (sym c.if-not-is_free.false ∙ free_pages c.self.inside.table.areas c.args.pid _ _ c.in-Some.ensures.some.0 c.in-Some.ensures.some.1 c.is_free.ensures) }
 
 pub count_in-requires-clause-indices : goal.count_in-requires-clause-indices
 count_in-requires-clause-indices g c =
@@ -157,13 +154,13 @@ invariant_of-self-in-Ok g c =
     let range = c.in-Some.ensures.some in
     let number = c.in-Some-stretch_of.number in
     let stretch = sym c.in-Some-stretch_of.ensures.some.1 in
-    let free = sym c.if-not-is_free.false ∙ c.is_free.ensures in
+    let free = sym c.if-not-is_free.false ∙ free_pages c.self.inside.table.areas c.args.pid _ _ range.0 range.1 c.is_free.ensures in
     let there = stretch_shared c.self.inside.table.segments number c.args.offset c.args.pages c.self.inside.table.next c.self.invariant.0.numbers stretch in (
-      attached_mapped c.self.inside.table c.self.inside.places.entries c.self.invariant.0 c.args.pid c.in-Some.first (new_area number c.args.offset c.args.pages) range.2 range.3
+      attached_mapped c.self.inside.table c.self.inside.places.entries c.self.invariant.0 c.args.pid c.in-Some.range.first (new_area number c.args.offset c.args.pages) (omega (arith, range.0, range.1, range.3)) (omega (arith, range.0, range.1, range.4))
           (stretch_ends c.self.inside.table.segments number c.args.offset c.args.pages c.self.invariant.0.lengths stretch)
           free c.attach.new.self there.0 there.1 c.in-Ok.ensures.ok,
-      came c.count_in.new.steps c.self.inside.table c.attach.new.self (c.args.pid, c.in-Some.first) c.new_area.result (new_area number c.args.offset c.args.pages) true c.new_area.ensures
-          (none_begins c.self.inside.table.areas c.args.pid c.in-Some.first c.args.pages range.2 c.self.invariant.0.whole free) (ap (λ (t : Table). t.areas) c.in-Ok.ensures.ok)
+      came c.count_in.new.steps c.self.inside.table c.attach.new.self (c.args.pid, c.in-Some.range.first) c.new_area.result (new_area number c.args.offset c.args.pages) true c.new_area.ensures
+          (none_begins c.self.inside.table.areas c.args.pid c.in-Some.range.first c.args.pages (omega (arith, range.0, range.1, range.3)) c.self.invariant.0.whole free) (ap (λ (t : Table). t.areas) c.in-Ok.ensures.ok)
           (sym there.0 ∙ ap (λ (t : Table). is_shared t.segments number) (sym c.in-Ok.ensures.ok)) (λ n shown. ap (λ (t : Table). is_shared t.segments n) (sym c.in-Ok.ensures.ok)) c.in_ok-count_in.ensures.ok,
     )
 
@@ -171,7 +168,7 @@ pub returns-clause-over : goal.returns-clause-over
 returns-clause-over g c q v =
     let range = c.in-Some.ensures.some in
     let number = c.in-Some-stretch_of.number in
-    over_more c.self.inside.table c.attach.new.self c.self.inside.places.entries c.args.pid c.in-Some.first (c.args.addr / 4096) (new_area number c.args.offset c.args.pages) c.self.invariant.0 range.2 range.0
-    (sym c.if-not-is_free.false ∙ c.is_free.ensures) (ap (λ (t : Table). t.areas) c.in-Ok.ensures.ok) q v
+    over_more c.self.inside.table c.attach.new.self c.self.inside.places.entries c.args.pid c.in-Some.range.first (c.args.addr / 4096) (new_area number c.args.offset c.args.pages) c.self.invariant.0 (omega (arith, range.0, range.1, range.3)) range.0
+    (sym c.if-not-is_free.false ∙ free_pages c.self.inside.table.areas c.args.pid _ _ range.0 range.1 c.is_free.ensures) (ap (λ (t : Table). t.areas) c.in-Ok.ensures.ok) q v
     ∙ ap (λ (n : ℕ). over_with c.self.inside.table.areas ((c.args.pid, c.args.addr / 4096), new_area n c.args.offset c.args.pages) q v) c.in-Some-stretch_of.ensures.some.0
     ∙ ap (λ (m : Mapped). over_with m.areas ((c.args.pid, c.args.addr / 4096), new_area c.args.segment c.args.offset c.args.pages) q v) c.self.view_is

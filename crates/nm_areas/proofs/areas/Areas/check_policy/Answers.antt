@@ -1,4 +1,4 @@
-use Rattle.std.proofs.Common.{◌≡◌, ℕ, ◌+◌, ◌*◌, ◌/◌, ◌%◌, ◌<◌, ◌^◌, Bool, not, sym, ap, subst, ◌∙◌}
+use Rattle.std.proofs.Common.{◌≡◌, ℕ, ◌+◌, ◌-◌, ◌*◌, ◌/◌, ◌%◌, ◌<◌, ◌^◌, Bool, not, sym, ap, subst, ◌∙◌, arith}
 use Rattle.std.specs.Prelude.{nat_le, ◌||◌, Some, None, if◌then◌else◌}
 use Rattle.std.proofs.lemmas.Bool.{eq-eqb, lt-leb}
 use Rattle.nm_types.specs.declared.errno.Errno.TheVariants.{Efault, Einval}
@@ -8,14 +8,15 @@ use Rattle.nm_model.specs.definitions.AreaRefusal.{range_refusal}
 use Rattle.nm_areas.proofs.areas.Areas.check_policy.Goals as goal
 
 -- what is refused in a range of whole pages
-in_range : (m n : Mapped) (pid addr len first count : ℕ) (answer : Bool) → m ≡ n → addr % 4096 ≡ 0 → addr + 4096 * pages_of len < 2 ^ 64 → first ≡ addr / 4096 → count ≡ pages_of len
-    → answer ≡ is_mapped m.areas pid first count → range_refusal n pid addr len ≡ (if not answer then Some Efault else None)
-in_range m n pid addr len first count answer same aligned low at long told =
+in_range : (m n : Mapped) (pid addr len first end : ℕ) (answer : Bool) → m ≡ n → addr % 4096 ≡ 0 → addr + 4096 * pages_of len < 2 ^ 64 → first ≡ addr / 4096 → end ≡ addr / 4096 + pages_of len
+    → answer ≡ is_mapped m.areas pid first (end - first) → range_refusal n pid addr len ≡ (if not answer then Some Efault else None)
+in_range m n pid addr len first end answer same aligned low at past told =
     let pages = pages_of len in
+    let count : end - first ≡ pages = omega (arith, at, past) in
     subst (λ (x : Mapped). range_refusal x pid addr len ≡ (if not answer then Some Efault else None)) same
     (ap (λ b. if not b || nat_le (2 ^ 64) (addr + 4096 * pages) then Some Einval else (if not (is_mapped m.areas pid (addr / 4096) pages) then Some Efault else None)) (eq-eqb (addr % 4096) 0 aligned)
     ∙ ap (λ b. if b then Some Einval else (if not (is_mapped m.areas pid (addr / 4096) pages) then Some Efault else None)) (lt-leb (2 ^ 64) (addr + 4096 * pages) low)
-    ∙ ap (λ b. if not b then Some Efault else None) (sym (told ∙ ap (λ v. is_mapped m.areas pid v count) at ∙ ap (is_mapped m.areas pid (addr / 4096)) long)))
+    ∙ ap (λ b. if not b then Some Efault else None) (sym (told ∙ ap (λ v. is_mapped m.areas pid v (end - first)) at ∙ ap (is_mapped m.areas pid (addr / 4096)) count)))
 
 pub is_mapped-requires-clause-apart : goal.is_mapped-requires-clause-apart
 is_mapped-requires-clause-apart g c = c.self.invariant.0.apart

@@ -16,7 +16,7 @@ use Rattle.nm_model.specs.views.Table.{Table}
 use Rattle.nm_model.specs.definitions.Areas.{Mapped, mapped}
 use Rattle.nm_model.specs.definitions.AreaRefusal.{insert_refusal, is_range, is_room, overlaps}
 use Rattle.nm_model.specs.definitions.Areas.{new_area, over_with, inserted}
-use Rattle.nm_areas.proofs.Beginning.{none_begins}
+use Rattle.nm_areas.proofs.Beginning.{none_begins, free_pages}
 use Rattle.nm_areas.proofs.Covered.{came, stayed}
 use Rattle.nm_areas.proofs.Masked.{new_shared, old_shared}
 use Rattle.nm_model.proofs.areas.Shown.{over_more}
@@ -77,9 +77,6 @@ is_free-requires-clause-whole g c = c.self.invariant.0.whole
 pub is_free-requires-clause-low : goal.is_free-requires-clause-low
 is_free-requires-clause-low g c = c.self.invariant.0.low
 
-pub is_free-requires-clause-end : goal.is_free-requires-clause-end
-is_free-requires-clause-end g c = c.in-Some.ensures.some.3
-
 pub count_in-requires-clause-steps : goal.count_in-requires-clause-steps
 count_in-requires-clause-steps g c = c.self.invariant.1
 
@@ -87,10 +84,10 @@ pub count_in-requires-clause-whole : goal.count_in-requires-clause-whole
 count_in-requires-clause-whole g c = c.self.invariant.0.whole
 
 pub count_in-requires-clause-indices : goal.count_in-requires-clause-indices
-count_in-requires-clause-indices g c = subst (λ (x : Area). x.page.index + x.pages < 2 ^ 64) (sym c.new_area.ensures) (omega (arith, c.in-Some.ensures.some.3))
+count_in-requires-clause-indices g c = subst (λ (x : Area). x.page.index + x.pages < 2 ^ 64) (sym c.new_area.ensures) (omega (arith, c.in-Some.ensures.some.0, c.in-Some.ensures.some.1, c.in-Some.ensures.some.4))
 
 pub count_out-requires : goal.count_out-requires
-count_out-requires g c = record { indices = subst (λ (x : Area). x.page.index + x.pages < 2 ^ 64) (sym c.new_area-in_default-insert.ensures) (omega (arith, c.in-Some.ensures.some.3)) }
+count_out-requires g c = record { indices = subst (λ (x : Area). x.page.index + x.pages < 2 ^ 64) (sym c.new_area-in_default-insert.ensures) (omega (arith, c.in-Some.ensures.some.0, c.in-Some.ensures.some.1, c.in-Some.ensures.some.4)) }
 
 pub invariant_of-self : goal.invariant_of-self
 invariant_of-self g c = (c.self.invariant.0, c.in_err-count_in.ensures.err)
@@ -101,22 +98,22 @@ returns-in_default-clause-done g c = (no_range c.args.self.now c.args.pid c.args
 pub returns-then-not-is_free-clause-done : goal.returns-then-not-is_free-clause-done
 returns-then-not-is_free-clause-done g c =
     let range = c.in-Some.ensures.some in (
-      occupied (mapped c.self.inside.table c.self.inside.places.entries) c.args.self.now c.args.pid c.args.addr c.args.pages c.in-Some.first c.is_free.result c.self.view_is range.0 range.1
-          c.is_free.ensures c.if-not-is_free.true,
+      occupied (mapped c.self.inside.table c.self.inside.places.entries) c.args.self.now c.args.pid c.args.addr c.args.pages c.in-Some.range.first c.is_free.result c.self.view_is range.0 range.2
+          (free_pages c.self.inside.table.areas c.args.pid _ _ range.0 range.1 c.is_free.ensures) c.if-not-is_free.true,
       refl,
     )
 
 pub returns-in_err-count_in-clause-memory : goal.returns-in_err-count_in-clause-memory
 returns-in_err-count_in-clause-memory g c = λ _.
     let range = c.in-Some.ensures.some in
-    accepted (mapped c.self.inside.table c.self.inside.places.entries) c.args.self.now c.args.pid c.args.addr c.args.pages c.in-Some.first c.is_free.result c.self.view_is range.0 range.1
-    c.is_free.ensures c.if-not-is_free.false (omega (arith, c.next_segment.ensures, c.if-next_segment-ge-MAX_SEGMENTS.false))
+    accepted (mapped c.self.inside.table c.self.inside.places.entries) c.args.self.now c.args.pid c.args.addr c.args.pages c.in-Some.range.first c.is_free.result c.self.view_is range.0 range.2
+    (free_pages c.self.inside.table.areas c.args.pid _ _ range.0 range.1 c.is_free.ensures) c.if-not-is_free.false (omega (arith, c.next_segment.ensures, c.if-next_segment-ge-MAX_SEGMENTS.false))
 
 pub returns-then-next_segment-ge-MAX_SEGMENTS-clause-done : goal.returns-then-next_segment-ge-MAX_SEGMENTS-clause-done
 returns-then-next_segment-ge-MAX_SEGMENTS-clause-done g c =
     let range = c.in-Some.ensures.some in (
-      exhausted (mapped c.self.inside.table c.self.inside.places.entries) c.args.self.now c.args.pid c.args.addr c.args.pages c.in-Some.first c.is_free.result c.self.view_is range.0 range.1
-          c.is_free.ensures c.if-not-is_free.false (omega (arith, c.next_segment.ensures, c.if-next_segment-ge-MAX_SEGMENTS.true)),
+      exhausted (mapped c.self.inside.table c.self.inside.places.entries) c.args.self.now c.args.pid c.args.addr c.args.pages c.in-Some.range.first c.is_free.result c.self.view_is range.0 range.2
+          (free_pages c.self.inside.table.areas c.args.pid _ _ range.0 range.1 c.is_free.ensures) c.if-not-is_free.false (omega (arith, c.next_segment.ensures, c.if-next_segment-ge-MAX_SEGMENTS.true)),
       refl,
     )
 
@@ -138,14 +135,14 @@ returns-in_default-insert-clause-done g c = ap (λ (t : Table). mapped t c.self.
 pub returns-in_default-insert-clause-memory : goal.returns-in_default-insert-clause-memory
 returns-in_default-insert-clause-memory g c = λ _.
     let range = c.in-Some.ensures.some in
-    accepted (mapped c.self.inside.table c.self.inside.places.entries) c.args.self.now c.args.pid c.args.addr c.args.pages c.in-Some.first c.is_free.result c.self.view_is range.0 range.1
-    c.is_free.ensures c.if-not-is_free.false (omega (arith, c.next_segment.ensures, c.if-next_segment-ge-MAX_SEGMENTS.false))
+    accepted (mapped c.self.inside.table c.self.inside.places.entries) c.args.self.now c.args.pid c.args.addr c.args.pages c.in-Some.range.first c.is_free.result c.self.view_is range.0 range.2
+    (free_pages c.self.inside.table.areas c.args.pid _ _ range.0 range.1 c.is_free.ensures) c.if-not-is_free.false (omega (arith, c.next_segment.ensures, c.if-next_segment-ge-MAX_SEGMENTS.false))
 
 pub returns-clause-memory : goal.returns-clause-memory
 returns-clause-memory g c = λ _.
     let range = c.in-Some.ensures.some in
-    accepted (mapped c.self.inside.table c.self.inside.places.entries) c.args.self.now c.args.pid c.args.addr c.args.pages c.in-Some.first c.is_free.result c.self.view_is range.0 range.1
-    c.is_free.ensures c.if-not-is_free.false (omega (arith, c.next_segment.ensures, c.if-next_segment-ge-MAX_SEGMENTS.false))
+    accepted (mapped c.self.inside.table c.self.inside.places.entries) c.args.self.now c.args.pid c.args.addr c.args.pages c.in-Some.range.first c.is_free.result c.self.view_is range.0 range.2
+    (free_pages c.self.inside.table.areas c.args.pid _ _ range.0 range.1 c.is_free.ensures) c.if-not-is_free.false (omega (arith, c.next_segment.ensures, c.if-next_segment-ge-MAX_SEGMENTS.false))
 
 pub returns-clause-number : goal.returns-clause-number
 returns-clause-number g c = c.in-Ok.ensures.number ∙ ap (λ (m : Mapped). m.next) c.self.view_is
@@ -153,9 +150,9 @@ returns-clause-number g c = c.in-Ok.ensures.number ∙ ap (λ (m : Mapped). m.ne
 pub returns-clause-done : goal.returns-clause-done
 returns-clause-done g c =
     let range = c.in-Some.ensures.some in (
-      accepted (mapped c.self.inside.table c.self.inside.places.entries) c.args.self.now c.args.pid c.args.addr c.args.pages c.in-Some.first c.is_free.result c.self.view_is range.0 range.1
-          c.is_free.ensures c.if-not-is_free.false (omega (arith, c.next_segment.ensures, c.if-next_segment-ge-MAX_SEGMENTS.false)),
-      inserted_at c.self.inside.table c.insert.new.self c.self.inside.places.entries c.args.pid c.args.addr c.args.pages c.in-Some.first c.args.shared range.0 c.in-Ok.ensures.ok
+      accepted (mapped c.self.inside.table c.self.inside.places.entries) c.args.self.now c.args.pid c.args.addr c.args.pages c.in-Some.range.first c.is_free.result c.self.view_is range.0 range.2
+          (free_pages c.self.inside.table.areas c.args.pid _ _ range.0 range.1 c.is_free.ensures) c.if-not-is_free.false (omega (arith, c.next_segment.ensures, c.if-next_segment-ge-MAX_SEGMENTS.false)),
+      inserted_at c.self.inside.table c.insert.new.self c.self.inside.places.entries c.args.pid c.args.addr c.args.pages c.in-Some.range.first c.args.shared range.0 c.in-Ok.ensures.ok
           ∙ ap (λ (m : Mapped). inserted m c.args.pid c.args.addr c.args.pages c.args.shared) c.self.view_is,
     )
 
@@ -164,7 +161,7 @@ insert-requires-clause-new g c = none_next c.self.inside.table.segments c.self.i
 
 pub insert-requires-clause-free : goal.insert-requires-clause-free
 insert-requires-clause-free g c =
-    none_begins c.self.inside.table.areas c.args.pid c.in-Some.first c.args.pages c.in-Some.ensures.some.2 c.self.invariant.0.whole (sym c.if-not-is_free.false ∙ c.is_free.ensures)
+    none_begins c.self.inside.table.areas c.args.pid c.in-Some.range.first c.args.pages (omega (arith, c.in-Some.ensures.some.0, c.in-Some.ensures.some.1, c.in-Some.ensures.some.3)) c.self.invariant.0.whole (sym c.if-not-is_free.false ∙ free_pages c.self.inside.table.areas c.args.pid _ _ c.in-Some.ensures.some.0 c.in-Some.ensures.some.1 c.is_free.ensures)
 
 pub invariant_of-self-in_default-insert : goal.invariant_of-self-in_default-insert
 invariant_of-self-in_default-insert g c =
@@ -175,12 +172,12 @@ pub invariant_of-self-in-Ok-1 : goal.invariant_of-self-in-Ok-1
 invariant_of-self-in-Ok-1 g c =
     let range = c.in-Some.ensures.some in
     let segment : Segment = record { pages = c.args.pages; shared = c.args.shared } in
-    let free = sym c.if-not-is_free.false ∙ c.is_free.ensures in (
-      inserted_mapped c.self.inside.table c.insert.new.self c.self.inside.places.entries c.args.pid c.in-Some.first c.args.pages c.args.shared c.self.invariant.0 range.2 range.3
+    let free = sym c.if-not-is_free.false ∙ free_pages c.self.inside.table.areas c.args.pid _ _ range.0 range.1 c.is_free.ensures in (
+      inserted_mapped c.self.inside.table c.insert.new.self c.self.inside.places.entries c.args.pid c.in-Some.range.first c.args.pages c.args.shared c.self.invariant.0 (omega (arith, range.0, range.1, range.3)) (omega (arith, range.0, range.1, range.4))
           free c.in-Ok.ensures.ok,
-      came c.count_in.new.steps c.self.inside.table c.insert.new.self (c.args.pid, c.in-Some.first) c.new_area.result (new_area c.self.inside.table.next 0 c.args.pages) c.args.shared
+      came c.count_in.new.steps c.self.inside.table c.insert.new.self (c.args.pid, c.in-Some.range.first) c.new_area.result (new_area c.self.inside.table.next 0 c.args.pages) c.args.shared
           (c.new_area.ensures ∙ ap (λ (n : ℕ). new_area n 0 c.args.pages) c.next_segment-next.ensures)
-          (none_begins c.self.inside.table.areas c.args.pid c.in-Some.first c.args.pages range.2 c.self.invariant.0.whole free) (ap (λ (t : Table). t.areas) c.in-Ok.ensures.ok)
+          (none_begins c.self.inside.table.areas c.args.pid c.in-Some.range.first c.args.pages (omega (arith, range.0, range.1, range.3)) c.self.invariant.0.whole free) (ap (λ (t : Table). t.areas) c.in-Ok.ensures.ok)
           (new_shared c.self.inside.table.segments c.self.inside.table.next segment ∙ ap (λ (t : Table). is_shared t.segments c.self.inside.table.next) (sym c.in-Ok.ensures.ok))
           (λ n shown. old_shared c.self.inside.table.segments c.self.inside.table.next segment c.self.inside.table.areas c.self.invariant.0.below n shown ∙ ap (λ (t : Table). is_shared t.segments n) (sym c.in-Ok.ensures.ok))
           c.in_ok-count_in.ensures.ok,
@@ -189,6 +186,6 @@ invariant_of-self-in-Ok-1 g c =
 pub returns-clause-over : goal.returns-clause-over
 returns-clause-over g c q v =
     let range = c.in-Some.ensures.some in
-    over_more c.self.inside.table c.insert.new.self c.self.inside.places.entries c.args.pid c.in-Some.first (c.args.addr / 4096) (new_area c.self.inside.table.next 0 c.args.pages) c.self.invariant.0 range.2 range.0
-    (sym c.if-not-is_free.false ∙ c.is_free.ensures) (ap (λ (t : Table). t.areas) c.in-Ok.ensures.ok) q v
+    over_more c.self.inside.table c.insert.new.self c.self.inside.places.entries c.args.pid c.in-Some.range.first (c.args.addr / 4096) (new_area c.self.inside.table.next 0 c.args.pages) c.self.invariant.0 (omega (arith, range.0, range.1, range.3)) range.0
+    (sym c.if-not-is_free.false ∙ free_pages c.self.inside.table.areas c.args.pid _ _ range.0 range.1 c.is_free.ensures) (ap (λ (t : Table). t.areas) c.in-Ok.ensures.ok) q v
     ∙ ap (λ (m : Mapped). over_with m.areas ((c.args.pid, c.args.addr / 4096), new_area m.next 0 c.args.pages) q v) c.self.view_is

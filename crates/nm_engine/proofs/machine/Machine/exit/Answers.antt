@@ -1,4 +1,4 @@
-use Rattle.std.proofs.Common.{◌≡◌, ◌<◌, ◌^◌, ℕ, [], length, ap, sym, subst, ◌∙◌, arith, ⊎_elim}
+use Rattle.std.proofs.Common.{◌≡◌, ◌^◌, ℕ, [], ap, sym, subst, ◌∙◌, arith, ⊎_elim}
 use Rattle.std.specs.Ordering.{nat_cmp}
 use Rattle.nm_types.specs.Map.{without}
 use Rattle.nm_types.specs.State.{State}
@@ -14,7 +14,6 @@ use Rattle.nm_engine.specs.views.MidRun.{IsKept}
 use Rattle.nm_laws.proofs.Soundness.Dropped.{sees_none, exit_sound}
 use Rattle.nm_engine.proofs.Between.{shows, none_left, sound_between}
 use Rattle.nm_engine.proofs.MidRun.LostFrames.{sees_nothing}
-use Rattle.nm_engine.proofs.inner.HandedOn.{error_was}
 use Rattle.nm_engine.proofs.machine.Machine.exit.Goals as goal
 
 -- no area is split at the first page number, or at the last
@@ -32,7 +31,7 @@ pub remove_task-requires : goal.remove_task-requires
 remove_task-requires g c p there =
     let s = c.args.self.now in
     let sound : IsSound s = subst IsSound (shows c.self-inside.view_is c.self.view_is) (sound_between c.self-inside.invariant (none_left c.self-inside.view_is c.self.invariant)) in
-    let is = shows c.self-inside-2.view_is c.self-2.view_is ∙ c.in_ok-let_go.ensures.done.1 in
+    let is = shows c.self-inside-2.view_is c.self-2.view_is ∙ c.in_ok-let_go.ensures.ok ∙ (λ i. dropped s c.args.pid (c.new-first.ensures i) (c.new-end.ensures i)) in
     sees_nothing p.sees (λ w. sym (ap (λ o. sight_in o w) there) ∙ ap (λ (t : State). sight_at t c.args.pid w) is ∙ sees_none s sound c.args.pid w)
 
 pub invariant_of-self-inside : goal.invariant_of-self-inside
@@ -40,7 +39,8 @@ invariant_of-self-inside g c =
     let s = c.args.self.now in
     let i = c.self-inside-2.inside.0.0 in
     let sound : IsSound s = subst IsSound (shows c.self-inside.view_is c.self.view_is) (sound_between c.self-inside.invariant (none_left c.self-inside.view_is c.self.invariant)) in
-    let is : shown_by i.spaces i.frames i.online i.totals.moved i.totals.failed ≡ dropped s c.args.pid 0 (2 ^ 35) = shows c.self-inside-2.view_is c.self-2.view_is ∙ c.in_ok-let_go.ensures.done.1 in
+    let is : shown_by i.spaces i.frames i.online i.totals.moved i.totals.failed ≡ dropped s c.args.pid 0 (2 ^ 35) =
+    shows c.self-inside-2.view_is c.self-2.view_is ∙ c.in_ok-let_go.ensures.ok ∙ (λ i. dropped s c.args.pid (c.new-first.ensures i) (c.new-end.ensures i)) in
     let left : i.frames.vacated ≡ [] = none_left c.self-inside-2.view_is c.self-2.invariant in
     let out : State → State = λ t. record t { processes = without nat_cmp t.processes c.args.pid } in
     subst (λ (z : AddressSpacesView). IsKept (shown_by z i.frames i.online i.totals.moved i.totals.failed) i.frames.vacated z.frames) (sym c.remove_task.ensures)
@@ -55,5 +55,6 @@ pub returns-in_err-let_go-clause-needed : goal.returns-in_err-let_go-clause-need
 returns-in_err-let_go-clause-needed g c told =
     let s = c.args.self.now in
     let sound : IsSound s = subst IsSound (shows c.self-inside.view_is c.self.view_is) (sound_between c.self-inside.invariant (none_left c.self-inside.view_is c.self.invariant)) in
-    ⊎_elim (λ some. some) (λ split. ⊎_elim (λ first. absurd (not_at_first s c.args.pid first)) (λ last. absurd (not_at_last s sound c.args.pid last)) split)
-    (c.let_go.ensures.needed (error_was c.let_go.result c.from_residual.result _ _ c.in_err-let_go.was c.from_residual.ensures told))
+    ⊎_elim (λ some. some) (λ split. ⊎_elim (λ first. absurd (not_at_first s c.args.pid (subst (HasSplit s.areas c.args.pid) c.new-first.ensures first)))
+    (λ last. absurd (not_at_last s sound c.args.pid (subst (HasSplit s.areas c.args.pid) c.new-end.ensures last))) split)
+    c.in_err-let_go.ensures.needed

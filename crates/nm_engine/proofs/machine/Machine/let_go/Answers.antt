@@ -1,14 +1,14 @@
-use Rattle.std.proofs.Common.{◌+◌, ◌/◌, ◌<◌, List, ℕ, length, refl, ap, sym, subst, ◌∙◌, arith}
+use Rattle.std.proofs.Common.{◌<◌, List, ℕ, length, ap, sym, subst, ◌∙◌, arith}
 use Rattle.std.specs.Prelude.{◌⊎◌}
 use Rattle.nm_types.specs.declared.page.Page.{Page}
 use Rattle.nm_model.specs.definitions.Effect.{dropped}
 use Rattle.nm_memory.specs.views.Frames.{pool_of, CanFree}
 use Rattle.nm_types.specs.State.{State}
 use Rattle.nm_areas.specs.Splits.{HasSplit}
+use Rattle.nm_areas.proofs.Counted.{err_always}
 use Rattle.nm_spaces.specs.views.AddressSpaces.{AddressSpacesView}
 use Rattle.nm_engine.specs.views.Shown.{shown_by}
 use Rattle.nm_engine.specs.views.MidRun.{IsKept}
-use Rattle.nm_engine.proofs.inner.HandedOn.{error_was, not_lacking}
 use Rattle.nm_engine.proofs.Between.{shows, none_left}
 use Rattle.nm_engine.proofs.MidRun.LostFrames.{frames_of, can_go, gone_shows, gone_kept}
 use Rattle.nm_engine.proofs.machine.Machine.let_go.Goals as goal
@@ -18,23 +18,21 @@ free_each-requires g c =
     let i = c.self-inside.inside.0.0 in
     let none = none_left c.self-inside.view_is c.self.invariant in
     subst (λ (fs : List (Page × ℕ)). CanFree (pool_of i.frames) (frames_of fs)) (sym (c.as_slice.ensures.value ∙ c.in_ok-freed.ensures.freed))
-    (can_go i.spaces i.frames i.online i.totals.moved i.totals.failed c.args.pid (c.args.addr / 4096) (c.args.addr / 4096 + c.args.pages) none c.self-inside.invariant.sound)
+    (can_go i.spaces i.frames i.online i.totals.moved i.totals.failed c.args.pid c.args.range.first c.args.range.end none c.self-inside.invariant.sound)
 
 pub invariant_of-self-inside-2 : goal.invariant_of-self-inside-2
 invariant_of-self-inside-2 g c =
     let i = c.self-inside.inside.0.0 in
     let none = none_left c.self-inside.view_is c.self.invariant in
-    gone_kept i.spaces i.frames i.online i.totals.moved i.totals.failed c.args.pid (c.args.addr / 4096) (c.args.addr / 4096 + c.args.pages) c.remove.new.self c.free_each.new.frames _
-    (omega arith) none c.self-inside.invariant c.in_ok-freed.ensures.ok (c.as_slice.ensures.value ∙ c.in_ok-freed.ensures.freed) c.free_each.ensures
+    gone_kept i.spaces i.frames i.online i.totals.moved i.totals.failed c.args.pid c.args.range.first c.args.range.end c.remove.new.self c.free_each.new.frames _
+    (omega (arith, c.requires.some)) none c.self-inside.invariant c.in_ok-freed.ensures.ok (c.as_slice.ensures.value ∙ c.in_ok-freed.ensures.freed) c.free_each.ensures
 
-pub returns-clause-done : goal.returns-clause-done
-returns-clause-done g c =
-    let i = c.self-inside.inside.0.0 in (
-      refl,
-      gone_shows i.spaces i.frames i.online i.totals.moved i.totals.failed c.args.pid (c.args.addr / 4096) (c.args.addr / 4096 + c.args.pages) c.remove.new.self c.free_each.new.frames _
-          c.self-inside.invariant.sound.pins.same_pages c.in_ok-freed.ensures.ok (c.as_slice.ensures.value ∙ c.in_ok-freed.ensures.freed) c.free_each.ensures
-          ∙ ap (λ (s : State). dropped s c.args.pid (c.args.addr / 4096) (c.args.addr / 4096 + c.args.pages)) (shows c.self-inside.view_is c.self.view_is),
-    )
+pub returns-clause-ok : goal.returns-clause-ok
+returns-clause-ok g c =
+    let i = c.self-inside.inside.0.0 in
+    gone_shows i.spaces i.frames i.online i.totals.moved i.totals.failed c.args.pid c.args.range.first c.args.range.end c.remove.new.self c.free_each.new.frames _
+    c.self-inside.invariant.sound.pins.same_pages c.in_ok-freed.ensures.ok (c.as_slice.ensures.value ∙ c.in_ok-freed.ensures.freed) c.free_each.ensures
+    ∙ ap (λ (s : State). dropped s c.args.pid c.args.range.first c.args.range.end) (shows c.self-inside.view_is c.self.view_is)
 
 pub invariant_of-self-inside : goal.invariant_of-self-inside
 invariant_of-self-inside g c =
@@ -42,12 +40,6 @@ invariant_of-self-inside g c =
     subst (λ (z : AddressSpacesView). IsKept (shown_by z i.frames i.online i.totals.moved i.totals.failed) i.frames.vacated z.frames) (sym c.in_err-freed.ensures.err) c.self-inside.invariant
 
 pub returns-in_err-freed-clause-needed : goal.returns-in_err-freed-clause-needed
-returns-in_err-freed-clause-needed g c told =
-    subst (λ (s : State). (0 < length s.place) ⊎ HasSplit s.areas c.args.pid (c.args.addr / 4096) ⊎ HasSplit s.areas c.args.pid (c.args.addr / 4096 + c.args.pages)) (shows c.self-inside.view_is c.self.view_is)
-    (c.remove.ensures.needed (error_was c.remove.result c.from_residual.result _ _ c.in_err-freed.was c.from_residual.ensures told))
-
-pub returns-clause-asked : goal.returns-clause-asked
-returns-clause-asked g c told = not_lacking tt told
-
-pub returns-clause-needed : goal.returns-clause-needed
-returns-clause-needed g c told = not_lacking tt told
+returns-in_err-freed-clause-needed g c = err_always c.from_residual.result
+    (subst (λ (s : State). (0 < length s.place) ⊎ HasSplit s.areas c.args.pid c.args.range.first ⊎ HasSplit s.areas c.args.pid c.args.range.end) (shows c.self-inside.view_is c.self.view_is)
+    c.in_err-freed.ensures.needed)
