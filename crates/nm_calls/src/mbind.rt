@@ -17,10 +17,10 @@ use crate::call_error::CallError;
 use crate::permission::{names_missing_node, usable};
 use crate::placement::{make, way_of};
 use crate::stray_pages::{astray, some_stray, stray_from};
+use nm_areas::PageRange;
 use nm_crew::{Crew, Gate};
 use nm_engine::Machine;
 use nm_steps::MbindRequest;
-use nm_types::limits::PAGE_BYTES;
 use nm_types::{Errno, Located, MoveFlags, NodeId, NodeMask, Pid, Policy, ProcessInfo, Vpn};
 use std::alloc::{AllocError, Allocator};
 use std::sync::Wait;
@@ -194,9 +194,7 @@ fn binding_of<A: Allocator + Copy + Send + Sync>(
         len,
         ..
     } = *request;
-    machine.check_policy(caller, addr, len)?;
-    let first = Vpn::of_address(addr);
-    let end = Vpn::new(first.number() + len.div_ceil(PAGE_BYTES as u64));
+    let PageRange { first, end } = machine.check_policy(caller, addr, len)?;
     if flags.is_strict()
         && !wants_moves(flags)
         && stray_from(machine, caller, first, end, &policy).is_some()
