@@ -1,6 +1,6 @@
 //! The policy of a range, as mbind(2) sets it: what is refused, and what is done in which order.
 
-ghost use Rattle.std.specs.Prelude.{Bool, Err, IfOk, None, OnErr, length, not, true, ℕ, ◌&&◌, ◌+◌, ◌-◌, ◌/◌, ◌<◌, ◌≡◌, ◌≤◌, ◌⊎◌, ◌^◌};
+ghost use Rattle.std.specs.Prelude.{Bool, Err, IfNone, IfOk, IfSome, None, OnErr, false, length, not, true, ℕ, ◌&&◌, ◌+◌, ◌-◌, ◌/◌, ◌<◌, ◌≡◌, ◌≤◌, ◌⊎◌, ◌^◌};
 ghost use Rattle.std.specs.List.{AllByRecursion, list_any};
 ghost use Rattle.nm_types.specs.Layout.{node_count};
 ghost use Rattle.nm_areas.specs.Splits.{HasSplit};
@@ -100,20 +100,29 @@ pub(crate) struct Asked {
     pub(crate) flags: MoveFlags,
 }
 
-/// Whether a mode is unknown, nodes do not fit it, one of them is not in the machine, or none of them is online and
-/// allowed.
-fn is_bad_set<A: Allocator + Copy + Send + Sync>(
+/// The nodes of a set that the policy of a mode keeps: those that are online and allowed. None if the mode is unknown,
+/// nodes do not fit it, one of them is not in the machine, or none of them is online and allowed.
+fn kept_nodes<A: Allocator + Copy + Send + Sync>(
     machine: &Machine<A>,
     allowed: NodeMask,
     mode: u32,
     nodes: NodeMask,
-) -> bool
-    ensures { result ≡ is_bad_set machine.now allowed mode nodes }
+) -> Option<NodeMask>
+    // If there are such nodes
+    ensures good { IfSome result (λ kept. is_bad_set machine.now allowed mode nodes ≡ false) }
+    ensures kept { IfSome result (λ kept. kept ≡ usable machine.now allowed nodes) }
+
+    // If not
+    ensures bad { IfNone result (is_bad_set machine.now allowed mode nodes ≡ true) }
 {
     if mode > MPOL_LOCAL || !fits(mode, nodes) || names_missing_node(machine, nodes) {
-        return true;
+        return None;
     }
-    nodes.len() != 0 && usable(machine, allowed, nodes).len() == 0
+    let kept = usable(machine, allowed, nodes);
+    if nodes.len() != 0 && kept.len() == 0 {
+        return None;
+    }
+    Some(kept)
 }
 
 /// What a request asks for. Errors, in order: ESRCH (no such caller); EINVAL (an unknown flag or mode, nodes that do
@@ -154,14 +163,14 @@ fn asked_of<A: Allocator + Copy + Send + Sync>(
         ..
     } = asking;
     let flags = MoveFlags::from_bits(flags).ok_or(Errno::Einval)?;
-    if is_bad_set(machine, allowed, mode, nodes) {
+    let Some(kept) = kept_nodes(machine, allowed, mode, nodes) else {
         return Err(Errno::Einval);
-    }
+    };
     if flags.moves_all() && !privileged {
         return Err(Errno::Eperm);
     }
     Ok(Asked {
-        policy: policy_of(mode, usable(machine, allowed, nodes)),
+        policy: policy_of(mode, kept),
         home,
         flags,
     })

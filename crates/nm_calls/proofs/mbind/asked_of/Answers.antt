@@ -21,14 +21,14 @@ returns-clause-policy g c =
     let r = c.args.request.now in
     let known : info_at s r.caller ≡ Some c.in-Some.asking =
     sym (ap (λ (y : AddressSpacesView). option_map info_of (get nat_cmp y.processes r.caller)) c.spaces.ensures) ∙ sym c.info.ensures ∙ c.in-Some.is in
-    c.policy_of.ensures ∙ ap (policy_of r.mode) c.usable.ensures
+    c.policy_of.ensures ∙ ap (policy_of r.mode) c.in-Some-kept_nodes.ensures.kept
     ∙ sym (ap (λ (o : Option ProcessInfo). policy_of r.mode (usable s (unwrap_or (option_map (λ (i : ProcessInfo). i.allowed) o) []) r.nodes)) known)
 
 pub returns-clause-nodes : goal.returns-clause-nodes
 returns-clause-nodes g c =
     let s = c.args.machine.now in
     let allowed = c.in-Some.asking.allowed in
-    let good = good_names s allowed c.args.request.now.mode c.args.request.now.nodes (sym c.is_bad_set.ensures ∙ c.if-is_bad_set.false) in
-    let kept = subst (AllByRecursion (λ n. n < node_count s.layout)) (sym c.usable.ensures) (usable_nodes s allowed c.args.request.now.nodes good) in
+    let good = good_names s allowed c.args.request.now.mode c.args.request.now.nodes c.in-Some-kept_nodes.ensures.good in
+    let kept = subst (AllByRecursion (λ n. n < node_count s.layout)) (sym c.in-Some-kept_nodes.ensures.kept) (usable_nodes s allowed c.args.request.now.nodes good) in
     subst (λ p. AllByRecursion (λ n. n < node_count s.layout) (nodes_named p)) (sym c.policy_of.ensures)
-    (named_of (λ n. n < node_count s.layout) c.args.request.now.mode c.usable.result kept)
+    (named_of (λ n. n < node_count s.layout) c.args.request.now.mode c.in-Some-kept_nodes.kept kept)
