@@ -9,7 +9,7 @@ ghost use Rattle.nm_policy.specs.Turns.{by_turns};
 ghost use Rattle.nm_types.specs.declared.request.Wanted.TheVariants.{At};
 ghost use Rattle.nm_model.specs.definitions.Areas.{Mapped};
 ghost use Rattle.nm_model.specs.definitions.Effect.{with_areas_of};
-ghost use Rattle.nm_calls.specs.definitions.Mbind.{requests_at, strays_of, each_to, runs_by, nodes_tried};
+ghost use Rattle.nm_calls.specs.definitions.Mbind.{requests_at, each_to, runs_by, nodes_tried};
 ghost use Rattle.nm_calls.specs.views.Runs.{runs_in, CanGo, nodes_named, MakesRuns};
 
 use crate::call_error::CallError;
@@ -17,7 +17,7 @@ use crate::mbind::Binding;
 use crate::passes::{later, make_batch, make_passes};
 use nm_crew::{Crew, Gate};
 use nm_engine::Machine;
-use nm_policy::{Sent, Stray, first_touch_order, mbind_targets};
+use nm_policy::{Sent, first_touch_order, mbind_targets};
 use nm_runs::{Request, Wanted};
 use nm_types::{Located, NodeId, NodeMask, Pid, Policy, Vpn};
 use std::alloc::{AllocError, Allocator};
@@ -58,23 +58,6 @@ fn spots<A: Allocator + Copy>(
         .collect(alloc)
 }
 
-/// A page as a stray.
-fn stray_of(page: &Located) -> Stray
-    ensures { result ≡ record { vpn = page.now.vpn; page = page.now.page } }
-{
-    Stray {
-        vpn: page.vpn,
-        page: page.page,
-    }
-}
-
-/// Pages as strays.
-fn strays_of<A: Allocator + Copy>(alloc: A, pages: &[Located]) -> Result<Vec<Stray, A>, AllocError>
-    ensures { IfOk result (λ strays. strays.items ≡ strays_of pages.now) }
-{
-    pages.iter().map(|page| stray_of(page)).collect(alloc)
-}
-
 /// The request that sends a page to its node.
 fn sent_to(pid: Pid, all: bool, page: &Sent) -> Request
     ensures { result ≡ record { target = page.now.to; wanted = At pid page.now.vpn all } }
@@ -109,10 +92,9 @@ fn turns<A: Allocator + Copy>(
     pages: &[Located],
 ) -> Result<Vec<Request, A>, AllocError>
     ensures { IfOk result
-        (λ requests. requests.items ≡ each_to pid all (by_turns nodes (strays_of pages.now))) }
+        (λ requests. requests.items ≡ each_to pid all (by_turns nodes pages.now)) }
 {
-    let strays = strays_of(alloc, pages)?;
-    let targets = mbind_targets(alloc, nodes, strays.as_slice())?;
+    let targets = mbind_targets(alloc, nodes, pages)?;
     each_to(alloc, pid, all, targets.as_slice())
 }
 

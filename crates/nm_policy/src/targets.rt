@@ -3,17 +3,8 @@
 ghost use Rattle.std.specs.Prelude.{◌≡◌, ◌<◌, ◌==◌, ◌++◌, map, length, IfOk, OnOk, OnErr};
 ghost use Rattle.nm_policy.specs.Turns.{sent, sent_to, by_turns};
 
-use nm_types::{NodeId, NodeMask, Page, Vpn};
+use nm_types::{Located, NodeId, NodeMask, Vpn};
 use std::alloc::{AllocError, Allocator};
-
-/// A page that is not where a policy wants it.
-#[derive(Clone, Copy, Debug, PartialEq, Eq)]
-pub struct Stray {
-    /// A page number at which a process sees it: below 2^35.
-    pub vpn: Vpn,
-    /// The page.
-    pub page: Page,
-}
 
 /// A page that is to go to a node.
 #[derive(Clone, Copy, Debug, PartialEq, Eq)]
@@ -42,7 +33,7 @@ fn nodes_of<A: Allocator + Copy>(alloc: A, set: NodeMask) -> Result<Vec<NodeId, 
 fn dealt<A: Allocator + Copy>(
     alloc: A,
     nodes: &[NodeId],
-    pages: &[Stray],
+    pages: &[Located],
 ) -> Result<Vec<Sent, A>, AllocError>
     requires { 0 < length nodes.now }
     ensures dealt { IfOk result (λ dealt. dealt.items ≡ map (sent nodes.now) pages.now) }
@@ -50,10 +41,10 @@ fn dealt<A: Allocator + Copy>(
 {
     let count = nodes.len() as u64;
     let mut dealt = Vec::with_capacity(alloc, pages.len())?;
-    for stray in pages {
-        let turn = stray.page.index % count;
+    for found in pages {
+        let turn = found.page.index % count;
         dealt.push(Sent {
-            vpn: stray.vpn,
+            vpn: found.vpn,
             to: nodes[turn as usize],
         })?;
     }
@@ -87,7 +78,7 @@ fn append_for<A: Allocator + Copy>(
 pub fn mbind_targets<A: Allocator + Copy>(
     alloc: A,
     nodes: NodeMask,
-    pages: &[Stray],
+    pages: &[Located],
 ) -> Result<Vec<Sent, A>, AllocError>
     ensures targets { IfOk result (λ targets. targets.items ≡ by_turns nodes pages.now) }
     ensures asked { OnErr result ((0 < length nodes) × (0 < length pages.now)) }

@@ -1,7 +1,5 @@
-use crate::{
-    Stray, first_touch_node, first_touch_order, follows, laws, mbind_targets, pairs, zonelist,
-};
-use nm_types::{Geometry, NodeId, NodeMask, Page, Policy, Vpn};
+use crate::{first_touch_node, first_touch_order, follows, laws, mbind_targets, pairs, zonelist};
+use nm_types::{FrameId, Geometry, Located, NodeId, NodeMask, Page, Policy, Vpn};
 use std::alloc::{AllocError, Global};
 use std::process::Abort;
 use std::test::Fail;
@@ -213,11 +211,13 @@ fn pairs_in_order(rt: HostRuntime) -> Result<(), Fail> {
 }
 
 /// Four pages of a segment, at page numbers from 16 on.
-fn four_pages(alloc: Global) -> Result<Vec<Stray>, AllocError> {
+fn four_pages(alloc: Global) -> Result<Vec<Located>, AllocError> {
     (0..4u64)
-        .map(|index| Stray {
+        .map(|index| Located {
             vpn: Vpn::new(16 + index),
             page: Page { segment: 0, index },
+            frame: FrameId::new(0),
+            node: NodeId::new(0),
         })
         .collect(alloc)
 }

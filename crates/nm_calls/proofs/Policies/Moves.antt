@@ -9,7 +9,6 @@ use Rattle.nm_types.specs.Nodes.{is_in}
 use Rattle.nm_types.specs.State.{State}
 use Rattle.nm_model.specs.definitions.Areas.{Mapped}
 use Rattle.nm_policy.specs.declared.targets.Sent.{Sent}
-use Rattle.nm_policy.specs.declared.targets.Stray.{Stray}
 use Rattle.nm_model.specs.definitions.Order.{zonelist}
 use Rattle.nm_policy.specs.Turns.{sent, sent_to, by_turns}
 use Rattle.nm_model.specs.definitions.Cut.{wanted_of}
@@ -44,7 +43,7 @@ module _ (P : ℕ → Type 0) where
   asked_all pid all (t ∷ ts) h = (h.0, asked_all pid all ts h.1)
 
   -- pages that take turns go to nodes of the set ..
-  pub turns_go : (pid : ℕ) (all : Bool) (nodes : List ℕ) (pages : List Stray) → AllByRecursion P nodes → AllByRecursion (λ e. P e.target) (each_to pid all (by_turns nodes pages))
+  pub turns_go : (pid : ℕ) (all : Bool) (nodes : List ℕ) (pages : List Located) → AllByRecursion P nodes → AllByRecursion (λ e. P e.target) (each_to pid all (by_turns nodes pages))
   turns_go pid all nodes pages h = asked_all pid all (by_turns nodes pages) (sent_all (map (sent nodes) pages) nodes h)
 
   kept_all : (ns ks : List ℕ) → AllByRecursion P ns → AllByRecursion P (filter (is_in ns) ks)

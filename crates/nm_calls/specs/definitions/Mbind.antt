@@ -11,7 +11,6 @@ use Rattle.nm_types.specs.Layout.{node_of}
 use Rattle.nm_types.specs.Nodes.{is_in}
 use Rattle.nm_types.specs.State.{State}
 use Rattle.nm_policy.specs.declared.targets.Sent.{Sent}
-use Rattle.nm_policy.specs.declared.targets.Stray.{Stray}
 use Rattle.nm_model.specs.definitions.Order.{zonelist, follows}
 use Rattle.nm_policy.specs.Turns.{by_turns}
 use Rattle.nm_types.specs.declared.request.Wanted.{Wanted}
@@ -112,10 +111,6 @@ mbind_refusal s caller address len mode nodes flags =
 abbrev pub requests_at : ℕ → Bool → List Located → List Wanted
 requests_at pid all pages = map (λ l. At pid l.vpn all) pages
 
--- pages, as strays
-abbrev pub strays_of : List Located → List Stray
-strays_of pages = map (λ l. record { vpn = l.vpn; page = l.page }) pages
-
 -- requests for page numbers, each with its node
 abbrev pub each_to : ℕ → Bool → List Sent → List Request
 each_to pid all targets = map (λ t. record { target = t.to; wanted = At pid t.vpn all }) targets
@@ -129,7 +124,7 @@ nodes_tried s home policy = []
 -- the runs that bring pages to where a policy wants them: by turns for INTERLEAVE, in passes for the others
 abbrev pub runs_by : ℕ → State → Policy → ℕ → ℕ → Bool → List Located → List Stretch
 runs_by limit s (Interleave nodes) home pid all pages =
-    cut_within limit (each_to pid all (by_turns nodes (strays_of pages)))
+    cut_within limit (each_to pid all (by_turns nodes pages))
 runs_by limit s policy home pid all pages = passes limit s (nodes_tried s home policy) (requests_at pid all pages)
 
 -- the pages to move: none without a flag to move

@@ -9,7 +9,7 @@ use Rattle.nm_policy.specs.Turns.{by_turns}
 use Rattle.nm_model.specs.definitions.Effect.{with_areas_of}
 use Rattle.nm_model.specs.definitions.Run.{HasOneAll}
 use Rattle.nm_calls.specs.definitions.Passes.{passes}
-use Rattle.nm_calls.specs.definitions.Mbind.{nodes_tried, runs_by, strays_of}
+use Rattle.nm_calls.specs.definitions.Mbind.{nodes_tried, runs_by}
 use Rattle.nm_calls.specs.views.Runs.{nodes_named}
 use Rattle.nm_calls.proofs.Policies.Moves.{turns_go, turns_alike, tried_all, spots_alike, spots_length, passes_by}
 use Rattle.nm_calls.proofs.Policies.NoBytes.{no_moves}
@@ -32,10 +32,10 @@ returns-in-Interleave-clause-can_go g c =
     let n = node_count c.args.machine.now.layout in
     let b = c.args.binding.now in
     let nodes = c.in-Interleave.nodes in
-    let strays = strays_of c.args.pages.now in
+    let pages = c.args.pages.now in
     let is = sym c.in_ok-turns.ensures in
     let named = subst (λ p. AllByRecursion (λ m. m < n) (nodes_named p)) c.in-Interleave.is c.requires.nodes in
-    (subst (AllByRecursion (λ e. e.target < n)) is (turns_go (λ m. m < n) b.pid c.args.all nodes strays named), subst (λ es. HasOneAll (wanted_of es)) is (turns_alike b.pid c.args.all (by_turns nodes strays)))
+    (subst (AllByRecursion (λ e. e.target < n)) is (turns_go (λ m. m < n) b.pid c.args.all nodes pages named), subst (λ es. HasOneAll (wanted_of es)) is (turns_alike b.pid c.args.all (by_turns nodes pages)))
 
 pub returns : goal.returns
 returns g c =

@@ -2,25 +2,25 @@ use Rattle.std.proofs.Common.{◌≡◌, ℕ, ◌+◌, ◌<◌, List, [], ◌∷
 use Rattle.std.proofs.lemmas.List.{take_all, map_more, get_or_read}
 use Rattle.std.proofs.lemmas.Result.{IfOk-from_err}
 use Rattle.nm_policy.specs.declared.targets.Sent.{Sent}
-use Rattle.nm_policy.specs.declared.targets.Stray.{Stray}
+use Rattle.nm_types.specs.declared.located.Located.{Located}
 use Rattle.nm_model.specs.definitions.Order.{turn}
 use Rattle.nm_policy.specs.Turns.{sent}
 use Rattle.nm_policy.proofs.targets.dealt.Goals as goal
 
-one_more : (nodes : List ℕ) (pages : List Stray) (i t : ℕ) (e : Stray) (ds ns : List Sent) → i < length pages → e ≡ get_or pages i e → t ≡ turn nodes e.page.index → ds ≡ map (sent nodes) (take i pages)
+one_more : (nodes : List ℕ) (pages : List Located) (i t : ℕ) (e : Located) (ds ns : List Sent) → i < length pages → e ≡ get_or pages i e → t ≡ turn nodes e.page.index → ds ≡ map (sent nodes) (take i pages)
     → ns ≡ ds ++ record { vpn = e.vpn; to = t } ∷ [] → ns ≡ map (sent nodes) (take (i + 1) pages)
 one_more nodes pages i t e ds ns lt at is had now =
     now ∙ (ap (λ l. l ++ record { vpn = e.vpn; to = t } ∷ []) had ∙ (ap (λ (z : ℕ). map (sent nodes) (take i pages) ++ record { vpn = e.vpn; to = z } ∷ []) is
-    ∙ (ap (λ (z : Stray). map (sent nodes) (take i pages) ++ sent nodes z ∷ []) at ∙ sym (map_more (sent nodes) pages i e lt))))
+    ∙ (ap (λ (z : Located). map (sent nodes) (take i pages) ++ sent nodes z ∷ []) at ∙ sym (map_more (sent nodes) pages i e lt))))
 
 pub returns-in_err-dealt-clause-dealt : goal.returns-in_err-dealt-clause-dealt
 returns-in_err-dealt-clause-dealt g c = IfOk-from_err _ _ c.from_residual.ensures.0
 
-pub loop-stray-init : goal.loop-stray-init
-loop-stray-init g c = c.in_ok-dealt.ensures.items
+pub loop-found-init : goal.loop-found-init
+loop-found-init g c = c.in_ok-dealt.ensures.items
 
-pub bounds-pages-stray-index : goal.bounds-pages-stray-index
-bounds-pages-stray-index g c = c.loop-stray-test.true
+pub bounds-pages-found-index : goal.bounds-pages-found-index
+bounds-pages-found-index g c = c.loop-found-test.true
 
 pub nonzero_rem-turn : goal.nonzero_rem-turn
 nonzero_rem-turn g c = c.requires
@@ -31,13 +31,13 @@ bounds-nodes-turn g c = omega (arith, c.requires)
 pub returns-in_err-push-clause-dealt : goal.returns-in_err-push-clause-dealt
 returns-in_err-push-clause-dealt g c = IfOk-from_err _ _ c.from_residual-in_err-push.ensures.0
 
-pub loop-stray-smaller : goal.loop-stray-smaller
-loop-stray-smaller g c = omega (arith, c.loop-stray-test.true)
+pub loop-found-smaller : goal.loop-found-smaller
+loop-found-smaller g c = omega (arith, c.loop-found-test.true)
 
-pub loop-stray-preserved : goal.loop-stray-preserved
-loop-stray-preserved g c =
-    one_more c.args.nodes.now c.args.pages.now c.loop-stray.stray-index c.index-nodes-turn.result c.stray-item.result _ _ c.loop-stray-test.true c.stray-item.is
-    (get_or_read c.args.nodes.now _ _ (omega (arith, c.requires)) c.index-nodes-turn.is 0) c.loop-stray.invariant c.in_ok-push.ensures.items
+pub loop-found-preserved : goal.loop-found-preserved
+loop-found-preserved g c =
+    one_more c.args.nodes.now c.args.pages.now c.loop-found.found-index c.index-nodes-turn.result c.found-item.result _ _ c.loop-found-test.true c.found-item.is
+    (get_or_read c.args.nodes.now _ _ (omega (arith, c.requires)) c.index-nodes-turn.is 0) c.loop-found.invariant c.in_ok-push.ensures.items
 
 pub returns-clause-dealt : goal.returns-clause-dealt
-returns-clause-dealt g c = c.loop-stray.invariant ∙ ap (map (sent c.args.nodes.now)) (take_all c.loop-stray.stray-index c.args.pages.now c.loop-stray-test.false)
+returns-clause-dealt g c = c.loop-found.invariant ∙ ap (map (sent c.args.nodes.now)) (take_all c.loop-found.found-index c.args.pages.now c.loop-found-test.false)
