@@ -3,7 +3,7 @@ use Rattle.std.proofs.Common.{arith, ◌≡◌, ℕ, zero, suc, ◌+◌, min, �
 use Rattle.std.specs.Prelude.{◌==◌, ◌≢◌, if◌then◌else◌}
 use Rattle.std.specs.List.{AllByRecursion, flat_map}
 use Rattle.std.proofs.lemmas.Bool.{cases_lt, cases_eq}
-use Rattle.std.proofs.lemmas.List.{take_all, drop_all, length-take, length-append, length-drop, length-map, map-append, take-map, drop-map, take-append-drop, take-append-le, drop-append-le, append-nil, drop-drop}
+use Rattle.std.proofs.lemmas.List.{take_all, drop_all, length-take, length-append, length-drop, length-map, map-append, take-map, drop-map, take-append-drop, take-append-le, drop-append-le, append-nil, drop-drop, nil_from_length}
 use Rattle.std.proofs.lemmas.List.Concat.{flat_map-append}
 use Rattle.nm_types.specs.declared.request.Wanted.{Wanted}
 use Rattle.nm_types.specs.declared.request.Wanted.TheVariants.{Whole}
@@ -157,6 +157,31 @@ pieces_joined limit (x ∷ xs) (suc n) some enough =
 all_to-append : (t : ℕ) (vs ws : List Wanted) → all_to t (vs ++ ws) ≡ all_to t vs ++ all_to t ws
 all_to-append t [] ws = refl
 all_to-append t (v ∷ vs) ws = let first : Request = record { target = t; wanted = v } in ap (λ es. first ∷ es) (all_to-append t vs ws)
+
+-- the first piece of what goes to one node is its first run
+piece_within : (limit t : ℕ) (ws piece rest : List Wanted) → 0 < limit → 0 < length ws → ws ≡ piece ++ rest → length piece ≡ min limit (length ws) → cut_within limit (all_to t ws) ≡ record { target = t; wanted = piece } ∷ cut_within limit (all_to t rest)
+piece_within limit t ws piece rest some has parts size =
+    let sum = ap length parts ∙ length-append piece rest in
+    ap (λ l. cut_within limit (all_to t l)) parts
+    ∙ ap (cut_within limit) (all_to-append t piece rest)
+    ∙ ⊎_elim
+    (λ less.
+    let none : rest ≡ [] = nil_from_length rest (omega (arith, sum, size, less)) in
+    cut_within_other limit t piece (all_to t rest) some (omega (arith, size, some, has)) (omega (arith, size))
+    (subst (λ (l : List Wanted). FirstGoes (λ n. t ≢ n) (all_to t l)) (sym none) tt))
+    (λ more. cut_within_full limit t piece (all_to t rest) some (omega (arith, size, more))) (cases_lt (length ws) limit)
+
+-- one more run is made, of the piece at the front of what is left
+pub one_more_to : {A : Type 0} (limit : ℕ) (made now : List (Run A)) (run : Run A) (ws piece rest : List Wanted) → now ≡ made ++ run ∷ [] → run.wanted.items ≡ piece → 0 < limit → 0 < length ws → ws ≡ piece ++ rest → length piece ≡ min limit (length ws)
+    → stretches_of now ++ cut_within limit (all_to run.target rest) ≡ stretches_of made ++ cut_within limit (all_to run.target ws)
+one_more_to limit made now run ws piece rest is has some more parts size =
+    let t = run.target in
+    let left = cut_within limit (all_to t rest) in
+    ap (λ rs. stretches_of rs ++ left) is
+    ∙ ap (λ l. l ++ left) (map-append {B = Stretch} (λ r. record { target = r.target; wanted = r.wanted.items }) made (run ∷ []))
+    ∙ append_assoc (stretches_of made) (record { target = t; wanted = run.wanted.items } ∷ []) left
+    ∙ ap (λ (l : List Wanted). stretches_of made ++ record { target = t; wanted = l } ∷ left) has
+    ∙ sym (ap (λ l. stretches_of made ++ l) (piece_within limit t ws piece rest some more parts size))
 
 joined_pieces : (t : ℕ) (wss : List (List Wanted)) → joined (to_node t wss) ≡ all_to t (flat_map (λ ws. ws) wss)
 joined_pieces t [] = refl

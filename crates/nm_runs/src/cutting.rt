@@ -4,7 +4,7 @@ ghost use Rattle.std.specs.Prelude.{◌≡◌, ◌<◌, ◌≤◌, ◌==◌, ◌
 ghost use Rattle.std.specs.List.{take_while};
 ghost use Rattle.nm_model.specs.definitions.Cut.{cut, wanted_of, same_front, IsFirst};
 ghost use Rattle.nm_runs.specs.Stretches.{stretches_of};
-ghost use Rattle.nm_model.specs.definitions.Cut.{cut_within, requests_of, run_count};
+ghost use Rattle.nm_model.specs.definitions.Cut.{all_to, cut_within, requests_of, run_count};
 ghost use Rattle.nm_types.specs.declared.request.Wanted.TheVariants.{At};
 
 use crate::{Request, Run, Wanted};
@@ -92,6 +92,27 @@ pub fn cut_within<A: Allocator + Copy>(
         runs.push(run)?;
     }
     Ok(runs)
+}
+
+/// The runs of requests that all go to one node under a limit of at least 1, as `cut_within` cuts them. An error means
+/// that the host is out of memory; no requests take none.
+pub fn cut_to<A: Allocator + Copy>(
+    alloc: A,
+    target: NodeId,
+    wanted: &[Wanted],
+    limit: usize,
+) -> Result<Vec<Run<A>, A>, AllocError>
+    requires { 0 < limit }
+    ensures runs { IfOk result
+        (λ runs. stretches_of runs.items ≡ cut_within limit (all_to target wanted.now)) }
+    ensures asked { OnErr result (0 < length wanted.now) }
+{
+    let mut made = Vec::new(alloc);
+    for piece in wanted.chunks(limit) {
+        let wanted = Vec::from_slice(alloc, piece)?;
+        made.push(Run { target, wanted })?;
+    }
+    Ok(made)
 }
 
 /// How many nodes at the front are the same as the first.

@@ -10,7 +10,7 @@ mod tests;
 
 pub use check::check_batch;
 pub use classes::{classify, classify_here};
-pub use cutting::{cut, cut_pages, cut_within, run_count};
+pub use cutting::{cut, cut_pages, cut_to, cut_within, run_count};
 use nm_types::NodeId;
 pub use nm_types::{Class, Request, Wanted};
 use std::alloc::Allocator;

@@ -2,7 +2,8 @@ ghost use Rattle.std.specs.Prelude.{◌≡◌, IfOk};
 ghost use Rattle.nm_types.specs.Layout.{frame_count};
 
 use crate::{
-    Class, Request, Run, Wanted, check_batch, classify, cut, cut_pages, cut_within, laws, run_count,
+    Class, Request, Run, Wanted, check_batch, classify, cut, cut_pages, cut_to, cut_within, laws,
+    run_count,
 };
 use nm_types::{Errno, FrameId, Geometry, NodeId, NodeMask, Page, PageView, Pid, Seen, Vpn};
 use std::alloc::{AllocError, Global};
@@ -104,6 +105,31 @@ fn pages_are_cut_by_their_nodes(rt: HostRuntime) -> Result<(), Fail> {
     )?;
     let want = [(1u32, 2usize), (0, 1)];
     assert!(rt; told(alloc, runs.as_slice())?.as_slice() == want.as_slice());
+    Ok(())
+}
+
+/// Whether requests for these pages, all to go to one node, have these runs under a limit of 2.
+fn are_runs_to(alloc: Global, pages: &[Wanted], want: &[&[Wanted]]) -> Result<bool, AllocError> {
+    let node = NodeId::new(5);
+    let runs = cut_to(alloc, node, pages, 2)?;
+    Ok(
+        runs.iter()
+            .map(|run| (run.target, run.wanted.as_slice()))
+            .eq(want.iter().map(|pages| (node, *pages))),
+    )
+}
+
+#[test]
+fn requests_for_one_node_are_cut(rt: HostRuntime) -> Result<(), Fail> {
+    let pages = [16u64, 20, 18].map(|number| Wanted::At {
+        pid: Pid::new(7),
+        vpn: Vpn::new(number),
+        all: false,
+    });
+    let pages = pages.as_slice();
+    assert!(rt; are_runs_to(rt.alloc(), pages, &[&pages[..2], &pages[2..]])?);
+    assert!(rt; are_runs_to(rt.alloc(), &pages[..2], &[&pages[..2]])?);
+    assert!(rt; are_runs_to(rt.alloc(), &[], &[])?);
     Ok(())
 }
 
