@@ -4,5 +4,6 @@ pub mod NamedNodes
 pub mod NoBytes
 pub mod Nodes
 pub mod Results
+pub mod SentPages
 pub mod StrayPages
 pub mod Turns

@@ -4,3 +4,4 @@ pub mod Errors
 pub mod Listing
 pub mod Runs
 pub mod Tally
+pub mod Turns

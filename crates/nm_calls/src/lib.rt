@@ -18,6 +18,7 @@ mod placement;
 mod status;
 mod stray_pages;
 mod system;
+mod turns;
 
 pub use answer::{Answer, Moved, PagemapEntry};
 pub use batch::run_count;

@@ -3,12 +3,13 @@
 #![tactic(auto, using(crate::proofs::Trails::first_state))]
 
 ghost use Rattle.std.specs.Prelude.{◌≡◌, ◌^◌, ◌<◌, ◌≤◌, ℕ, false, true, All, Any, [], IfOk, OnErr, IfNone, IfSome, Some, length, vec_capacity};
-ghost use Rattle.std.specs.List.{AllByRecursion};
+ghost use Rattle.std.specs.List.{AllByRecursion, sum_by};
 ghost use Rattle.std.specs.Ordering.{int_eq};
 ghost use Rattle.nm_types.specs.declared.errno.Errno.TheVariants.{Enomem};
 ghost use Rattle.nm_types.specs.Layout.{node_count};
 ghost use Rattle.nm_types.specs.State.{free_list};
-ghost use Rattle.nm_model.specs.definitions.Cut.{all_to, wanted_of};
+ghost use Rattle.nm_runs.specs.Stretches.{stretches_of};
+ghost use Rattle.nm_model.specs.definitions.Cut.{all_to};
 ghost use Rattle.nm_model.specs.definitions.Cut.{cut_within};
 ghost use Rattle.nm_model.specs.definitions.Status.{code};
 ghost use Rattle.nm_model.specs.definitions.Run.{HasOneAll};
@@ -21,25 +22,17 @@ use crate::batch::move_runs;
 use crate::call_error::CallError;
 use nm_crew::{Crew, Gate};
 use nm_engine::Machine;
-use nm_runs::{Request, Wanted, cut_within};
+use nm_runs::{Run, Wanted, cut_to};
 use nm_steps::InFlight;
 use nm_types::{Errno, NodeId, NodeMask, PageView, Seen};
-use std::alloc::{AllocError, Allocator};
+use std::alloc::Allocator;
 use std::sync::Wait;
 use std::thread::Threads;
 
-/// The result of a batch.
-#[derive(Drop)]
-pub(crate) struct Made<A: Allocator + Copy> {
-    /// How many runs it had.
-    pub(crate) runs: usize,
-    /// The status of each entry, in order.
-    pub(crate) statuses: Vec<i32, A>,
-}
-
-/// Makes the runs of a batch, each of at most `limit` entries. An error means that the host is out of memory; a batch
-/// without requests takes none.
-pub(crate) fn make_batch<
+/// Makes runs, one after another, and returns the status of each request, in order. `count` is how many requests they
+/// have. Allocates before the first run starts, except for what a run itself needs. An error means that the host is out
+/// of memory; no runs take none.
+pub(crate) fn make_runs<
     R: Threads + Wait + Sync,
     A: Allocator + Copy + Send + Sync,
     G: Gate + Sync,
@@ -47,52 +40,20 @@ pub(crate) fn make_batch<
     crew: &Crew<R, G>,
     alloc: A,
     machine: &mut Machine<A>,
-    requests: &[Request],
-    limit: usize,
-) -> Result<Made<A>, CallError>
-    requires some { 0 < limit }
-    requires targets { AllByRecursion (λ e. e.target < node_count (machine.old.layout)) requests.now }
-    requires alike { HasOneAll (wanted_of requests.now) }
-    ensures runs { Batches result machine.old machine.new (cut_within limit requests.now)
-        (λ made ran. (made.runs ≡ length (cut_within limit requests.now)) × (made.statuses.items ≡ ran.statuses)) }
-    ensures asked { OnErr result (0 < length requests.now) }
+    runs: &[Run<A>],
+    count: usize,
+) -> Result<Vec<i32, A>, CallError>
+    requires targets { All (λ run. run.target < node_count machine.old.layout) runs.now }
+    requires alike { All (λ run. HasOneAll run.wanted.items) runs.now }
+    requires count { sum_by (λ run. length run.wanted.items) runs.now ≡ count }
+    ensures made { Batches result machine.old machine.new (stretches_of runs.now)
+        (λ statuses ran. statuses.items ≡ ran.statuses) }
+    ensures asked { OnErr result (0 < length runs.now) }
 {
-    let runs = cut_within(alloc, requests, limit)?;
-    let statuses = Vec::with_capacity(alloc, requests.len())?;
+    let statuses = Vec::with_capacity(alloc, count)?;
     let none: [InFlight<A>; 0] = [];
-    let moved = move_runs(
-        crew,
-        alloc,
-        machine,
-        runs.as_slice(),
-        none.as_slice(),
-        statuses,
-    )?;
-    Ok(Made {
-        runs: runs.len(),
-        statuses: moved.statuses,
-    })
-}
-
-/// The request for this, with a node as its target.
-fn to_node(node: NodeId, wanted: &Wanted) -> Request
-    ensures { result ≡ record { target = node; wanted = wanted.now } }
-{
-    Request {
-        target: node,
-        wanted: *wanted,
-    }
-}
-
-/// The requests for all of these, with one node as their target.
-fn all_to<A: Allocator + Copy>(
-    alloc: A,
-    node: NodeId,
-    wanted: &[Wanted],
-) -> Result<Vec<Request, A>, AllocError>
-    ensures { IfOk result (λ requests. requests.items ≡ all_to node wanted.now) }
-{
-    wanted.iter().map(|page| to_node(node, page)).collect(alloc)
+    let moved = move_runs(crew, alloc, machine, runs, none.as_slice(), statuses)?;
+    Ok(moved.statuses)
 }
 
 /// The result of a pass.
@@ -146,12 +107,12 @@ fn make_pass<R: Threads + Wait + Sync, A: Allocator + Copy + Send + Sync, G: Gat
         (λ pass ran. (pass.runs ≡ length (cut_within limit (all_to node wanted.now)))
         × (pass.left.items ≡ without_frame wanted.now ran.statuses)) }
 {
-    let requests = all_to(alloc, node, wanted)?;
+    let runs = cut_to(alloc, node, wanted, limit)?;
     let mut left = Vec::with_capacity(alloc, wanted.len())?;
-    let made = make_batch(crew, alloc, machine, requests.as_slice(), limit)?;
-    put_without_frame(wanted, made.statuses.as_slice(), &mut left);
+    let statuses = make_runs(crew, alloc, machine, runs.as_slice(), wanted.len())?;
+    put_without_frame(wanted, statuses.as_slice(), &mut left);
     Ok(Pass {
-        runs: made.runs,
+        runs: runs.len(),
         left,
     })
 }

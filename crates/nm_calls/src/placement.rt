@@ -5,20 +5,20 @@ ghost use Rattle.std.specs.List.{AllByRecursion, filter};
 ghost use Rattle.nm_types.specs.Layout.{node_count};
 ghost use Rattle.nm_types.specs.Nodes.{is_in};
 ghost use Rattle.nm_model.specs.definitions.Order.{zonelist};
-ghost use Rattle.nm_policy.specs.Turns.{by_turns};
 ghost use Rattle.nm_types.specs.declared.request.Wanted.TheVariants.{At};
 ghost use Rattle.nm_model.specs.definitions.Areas.{Mapped};
 ghost use Rattle.nm_model.specs.definitions.Effect.{with_areas_of};
-ghost use Rattle.nm_calls.specs.definitions.Mbind.{requests_at, each_to, runs_by, nodes_tried};
+ghost use Rattle.nm_calls.specs.definitions.Mbind.{requests_at, runs_by, nodes_tried};
 ghost use Rattle.nm_calls.specs.views.Runs.{runs_in, CanGo, nodes_named, MakesRuns};
 
 use crate::call_error::CallError;
 use crate::mbind::Binding;
-use crate::passes::{later, make_batch, make_passes};
+use crate::passes::{later, make_passes};
+use crate::turns::make_turns;
 use nm_crew::{Crew, Gate};
 use nm_engine::Machine;
 use nm_policy::{Sent, first_touch_order, mbind_targets};
-use nm_runs::{Request, Wanted};
+use nm_runs::Wanted;
 use nm_types::{Located, NodeId, NodeMask, Pid, Policy, Vpn};
 use std::alloc::{AllocError, Allocator};
 use std::sync::Wait;
@@ -33,7 +33,11 @@ pub(crate) enum Placement<A: Allocator + Copy> {
         wanted: Vec<Wanted, A>,
     },
     /// Each goes to a node of its own.
-    Turns(Vec<Request, A>),
+    Turns {
+        pid: Pid,
+        all: bool,
+        sent: Vec<Sent, A>,
+    },
 }
 
 /// The request for a page, at the page number at which a process sees it.
@@ -56,46 +60,6 @@ fn spots<A: Allocator + Copy>(
         .iter()
         .map(|page| spot(pid, all, page.vpn))
         .collect(alloc)
-}
-
-/// The request that sends a page to its node.
-fn sent_to(pid: Pid, all: bool, page: &Sent) -> Request
-    ensures { result ≡ record { target = page.now.to; wanted = At pid page.now.vpn all } }
-{
-    Request {
-        target: page.to,
-        wanted: spot(pid, all, page.vpn),
-    }
-}
-
-/// Requests for page numbers, each with its node.
-fn each_to<A: Allocator + Copy>(
-    alloc: A,
-    pid: Pid,
-    all: bool,
-    targets: &[Sent],
-) -> Result<Vec<Request, A>, AllocError>
-    ensures { IfOk result (λ requests. requests.items ≡ each_to pid all targets.now) }
-{
-    targets
-        .iter()
-        .map(|page| sent_to(pid, all, page))
-        .collect(alloc)
-}
-
-/// Requests for pages that take turns on the nodes of a set.
-fn turns<A: Allocator + Copy>(
-    alloc: A,
-    pid: Pid,
-    all: bool,
-    nodes: NodeMask,
-    pages: &[Located],
-) -> Result<Vec<Request, A>, AllocError>
-    ensures { IfOk result
-        (λ requests. requests.items ≡ each_to pid all (by_turns nodes pages.now)) }
-{
-    let targets = mbind_targets(alloc, nodes, pages)?;
-    each_to(alloc, pid, all, targets.as_slice())
 }
 
 /// The online nodes of a set, by their distance from a node.
@@ -162,12 +126,20 @@ pub(crate) fn way_of<A: Allocator + Copy + Send + Sync>(
     // Without memory
     ensures asked { OnErr result (0 < length pages.now) }
 {
-    if pages.is_empty() {
-        return Ok(Placement::Turns(Vec::new(alloc)));
-    }
     let pid = binding.pid;
+    if pages.is_empty() {
+        return Ok(Placement::Turns {
+            pid,
+            all,
+            sent: Vec::new(alloc),
+        });
+    }
     if let Policy::Interleave(nodes) = binding.policy {
-        return Ok(Placement::Turns(turns(alloc, pid, all, nodes, pages)?));
+        return Ok(Placement::Turns {
+            pid,
+            all,
+            sent: mbind_targets(alloc, nodes, pages)?,
+        });
     }
     Ok(Placement::Passes {
         nodes: nodes_tried(alloc, machine, home, binding.policy)?,
@@ -193,11 +165,11 @@ pub(crate) fn make<R: Threads + Wait + Sync, A: Allocator + Copy + Send + Sync, 
         Placement::Passes { nodes, wanted } => {
             make_passes(crew, alloc, machine, nodes.as_slice(), wanted, true, limit)
         }
-        Placement::Turns(requests) => {
-            if requests.is_empty() {
+        Placement::Turns { pid, all, sent } => {
+            if sent.is_empty() {
                 return Ok(());
             }
-            match make_batch(crew, alloc, machine, requests.as_slice(), limit) {
+            match make_turns(crew, alloc, machine, pid, all, sent.as_slice(), limit) {
                 Ok(_) => Ok(()),
                 Err(error) => Err(later(error, 0, true)),
             }

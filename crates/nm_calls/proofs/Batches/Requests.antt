@@ -82,6 +82,17 @@ run_targets n limit es runs some e h =
 pub run_entries : {A : Type 0} (limit : ℕ) (es : List Request) (runs : List (Run A)) → 0 < limit → stretches_of runs ≡ cut_within limit es → sum_by (λ (run : Run A). length run.wanted.items) runs ≡ length es
 run_entries limit es runs some e = runs_entries runs ∙ ap (λ rs. length (joined rs)) e ∙ ap length (each_limit_cuts limit es some).is.same
 
+-- runs that have some requests are some ..
+pub entries_some : {A : Type 0} (runs : List (Run A)) (count : ℕ) → sum_by (λ (run : Run A). length run.wanted.items) runs ≡ count → 0 < count → 0 < length runs
+entries_some [] count is some = absurd (omega (arith, is, some))
+entries_some (run ∷ runs) count is some = omega arith
+
+-- .. and there are some requests if they have some runs
+pub some_runs : {A : Type 0} (limit : ℕ) (es : List Request) (runs : List (Run A)) → 0 < limit → stretches_of runs ≡ cut_within limit es → 0 < length runs → 0 < length es
+some_runs limit [] [] some e has = absurd (omega (arith, has))
+some_runs limit [] (run ∷ runs) some e has = let none = ap length e in absurd (omega (arith, none))
+some_runs limit (f ∷ fs) runs some e has = omega arith
+
 -- the runs of a batch go to nodes that its entries name ..
 pub targets_below : {A : Type 0} (n limit pid : ℕ) (all : Bool) (ps ns : List ℕ) (runs : List (Run A)) → 0 < limit → stretches_of runs ≡ cut_within limit (requests_of pid all ps ns) → ((k : ℕ) → k < length ns → slice_index ns k < n) → (k : ℕ) (d : Run A) → k < length runs → (slice_index_or runs k d).target < n
 targets_below n limit pid all ps ns runs some e h =

@@ -38,13 +38,13 @@ module _ (P : ℕ → Type 0) where
   sent_all all [] h = tt
   sent_all all (node ∷ nodes) h = both (sent_to all node) (flat_map (sent_to all) nodes) (sent_there all node h.0) (sent_all all nodes h.1)
 
-  asked_all : (pid : ℕ) (all : Bool) (ts : List Sent) → AllByRecursion (λ t. P t.to) ts → AllByRecursion (λ e. P e.target) (each_to pid all ts)
+  pub asked_all : (pid : ℕ) (all : Bool) (ts : List Sent) → AllByRecursion (λ t. P t.to) ts → AllByRecursion (λ e. P e.target) (each_to pid all ts)
   asked_all pid all [] h = tt
   asked_all pid all (t ∷ ts) h = (h.0, asked_all pid all ts h.1)
 
   -- pages that take turns go to nodes of the set ..
-  pub turns_go : (pid : ℕ) (all : Bool) (nodes : List ℕ) (pages : List Located) → AllByRecursion P nodes → AllByRecursion (λ e. P e.target) (each_to pid all (by_turns nodes pages))
-  turns_go pid all nodes pages h = asked_all pid all (by_turns nodes pages) (sent_all (map (sent nodes) pages) nodes h)
+  pub turns_go : (nodes : List ℕ) (pages : List Located) → AllByRecursion P nodes → AllByRecursion (λ t. P t.to) (by_turns nodes pages)
+  turns_go nodes pages h = sent_all (map (sent nodes) pages) nodes h
 
   kept_all : (ns ks : List ℕ) → AllByRecursion P ns → AllByRecursion P (filter (is_in ns) ks)
   kept_all ns [] h = tt

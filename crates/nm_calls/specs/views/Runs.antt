@@ -5,7 +5,7 @@ use Rattle.nm_types.specs.declared.area.Policy.{Policy}
 use Rattle.nm_types.specs.declared.area.Policy.TheVariants.{Default, Preferred, Bind, Interleave, Local}
 use Rattle.nm_types.specs.declared.errno.Errno.TheVariants.{Eio, Ebusy}
 use Rattle.nm_types.specs.State.{State}
-use Rattle.nm_model.specs.definitions.Cut.{Stretch, wanted_of}
+use Rattle.nm_model.specs.definitions.Cut.{Stretch}
 use Rattle.nm_model.specs.definitions.Cut.{cut_within}
 use Rattle.nm_model.specs.definitions.Run.{Ran, HasOneAll}
 use Rattle.nm_model.specs.definitions.Run.{runs_from}
@@ -18,20 +18,20 @@ use Rattle.nm_calls.specs.declared.call_error.CallError.{CallError}
 use Rattle.nm_calls.specs.declared.call_error.CallError.TheVariants.{Refused, HostMemory}
 use Rattle.nm_calls.specs.definitions.Passes.{passes}
 use Rattle.nm_calls.specs.laws.Full.{HasFailed, AreStanding}
-use Rattle.nm_calls.specs.definitions.Mbind.{has_stray, tells_late}
+use Rattle.nm_calls.specs.definitions.Mbind.{each_to, has_stray, tells_late}
 use Rattle.nm_calls.specs.definitions.Offline.{still_on}
 use Rattle.nm_calls.specs.definitions.Outcome.{states_of}
 
 -- the runs that these moves make
 abbrev pub runs_in : {A : Type 0} → ℕ → State → Placement A → List Stretch
 runs_in limit s (Passes nodes wanted) = passes limit s nodes.items wanted.items
-runs_in limit s (Turns requests) = cut_within limit requests.items
+runs_in limit s (Turns pid all sent) = cut_within limit (each_to pid all sent.items)
 
 -- the nodes are below a count and few, and the pages few
 abbrev pub CanGo : {A : Type 0} → ℕ → Placement A → Type 0
 CanGo count (Passes nodes wanted) =
     All (λ n. n < count) nodes.items × (length nodes.items ≤ 64) × HasOneAll wanted.items × (length wanted.items ≤ 2 ^ 52)
-CanGo count (Turns requests) = AllByRecursion (λ e. e.target < count) requests.items × HasOneAll (wanted_of requests.items)
+CanGo count (Turns pid all sent) = AllByRecursion (λ page. page.to < count) sent.items
 
 -- the nodes that a policy names
 abbrev pub nodes_named : Policy → List ℕ

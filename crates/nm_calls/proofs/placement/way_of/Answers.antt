@@ -4,14 +4,13 @@ use Rattle.std.proofs.lemmas.List.{nil_from_length}
 use Rattle.std.specs.List.{AllByRecursion}
 use Rattle.std.proofs.lemmas.List.Elements.{All-from_recursion}
 use Rattle.nm_types.specs.Layout.{node_count}
-use Rattle.nm_model.specs.definitions.Cut.{cut_within, wanted_of}
-use Rattle.nm_policy.specs.Turns.{by_turns}
+use Rattle.nm_model.specs.definitions.Cut.{cut_within}
 use Rattle.nm_model.specs.definitions.Effect.{with_areas_of}
 use Rattle.nm_model.specs.definitions.Run.{HasOneAll}
 use Rattle.nm_calls.specs.definitions.Passes.{passes}
-use Rattle.nm_calls.specs.definitions.Mbind.{nodes_tried, runs_by}
+use Rattle.nm_calls.specs.definitions.Mbind.{each_to, nodes_tried, runs_by}
 use Rattle.nm_calls.specs.views.Runs.{nodes_named}
-use Rattle.nm_calls.proofs.Policies.Moves.{turns_go, turns_alike, tried_all, spots_alike, spots_length, passes_by}
+use Rattle.nm_calls.proofs.Policies.Moves.{turns_go, tried_all, spots_alike, spots_length, passes_by}
 use Rattle.nm_calls.proofs.Policies.NoBytes.{no_moves}
 use Rattle.nm_calls.proofs.placement.way_of.Goals as goal
 
@@ -22,20 +21,17 @@ returns-then-is_empty g c =
     let none : c.args.pages.now ≡ [] = nil_from_length _ (eqb-true _ 0 (sym c.is_empty.ensures ∙ c.if-is_empty.true)) in
     let empty : c.new.result.items ≡ [] = c.new.ensures.items in
     record {
-      runs = λ limit m. ap (cut_within limit) empty ∙ sym (ap (runs_by limit (with_areas_of s m) b.policy c.args.home b.pid c.args.all) none ∙ no_moves limit (with_areas_of s m) b.policy c.args.home b.pid c.args.all);
-      can_go = (subst (AllByRecursion (λ e. e.target < node_count s.layout)) (sym empty) tt, subst (λ es. HasOneAll (wanted_of es)) (sym empty) (turns_alike b.pid c.args.all []));
+      runs = λ limit m. ap (λ sent. cut_within limit (each_to b.pid c.args.all sent)) empty ∙ sym (ap (runs_by limit (with_areas_of s m) b.policy c.args.home b.pid c.args.all) none ∙ no_moves limit (with_areas_of s m) b.policy c.args.home b.pid c.args.all);
+      can_go = subst (AllByRecursion (λ page. page.to < node_count s.layout)) (sym empty) tt;
       asked = tt;
     }
 
 pub returns-in-Interleave-clause-can_go : goal.returns-in-Interleave-clause-can_go
 returns-in-Interleave-clause-can_go g c =
     let n = node_count c.args.machine.now.layout in
-    let b = c.args.binding.now in
     let nodes = c.in-Interleave.nodes in
-    let pages = c.args.pages.now in
-    let is = sym c.in_ok-turns.ensures in
     let named = subst (λ p. AllByRecursion (λ m. m < n) (nodes_named p)) c.in-Interleave.is c.requires.nodes in
-    (subst (AllByRecursion (λ e. e.target < n)) is (turns_go (λ m. m < n) b.pid c.args.all nodes pages named), subst (λ es. HasOneAll (wanted_of es)) is (turns_alike b.pid c.args.all (by_turns nodes pages)))
+    subst (AllByRecursion (λ page. page.to < n)) (sym c.in_ok-mbind_targets.ensures.targets) (turns_go (λ m. m < n) nodes c.args.pages.now named)
 
 pub returns : goal.returns
 returns g c =
