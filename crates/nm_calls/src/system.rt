@@ -37,6 +37,7 @@ use crate::permission::permit_of;
 use crate::status::statuses_of;
 use nm_crew::{Crew, Gate};
 use nm_engine::{Machine, Totals};
+use nm_spaces::frame_named;
 use nm_steps::{
     Attachment, MbindRequest, MigrateRequest, MoveRequest, NewArea, NewProcess, Question,
 };
@@ -59,12 +60,10 @@ fn mapped_of<A: Allocator + Copy>(
 {
     let mut mapped = Vec::with_capacity(alloc, entries.len())?;
     for (vpn, entry) in entries {
-        let frame = match entry {
-            Entry::Zero => None,
-            Entry::Frame(frame) => Some(*frame),
-            Entry::Held(frame) => Some(*frame),
-        };
-        mapped.push_reserved(PagemapEntry { vpn: *vpn, frame });
+        mapped.push_reserved(PagemapEntry {
+            vpn: *vpn,
+            frame: frame_named(entry),
+        });
     }
     Ok(mapped)
 }

@@ -5,7 +5,7 @@ ghost use Rattle.nm_types.specs.Nodes.{up_from};
 ghost use Rattle.nm_model.specs.definitions.Effect.{new_machine};
 
 mod flight;
-mod resolved_address;
+pub(crate) mod resolved_address;
 mod run;
 pub(crate) mod touch;
 mod undo;

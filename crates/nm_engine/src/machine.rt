@@ -24,6 +24,7 @@ mod query;
 
 use crate::answers::RunAnswer;
 use crate::inner::Inner;
+use crate::inner::resolved_address::ResolvedAddress;
 use crate::inner::touch::push_zeros;
 use crate::laws::interleavings;
 use nm_crew::{Crew, Gate};
@@ -120,10 +121,18 @@ impl<A: Allocator + Copy + Send + Sync> Machine<A> {
             (read self.old pid addr len) }
         ensures memory { AsksLast result (site_refusal self.old pid addr len) }
     {
-        let resolved = self.inner.resolve(pid, addr, len)?;
+        let resolved = ResolvedAddress::of(&self.inner.spaces, pid, addr, len)?;
         let len = len as usize;
         let mut bytes = Vec::with_capacity(self.alloc, len)?;
-        match self.inner.touch(resolved, false)? {
+        let online = self.inner.online;
+        let touched = resolved.touch(
+            &mut self.inner.spaces,
+            &mut self.inner.frames,
+            online,
+            self.alloc,
+            false,
+        )?;
+        match touched.frame {
             Some(frame) => self
                 .inner
                 .frames
@@ -149,8 +158,16 @@ impl<A: Allocator + Copy + Send + Sync> Machine<A> {
             sight_at self.old pid (addr / 4096) ≡ Some (Sees page) →
             ⊥ }
     {
-        let resolved = self.inner.resolve(pid, addr, bytes.len() as u64)?;
-        let Some(frame) = self.inner.touch(resolved, true)? else {
+        let resolved = ResolvedAddress::of(&self.inner.spaces, pid, addr, bytes.len() as u64)?;
+        let online = self.inner.online;
+        let touched = resolved.touch(
+            &mut self.inner.spaces,
+            &mut self.inner.frames,
+            online,
+            self.alloc,
+            true,
+        )?;
+        let Some(frame) = touched.frame else {
             unreachable!()
         };
         self.inner.frames.write(frame, Vpn::offset(addr), bytes);

@@ -1,6 +1,6 @@
 //! The address spaces of all processes: page tables, areas, and the mappers of each frame.
 
-ghost use Rattle.std.specs.Prelude.{ℕ, ◌≡◌, ◌<◌, ◌≤◌, ◌+◌, ◌-◌, ◌/◌, length, Some, None, IsSome, IfOk, IfErr, OnOk, OnErr};
+ghost use Rattle.std.specs.Prelude.{ℕ, ◌≡◌, ◌<◌, ◌≤◌, ◌+◌, ◌-◌, ◌/◌, length, Some, None, IsSome, IfOk, IfErr, IfSome, OnOk, OnErr};
 ghost use Rattle.std.specs.Option.{option_map};
 ghost use Rattle.std.specs.Ordering.{nat_cmp};
 ghost use Rattle.nm_types.specs.declared.page.Page.{Page};
@@ -8,7 +8,7 @@ ghost use Rattle.nm_types.specs.declared.errno.Errno.TheVariants.{Ebusy, Einval}
 ghost use Rattle.nm_types.specs.declared.sight.Sight.TheVariants.{ZeroPage, Sees};
 ghost use Rattle.nm_types.specs.Map.{get, set, with_values, page_cmp};
 ghost use Rattle.nm_types.specs.State.{Process, page_at};
-ghost use Rattle.nm_model.specs.definitions.Seen.{sight_in, look_at_place};
+ghost use Rattle.nm_model.specs.definitions.Seen.{sight_in, frame_of, look_at_place};
 ghost use Rattle.nm_model.specs.definitions.Effect.{info_of, untouched};
 ghost use Rattle.nm_model.specs.definitions.PageTables.{entry_of};
 ghost use Rattle.nm_spaces.specs.views.AddressSpaces.{mapped_of, no_spaces, with_seen, with_new_page, pins_here, with_pins_of};
@@ -18,6 +18,7 @@ mod back;
 pub(crate) mod held;
 mod walk;
 
+use crate::entry::frame_named;
 use crate::process_table::ProcessTable;
 use nm_areas::Areas;
 use nm_rmap::ReverseMap;
@@ -26,6 +27,14 @@ use nm_types::{Errno, FrameId, Page, PageView, Pid, ProcessInfo, Seen, Sight, Vp
 use std::alloc::{AllocError, Allocator};
 use std::marker::Model;
 use walk::page_in;
+
+/// What a process sees at a page number, and the frame of the page that it sees: for one on its way, the frame that it
+/// takes. None for the page of zeros.
+#[derive(Clone, Copy)]
+pub struct PlacedSight {
+    pub sight: Sight,
+    pub frame: Option<FrameId>,
+}
 
 /// The page tables of all processes, the areas with the frames of pages, and for each frame the entries that name it
 /// and its pins. Contracts see what each process sees, page by page.
@@ -92,15 +101,20 @@ impl<A: Allocator + Copy> AddressSpaces<A> {
     }
 
     /// What a process sees at a page number where an area shows this page.
-    pub fn sight(&self, pid: Pid, vpn: Vpn, page: Page) -> Option<Sight>
+    pub fn sight(&self, pid: Pid, vpn: Vpn, page: Page) -> Option<PlacedSight>
         requires { page_at self.now.areas pid vpn ≡ Some page }
-        ensures { result ≡ sight_in (get nat_cmp self.now.processes pid) vpn }
+        ensures sight { option_map (λ seen. seen.sight) result
+            ≡ sight_in (get nat_cmp self.now.processes pid) vpn }
+        ensures frame { IfSome result
+            (λ seen. seen.frame ≡ frame_of self.now.place (Some seen.sight)) }
     {
-        match self.tasks.entry(pid, vpn)? {
-            Entry::Zero => Some(Sight::ZeroPage),
-            Entry::Frame(_) => Some(Sight::Sees(page)),
-            Entry::Held(_) => Some(Sight::Sees(page)),
-        }
+        let entry = self.tasks.entry(pid, vpn)?;
+        let frame = frame_named(&entry);
+        let sight = match frame {
+            None => Sight::ZeroPage,
+            Some(_) => Sight::Sees(page),
+        };
+        Some(PlacedSight { sight, frame })
     }
 
     /// The entries of a process's page table, in ascending order. None if there is no such process.
@@ -281,10 +295,9 @@ impl<A: Allocator + Copy> PageView for AddressSpaces<A> {
         };
         match self.tasks.entry(pid, vpn) {
             None => Seen::Absent,
-            Some(entry) => match entry {
-                Entry::Zero => Seen::Zero,
-                Entry::Frame(frame) => self.look_at(page, frame),
-                Entry::Held(frame) => self.look_at(page, frame),
+            Some(entry) => match frame_named(&entry) {
+                None => Seen::Zero,
+                Some(frame) => self.look_at(page, frame),
             },
         }
     }

@@ -3,8 +3,10 @@
 #![tactic(auto)]
 
 mod address_spaces;
+mod entry;
 mod process;
 mod process_table;
 
-pub use address_spaces::AddressSpaces;
 pub use address_spaces::held::HeldSpaces;
+pub use address_spaces::{AddressSpaces, PlacedSight};
+pub use entry::frame_named;

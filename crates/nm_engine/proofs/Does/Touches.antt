@@ -22,7 +22,8 @@ use Rattle.nm_engine.specs.views.Shown.{PagedFrames}
 use Rattle.nm_engine.proofs.Shown.PagedFrames.{HasItsFrames, free_of, stock_page}
 use Rattle.nm_model.specs.views.Table.{Table}
 use Rattle.nm_engine.specs.views.Shown.{shown}
-use Rattle.nm_engine.specs.views.MidRun.{MidRun, IsKept, access_site, IsSiteOf}
+use Rattle.nm_engine.specs.views.MidRun.{MidRun, IsKept}
+use Rattle.nm_engine.specs.views.Parts.{IsSiteOf, access_site}
 use Rattle.nm_model.specs.definitions.Frames.{bytes_of, overwrite}
 use Rattle.nm_types.proofs.Maps.{page_cmp_total, get-set}
 use Rattle.std.specs.Cmp.{tied_itself}
@@ -40,7 +41,7 @@ inside s left room y is P h = subst (λ (z : MidRun). P z.state) (sym is) h
 pub outside : (s : State) (left : List ℕ) (room : ℕ) (y : MidRun) → record { state = s; left = left; room = room } ≡ y → (P : State → Type 0) → P s → P y.state
 outside s left room y is P h = subst (λ (z : MidRun). P z.state) is h
 
-pub spot_there : (s : State) (t : ResolvedAddress) (p : Process) (a : Placed) → IsSiteOf s t p a → IsSpot s (access_site t p a)
+pub spot_there : (s : State) (t : ResolvedAddress) (p : Process) (a : Placed) → IsSiteOf s.processes s.areas t p a → IsSpot s (access_site t p a)
 spot_there s t p a h = record { process = h.known; area = h.over }
 
 pub not_none : {V : Type 0} (P : Type 0) (o : Option V) → IsSome o → IfNone o P
@@ -65,7 +66,7 @@ pub found_free : (free : List (List ℕ)) (order : List ℕ) (node : ℕ) → fi
 found_free free order node h = some_length _ (has_front free order node h)
 
 module _ {c : ℕ} (tasks : Map ℕ Process) (m : Table) (x : PagedFrames) (online : List ℕ) (moved failed : ℕ) (l : List ℕ) (t : ResolvedAddress) (p : Process) (a : Placed)
-    (kept : IsKept (shown tasks m x online moved failed) l c) (touched : IsSiteOf (shown tasks m x online moved failed) t p a) where
+    (kept : IsKept (shown tasks m x online moved failed) l c) (touched : IsSiteOf tasks m.areas t p a) where
   -- the process sees something else
   pub seen_kept : (sight : Sight) (new : Map ℕ Process) → new ≡ replace nat_cmp tasks t.pid (seeing p t.vpn sight) → Fits (shown tasks m x online moved failed) (access_site t p a) sight
       → ((q : Page) → sight_at (shown tasks m x online moved failed) t.pid t.vpn ≡ Some (Sees q) → ⊥) → IsKept (shown new m x online moved failed) l c
@@ -155,21 +156,23 @@ spot_found s pid address len p a known some inside over =
     ∙ ap (site_over pid p (address / 4096)) over
 
 -- where an area is over a page number of a process, bytes inside the page are touched there
-pub touched_there : (s : State) (pid address len v first index : ℕ) (info : ProcessInfo) (area : Area) → option_map info_of (get nat_cmp s.processes pid) ≡ Some info → (len ≡ 0 → ⊥)
-    → len ≤ 4096 - address % 4096 → v ≡ address / 4096 → Some ((pid, first), area) ≡ area_over s.areas pid v → index ≡ area.page.index + (v - first)
+pub touched_there : (processes : Map ℕ Process) (areas : Map (ℕ × ℕ) Area) (pid address len v first index : ℕ) (info : ProcessInfo) (area : Area) → option_map info_of (get nat_cmp processes pid) ≡ Some info → (len ≡ 0 → ⊥)
+    → len ≤ 4096 - address % 4096 → v ≡ address / 4096 → Some ((pid, first), area) ≡ area_over areas pid v → index ≡ area.page.index + (v - first)
     → (p : Process) × (a : Placed)
-    × (site s pid address len ≡ Ok (access_site (record { pid = pid; info = info; vpn = v; page = record { segment = area.page.segment; index = index }; policy = area.policy }) p a))
-    × IsSiteOf s (record { pid = pid; info = info; vpn = v; page = record { segment = area.page.segment; index = index }; policy = area.policy }) p a
-touched_there s pid address len v first index info area known some within at over is =
-    let p = mapped_some info_of (get nat_cmp s.processes pid) info known in
+    × IsSiteOf processes areas (record { pid = pid; info = info; vpn = v; page = record { segment = area.page.segment; index = index }; policy = area.policy }) p a
+    × ((s : State) → s.processes ≡ processes → s.areas ≡ areas
+    → site s pid address len ≡ Ok (access_site (record { pid = pid; info = info; vpn = v; page = record { segment = area.page.segment; index = index }; policy = area.policy }) p a))
+touched_there processes areas pid address len v first index info area known some within at over is =
+    let p = mapped_some info_of (get nat_cmp processes pid) info known in
     let a : Placed = ((pid, first), area) in
     let part : address % 4096 < 4096 = mod-lt address (omega arith) in
     let fits : nat_lt 4096 (address % 4096 + len) ≡ false = le-ltb 4096 (address % 4096 + len) (omega (arith, within, part)) in
-    let there : area_over s.areas pid (address / 4096) ≡ Some a = ap (area_over s.areas pid) (sym at) ∙ sym over in (
+    let there : area_over areas pid (address / 4096) ≡ Some a = ap (area_over areas pid) (sym at) ∙ sym over in (
       p.0,
       a,
-      spot_found s pid address len p.0 a p.1 (ne_eqb len 0 some) fits there ∙ ap (λ w. Ok (record { pid = pid; process = p.0; area = a; vpn = w })) (sym at),
       record { known = p.1; info = p.2; over = sym over; policy = refl; page = ap (λ i. record { segment = area.page.segment; index = i }) (sym is) },
+      λ s same_processes same_areas. spot_found s pid address len p.0 a (ap (λ ps. get nat_cmp ps pid) same_processes ∙ p.1) (ne_eqb len 0 some) fits (ap (λ ars. area_over ars pid (address / 4096)) same_areas ∙ there)
+          ∙ ap (λ w. Ok (record { pid = pid; process = p.0; area = a; vpn = w })) (sym at),
     )
 
 pub touch_is : (s t : State) (pid address len : ℕ) (writes : Bool) (at : AccessSite) → site s pid address len ≡ Ok at → touched_entry s at writes (get nat_cmp at.process.sees at.vpn) ≡ Ok t → touch s pid address len writes ≡ Ok t

@@ -31,7 +31,8 @@ use Rattle.nm_engine.specs.declared.inner.undo.Undo.{Undo}
 use Rattle.nm_model.specs.definitions.Frames.{bytes_of}
 use Rattle.nm_spaces.specs.views.AddressSpaces.{AddressSpacesView, with_before, without_page}
 use Rattle.nm_memory.specs.views.Frames.{FramesView, CanFree, pool_of}
-use Rattle.nm_engine.specs.views.MidRun.{IsKept, IsSiteOf, access_site}
+use Rattle.nm_engine.specs.views.MidRun.{IsKept}
+use Rattle.nm_engine.specs.views.Parts.{IsSiteOf, access_site}
 use Rattle.nm_engine.specs.views.Shown.{shown_by}
 use Rattle.nm_model.specs.definitions.Seen.{frame_of, frame_seen}
 use Rattle.nm_model.specs.definitions.Sound.{holders, IsSoundMidRun}
@@ -308,7 +309,7 @@ touch_back s l at writes (Some ZeroPage) new frame h i e found seen = zero_back 
 touch_back s l at writes (Some (Sees q)) new frame h i e found seen = sym (ok_is found)
 
 -- the same of a touch that was looked up
-pub touched_back : (s : State) (l : List ℕ) (t : ResolvedAddress) (p : Process) (a : Placed) (writes : Bool) (new : State) (frame : Option ℕ) → IsSoundMidRun s l → IsSiteOf s t p a
+pub touched_back : (s : State) (l : List ℕ) (t : ResolvedAddress) (p : Process) (a : Placed) (writes : Bool) (new : State) (frame : Option ℕ) → IsSoundMidRun s l → IsSiteOf s.processes s.areas t p a
     → touched_entry s (access_site t p a) writes (get nat_cmp p.sees t.vpn) ≡ Ok new → frame ≡ frame_seen new t.pid t.vpn
     → IsTakenBack s l new (noted t.pid t.vpn t.page (sight_at s t.pid t.vpn) (get page_cmp s.place t.page) frame)
 touched_back s l t p a writes new frame h r found seen =

@@ -17,6 +17,7 @@ ghost use Rattle.nm_model.specs.views.Asked.{access_shown};
 ghost use Rattle.nm_memory.specs.views.Accesses.{pending_shown, HasRoom};
 
 use crate::inner::Inner;
+use crate::inner::resolved_address::ResolvedAddress;
 use crate::inner::touch::push_zeros;
 use crate::inner::undo::Undo;
 use nm_memory::{AccessAnswer, PendingAccess};
@@ -202,7 +203,7 @@ impl<A: Allocator + Copy> Inner<A> {
         // The touches to undo
         ensures back { IsStillUndone self.old.left self.old.state undos.old.items self.new.state undos.new.items }
     {
-        let resolved = match self.resolve(pid, addr, len) {
+        let resolved = match ResolvedAddress::of(&self.spaces, pid, addr, len) {
             Ok(resolved) => resolved,
             Err(error) => return Ok(PendingAccess::Known(AccessAnswer::Refused(error))),
         };
@@ -257,7 +258,7 @@ impl<A: Allocator + Copy> Inner<A> {
         // The touches to undo
         ensures back { IsStillUndone self.old.left self.old.state undos.old.items self.new.state undos.new.items }
     {
-        let resolved = match self.resolve(pid, addr, bytes.len() as u64) {
+        let resolved = match ResolvedAddress::of(&self.spaces, pid, addr, bytes.len() as u64) {
             Ok(resolved) => resolved,
             Err(error) => return Ok(PendingAccess::Known(AccessAnswer::Refused(error))),
         };

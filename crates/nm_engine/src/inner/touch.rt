@@ -1,196 +1,298 @@
 //! Touches: what reads and writes do before they reach the bytes.
 
-ghost use Rattle.std.specs.Prelude.{◌≡◌, ◌+◌, ◌/◌, ◌%◌, ◌≤◌, ◌++◌, true, false, replicate, vec_len, vec_capacity, Ok, Err, Some, None, IfOk, IfErr, IfNone, IsSome, OnErr};
+ghost use Rattle.std.specs.Prelude.{ℕ, ◌≡◌, ◌+◌, ◌≤◌, ◌++◌, true, false, replicate, vec_len, vec_capacity, Some, None, IfOk, IfNone, IsSome, OnErr};
 ghost use Rattle.std.specs.Ordering.{nat_cmp};
 ghost use Rattle.std.specs.Result.{result_err};
 ghost use Rattle.nm_types.specs.declared.page.Page.{Page};
 ghost use Rattle.nm_types.specs.declared.sight.Sight.TheVariants.{Sees, ZeroPage};
 ghost use Rattle.nm_types.specs.Map.{get, page_cmp};
 ghost use Rattle.nm_types.specs.State.{Process, Placed};
-ghost use Rattle.nm_model.specs.definitions.Seen.{sight_at};
+ghost use Rattle.nm_model.specs.definitions.Seen.{frame_of, sight_in};
 ghost use Rattle.nm_model.specs.definitions.Order.{first_touch_order};
-ghost use Rattle.nm_model.specs.definitions.Touch.{site, first_free, filled, joined, touched_entry};
-ghost use Rattle.nm_engine.specs.views.MidRun.{access_site, IsSiteOf, with_state};
+ghost use Rattle.nm_model.specs.definitions.Touch.{first_free, filled, joined, touched_entry};
+ghost use Rattle.nm_engine.specs.views.Parts.{AreKept, IsSiteOf, access_site};
+ghost use Rattle.nm_engine.specs.views.Shown.{shown_by};
 ghost use Rattle.nm_engine.specs.definitions.Does.{AsksLast, Touches};
-ghost use Rattle.nm_model.specs.definitions.Seen.{frame_seen};
+ghost use Rattle.nm_engine.specs.definitions.Undo.{noted};
 
-use crate::inner::Inner;
 use crate::inner::resolved_address::ResolvedAddress;
+use crate::inner::undo::Undo;
+use nm_memory::Frames;
 use nm_policy::first_touch_node;
-use nm_types::limits::PAGE_BYTES;
-use nm_types::{Errno, FrameId, MachineError, NodeId, Page, Pid, Policy, ProcessInfo, Sight, Vpn};
+use nm_spaces::AddressSpaces;
+use nm_types::{
+    Errno, FrameId, MachineError, NodeId, NodeMask, Page, Pid, ProcessInfo, Sight, Vpn,
+};
 use std::alloc::Allocator;
 
-impl<A: Allocator + Copy> Inner<A> {
-    /// Where `len` bytes of a process from `addr` on are, or the first refusal.
-    pub(crate) fn resolve(&self, pid: Pid, addr: u64, len: u64) -> Result<ResolvedAddress, Errno>
-        // On success
-        ensures ok { IfOk result
-            (λ t. (p : Process) × (a : Placed)
-            × (site self.now.state pid addr len ≡ Ok (access_site t p a))
-            × IsSiteOf self.now.state t p a) }
-        ensures pid { IfOk result (λ t. t.pid ≡ pid) }
-        ensures page { IfOk result (λ t. t.vpn ≡ addr / 4096) }
-        ensures inside { IfOk result (λ t. addr % 4096 + len ≤ 4096) }
+/// What a touch gives back.
+#[derive(Clone, Copy)]
+pub(crate) struct Touched {
+    /// The frame of the page that the process then sees. None if that is the page of zeros.
+    pub(crate) frame: Option<FrameId>,
+    /// How to undo the touch. None if the process saw the same before.
+    pub(crate) undo: Option<Undo>,
+}
 
-        // On refusal
-        ensures err { IfErr result (λ errno. site self.now.state pid addr len ≡ Err errno) }
+impl Touched {
+    /// The process sees the page shown there, which got this frame, in place of nothing or of the page of zeros.
+    fn placed(pid: Pid, vpn: Vpn, zero: bool, page: Page, frame: FrameId) -> Self
+        ensures { result
+            ≡ record {
+              frame = Some frame;
+              undo = Some
+                  (record {
+                    pid = pid;
+                    vpn = vpn;
+                    zero = zero;
+                    given = Some (page, frame);
+                  });
+            } }
     {
-        let Some(info) = self.spaces.info(pid) else {
-            return Err(Errno::Esrch);
-        };
-        if len == 0 || len > (PAGE_BYTES - Vpn::offset(addr)) as u64 {
-            return Err(Errno::Einval);
+        Touched {
+            frame: Some(frame),
+            undo: Some(Undo {
+                pid,
+                vpn,
+                zero,
+                given: Some((page, frame)),
+            }),
         }
-        let vpn = Vpn::of_address(addr);
-        let Some((first, area)) = self.spaces.areas().find(pid, vpn) else {
-            return Err(Errno::Efault);
-        };
-        let Page { segment, index } = area.page;
-        let page = Page {
-            segment,
-            index: index + (vpn.number() - first.number()),
-        };
-        Ok(ResolvedAddress {
-            pid,
-            info,
-            vpn,
-            page,
-            policy: area.policy,
-        })
     }
 
-    /// What a read or a write does before it reaches the bytes. Returns the frame of the page that the process then
-    /// sees, or None if that is the page of zeros. If it sees a page before, or reads the page of zeros, nothing is
-    /// refused. Allocates only if it is not refused.
-    pub(crate) fn touch(
-        &mut self,
-        t: ResolvedAddress,
+    /// The process sees a page that had this frame before, or the page of zeros, in place of nothing.
+    fn seen(pid: Pid, vpn: Vpn, frame: Option<FrameId>) -> Self
+        ensures { result
+            ≡ record {
+              frame = frame;
+              undo = Some
+                  (record {
+                    pid = pid;
+                    vpn = vpn;
+                    zero = false;
+                    given = None;
+                  });
+            } }
+    {
+        Touched {
+            frame,
+            undo: Some(Undo {
+                pid,
+                vpn,
+                zero: false,
+                given: None,
+            }),
+        }
+    }
+}
+
+impl ResolvedAddress {
+    /// What a read or a write does before it reaches the bytes. Returns the frame of the page that the process then sees,
+    /// and how to undo what was done. If it sees a page before, or reads the page of zeros, nothing is refused. Allocates
+    /// only if it is not refused.
+    pub(crate) fn touch<A: Allocator + Copy>(
+        self,
+        spaces: &mut AddressSpaces<A>,
+        frames: &mut Frames<A>,
+        online: NodeMask,
+        alloc: A,
         writes: bool,
-    ) -> Result<Option<FrameId>, MachineError>
-        requires { (p : Process) × (a : Placed) × IsSiteOf self.old.state t p a }
+    ) -> Result<Touched, MachineError>
+        requires site { (p : Process) × (a : Placed)
+            × IsSiteOf spaces.old.processes spaces.old.areas self p a }
+        requires kept { AreKept spaces.old frames.old online }
 
         // In any case
-        ensures touches { (p : Process) (a : Placed) →
-            IsSiteOf self.old.state t p a →
-            Touches result self.old.state self.new.state
-            (touched_entry self.old.state (access_site t p a) writes (get nat_cmp p.sees t.vpn)) }
+        ensures touches { (moved failed : ℕ) (p : Process) (a : Placed) →
+            IsSiteOf spaces.old.processes spaces.old.areas self p a →
+            Touches result (shown_by spaces.old frames.old online moved failed)
+            (shown_by spaces.new frames.new online moved failed)
+            (touched_entry (shown_by spaces.old frames.old online moved failed) (access_site self p a) writes (get nat_cmp p.sees self.vpn)) }
+        ensures kept { AreKept spaces.new frames.new online }
+        ensures left { frames.new.vacated ≡ frames.old.vacated }
+        ensures room { frames.new.room ≡ frames.old.room }
 
         // On success
-        ensures frame { IfOk result (λ frame. frame ≡ frame_seen self.new.state t.pid t.vpn) }
-        ensures some { IfOk result (λ frame. writes ≡ true → IsSome frame) }
+        ensures frame { IfOk result
+            (λ touched. touched.frame
+            ≡ frame_of spaces.new.place
+            (sight_in (get nat_cmp spaces.new.processes self.pid) self.vpn)) }
+        ensures some { IfOk result (λ touched. writes ≡ true → IsSome touched.frame) }
         ensures zeros { IfOk result
-            (λ frame. IfNone frame (sight_at self.new.state t.pid t.vpn ≡ Some ZeroPage)) }
+            (λ touched. IfNone touched.frame
+            (sight_in (get nat_cmp spaces.new.processes self.pid) self.vpn ≡ Some ZeroPage)) }
+        ensures undo { IfOk result
+            (λ touched. touched.undo
+            ≡ noted self.pid self.vpn self.page
+            (sight_in (get nat_cmp spaces.old.processes self.pid) self.vpn)
+            (get page_cmp spaces.old.place self.page) touched.frame) }
 
         // Without memory
-        ensures memory { (p : Process) (a : Placed) →
-            IsSiteOf self.old.state t p a →
+        ensures memory { (moved failed : ℕ) (p : Process) (a : Placed) →
+            IsSiteOf spaces.old.processes spaces.old.areas self p a →
             AsksLast result
-            (result_err (touched_entry self.old.state (access_site t p a) writes (get nat_cmp p.sees t.vpn))) }
+            (result_err (touched_entry (shown_by spaces.old frames.old online moved failed) (access_site self p a) writes (get nat_cmp p.sees self.vpn))) }
         ensures asked { OnErr result
-            ((page : Page) → sight_at self.old.state t.pid t.vpn ≡ Some (Sees page) → ⊥) }
+            ((page : Page) →
+            sight_in (get nat_cmp spaces.old.processes self.pid) self.vpn ≡ Some (Sees page) →
+            ⊥) }
         ensures zero { OnErr result
-            (writes ≡ false → sight_at self.old.state t.pid t.vpn ≡ Some ZeroPage → ⊥) }
-
-        // Nothing else changes
-        ensures same { self.new ≡ with_state self.old self.new.state }
+            (writes ≡ false →
+            sight_in (get nat_cmp spaces.old.processes self.pid) self.vpn ≡ Some ZeroPage →
+            ⊥) }
     {
-        match self.spaces.sight(t.pid, t.vpn, t.page) {
-            Some(Sight::Sees(page)) => Ok(self.spaces.areas().page_frame(page)),
-            Some(Sight::ZeroPage) => {
-                if writes {
-                    Ok(Some(self.fill(t)?))
-                } else {
-                    Ok(None)
+        let ResolvedAddress { pid, vpn, page, .. } = self;
+        match spaces.sight(pid, vpn, page) {
+            Some(seen) => match seen.sight {
+                Sight::Sees(_) => Ok(Touched {
+                    frame: seen.frame,
+                    undo: None,
+                }),
+                Sight::ZeroPage => {
+                    if writes {
+                        let frame = self.fill(spaces, frames, online, alloc)?;
+                        Ok(Touched::placed(pid, vpn, true, page, frame))
+                    } else {
+                        Ok(Touched {
+                            frame: None,
+                            undo: None,
+                        })
+                    }
                 }
-            }
+            },
             None => {
-                if self.spaces.areas().is_shared(t.page.segment) {
-                    Ok(Some(self.join(t)?))
+                if spaces.areas().is_shared(page.segment) {
+                    self.join(spaces, frames, online, alloc)
                 } else if writes {
-                    Ok(Some(self.fill(t)?))
+                    let frame = self.fill(spaces, frames, online, alloc)?;
+                    Ok(Touched::placed(pid, vpn, false, page, frame))
                 } else {
-                    self.spaces.see_zero(t.pid, t.vpn)?;
-                    Ok(None)
+                    spaces.see_zero(pid, vpn)?;
+                    Ok(Touched::seen(pid, vpn, None))
                 }
             }
         }
     }
 
     /// Makes the process see the page shown there, which gets a frame if it has none.
-    fn join(&mut self, t: ResolvedAddress) -> Result<FrameId, MachineError>
-        requires touched { (p : Process) × (a : Placed) × IsSiteOf self.old.state t p a }
-        requires unseen { sight_at self.old.state t.pid t.vpn ≡ None }
+    fn join<A: Allocator + Copy>(
+        self,
+        spaces: &mut AddressSpaces<A>,
+        frames: &mut Frames<A>,
+        online: NodeMask,
+        alloc: A,
+    ) -> Result<Touched, MachineError>
+        requires touched { (p : Process) × (a : Placed)
+            × IsSiteOf spaces.old.processes spaces.old.areas self p a }
+        requires kept { AreKept spaces.old frames.old online }
+        requires unseen { sight_in (get nat_cmp spaces.old.processes self.pid) self.vpn ≡ None }
 
         // In any case
-        ensures touches { (p : Process) (a : Placed) →
-            IsSiteOf self.old.state t p a →
-            Touches result self.old.state self.new.state
-            (joined self.old.state (access_site t p a) (get page_cmp self.old.state.place t.page)) }
-        ensures memory { (p : Process) (a : Placed) →
-            IsSiteOf self.old.state t p a →
+        ensures touches { (moved failed : ℕ) (p : Process) (a : Placed) →
+            IsSiteOf spaces.old.processes spaces.old.areas self p a →
+            Touches result (shown_by spaces.old frames.old online moved failed)
+            (shown_by spaces.new frames.new online moved failed)
+            (joined (shown_by spaces.old frames.old online moved failed) (access_site self p a) (get page_cmp spaces.old.place self.page)) }
+        ensures memory { (moved failed : ℕ) (p : Process) (a : Placed) →
+            IsSiteOf spaces.old.processes spaces.old.areas self p a →
             AsksLast result
-            (result_err (joined self.old.state (access_site t p a) (get page_cmp self.old.state.place t.page))) }
+            (result_err (joined (shown_by spaces.old frames.old online moved failed) (access_site self p a) (get page_cmp spaces.old.place self.page))) }
+        ensures kept { AreKept spaces.new frames.new online }
+        ensures left { frames.new.vacated ≡ frames.old.vacated }
+        ensures room { frames.new.room ≡ frames.old.room }
 
         // On success
-        ensures frame { IfOk result (λ frame. frame_seen self.new.state t.pid t.vpn ≡ Some frame) }
-
-        // Nothing else changes
-        ensures same { self.new ≡ with_state self.old self.new.state }
+        ensures frame { IfOk result
+            (λ touched. touched.frame
+            ≡ frame_of spaces.new.place
+            (sight_in (get nat_cmp spaces.new.processes self.pid) self.vpn)) }
+        ensures some { IfOk result (λ touched. IsSome touched.frame) }
+        ensures undo { IfOk result
+            (λ touched. touched.undo
+            ≡ noted self.pid self.vpn self.page None (get page_cmp spaces.old.place self.page) touched.frame) }
     {
-        let page = t.page;
-        let Some(frame) = self.spaces.areas().page_frame(page) else {
-            return self.fill(t);
+        let ResolvedAddress { pid, vpn, page, .. } = self;
+        let Some(frame) = spaces.areas().page_frame(page) else {
+            let frame = self.fill(spaces, frames, online, alloc)?;
+            return Ok(Touched::placed(pid, vpn, false, page, frame));
         };
-        self.spaces.see(t.pid, t.vpn, page, frame)?;
-        Ok(frame)
+        spaces.see(pid, vpn, page, frame)?;
+        Ok(Touched::seen(pid, vpn, Some(frame)))
     }
 
     /// Gives the page the front frame of the first node in order that has one, and makes the process see it.
-    fn fill(&mut self, t: ResolvedAddress) -> Result<FrameId, MachineError>
-        requires touched { (p : Process) × (a : Placed) × IsSiteOf self.old.state t p a }
-        requires unplaced { get page_cmp self.old.state.place t.page ≡ None }
-        requires unseen { (page : Page) → sight_at self.old.state t.pid t.vpn ≡ Some (Sees page) → ⊥ }
+    fn fill<A: Allocator + Copy>(
+        self,
+        spaces: &mut AddressSpaces<A>,
+        frames: &mut Frames<A>,
+        online: NodeMask,
+        alloc: A,
+    ) -> Result<FrameId, MachineError>
+        requires touched { (p : Process) × (a : Placed)
+            × IsSiteOf spaces.old.processes spaces.old.areas self p a }
+        requires kept { AreKept spaces.old frames.old online }
+        requires unplaced { get page_cmp spaces.old.place self.page ≡ None }
+        requires unseen { (page : Page) →
+            sight_in (get nat_cmp spaces.old.processes self.pid) self.vpn ≡ Some (Sees page) →
+            ⊥ }
 
         // In any case
-        ensures touches { (p : Process) (a : Placed) →
-            IsSiteOf self.old.state t p a →
-            Touches result self.old.state self.new.state (filled self.old.state (access_site t p a)) }
-        ensures memory { (p : Process) (a : Placed) →
-            IsSiteOf self.old.state t p a →
-            AsksLast result (result_err (filled self.old.state (access_site t p a))) }
+        ensures touches { (moved failed : ℕ) (p : Process) (a : Placed) →
+            IsSiteOf spaces.old.processes spaces.old.areas self p a →
+            Touches result (shown_by spaces.old frames.old online moved failed)
+            (shown_by spaces.new frames.new online moved failed)
+            (filled (shown_by spaces.old frames.old online moved failed) (access_site self p a)) }
+        ensures memory { (moved failed : ℕ) (p : Process) (a : Placed) →
+            IsSiteOf spaces.old.processes spaces.old.areas self p a →
+            AsksLast result
+            (result_err (filled (shown_by spaces.old frames.old online moved failed) (access_site self p a))) }
+        ensures kept { AreKept spaces.new frames.new online }
+        ensures left { frames.new.vacated ≡ frames.old.vacated }
+        ensures room { frames.new.room ≡ frames.old.room }
 
         // On success
-        ensures frame { IfOk result (λ frame. frame_seen self.new.state t.pid t.vpn ≡ Some frame) }
-
-        // Nothing else changes
-        ensures same { self.new ≡ with_state self.old self.new.state }
+        ensures frame { IfOk result
+            (λ frame. frame_of spaces.new.place
+            (sight_in (get nat_cmp spaces.new.processes self.pid) self.vpn)
+            ≡ Some frame) }
     {
-        let page = t.page;
-        let Some(node) = self.first_node(t.info, t.policy, page.index) else {
+        let ResolvedAddress { pid, vpn, page, .. } = self;
+        let Some(node) = first_node(frames, online, &self) else {
             return Err(MachineError::Refused(Errno::Enomem));
         };
-        let Some(frame) = self.frames.front(node) else {
+        let Some(frame) = frames.front(node) else {
             unreachable!()
         };
-        self.frames.populate(self.alloc, frame)?;
-        self.spaces.allocate(t.pid, t.vpn, page, frame)?;
-        self.frames.take_front(node);
-        self.frames.zero(frame);
+        frames.populate(alloc, frame)?;
+        spaces.allocate(pid, vpn, page, frame)?;
+        frames.take_front(node);
+        frames.zero(frame);
         Ok(frame)
     }
+}
 
-    /// The first node, in the order for a new page, that has a free frame.
-    fn first_node(&self, info: ProcessInfo, policy: Policy, index: u64) -> Option<NodeId>
-        ensures { result
-            ≡ first_free self.now.state.free
-            (first_touch_order self.now.state.layout self.now.state.online info.home info.allowed policy index) }
-    {
-        let ProcessInfo { home, allowed, .. } = info;
-        let geometry = self.frames.geometry();
-        let free = self.frames.free_nodes();
-        first_touch_node(geometry, self.online, free, home, allowed, policy, index)
-    }
+/// The first node, in the order for a new page there, that has a free frame.
+fn first_node<A: Allocator + Copy>(
+    frames: &Frames<A>,
+    online: NodeMask,
+    t: &ResolvedAddress,
+) -> Option<NodeId>
+    ensures { result
+        ≡ first_free frames.now.free
+        (first_touch_order frames.now.layout online t.now.info.home t.now.info.allowed t.now.policy t.now.page.index) }
+{
+    let ProcessInfo { home, allowed, .. } = t.info;
+    let geometry = frames.geometry();
+    let free = frames.free_nodes();
+    first_touch_node(
+        geometry,
+        online,
+        free,
+        home,
+        allowed,
+        t.policy,
+        t.page.index,
+    )
 }
 
 /// Appends `len` zeros to a list that has room for them.

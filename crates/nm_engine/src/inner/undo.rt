@@ -1,13 +1,14 @@
 //! Undoing touches.
 
-ghost use Rattle.std.specs.Prelude.{◌≡◌, ◌+◌, ◌≤◌, [], true, vec_len, vec_capacity, Some, None, IfOk, IfNone, IsSome, OnErr, OnOk};
+ghost use Rattle.std.specs.Prelude.{◌≡◌, [], true, vec_capacity, Some, IfOk, IfNone, IsSome, OnErr, OnOk};
 ghost use Rattle.std.specs.Ordering.{nat_cmp};
 ghost use Rattle.nm_types.specs.declared.sight.Sight.TheVariants.{ZeroPage};
 ghost use Rattle.nm_types.specs.Map.{get, page_cmp};
-ghost use Rattle.nm_types.specs.State.{Process, Placed, page_at};
+ghost use Rattle.nm_types.specs.State.{Process, Placed};
 ghost use Rattle.nm_model.specs.definitions.Seen.{sight_at};
 ghost use Rattle.nm_model.specs.definitions.Touch.{touched_entry};
-ghost use Rattle.nm_engine.specs.views.MidRun.{access_site, IsSiteOf, with_state};
+ghost use Rattle.nm_engine.specs.views.MidRun.{with_state};
+ghost use Rattle.nm_engine.specs.views.Parts.{IsSiteOf, access_site};
 ghost use Rattle.nm_engine.specs.definitions.Does.{Touches};
 ghost use Rattle.nm_model.specs.definitions.Seen.{frame_seen};
 ghost use Rattle.nm_model.specs.definitions.Sound.{IsSoundMidRun};
@@ -15,7 +16,8 @@ ghost use Rattle.nm_engine.specs.definitions.Undo.{CanUndo, IsUndoable, IsStillU
 
 use crate::inner::Inner;
 use crate::inner::resolved_address::ResolvedAddress;
-use nm_types::{FrameId, MachineError, Page, Pid, Sight, Vpn};
+use crate::inner::touch::Touched;
+use nm_types::{FrameId, MachineError, Page, Pid, Vpn};
 use std::alloc::Allocator;
 
 /// How to undo a touch of a process at a page number.
@@ -29,16 +31,6 @@ pub(crate) struct Undo {
     pub(crate) given: Option<(Page, FrameId)>,
 }
 
-/// What a touch finds: what the process sees there, and the frame of the page shown there.
-#[derive(Clone, Copy)]
-struct Before {
-    pid: Pid,
-    vpn: Vpn,
-    page: Page,
-    seen: Option<Sight>,
-    place: Option<FrameId>,
-}
-
 impl<A: Allocator + Copy> Inner<A> {
     /// What a read or a write does before it reaches the bytes, with a note of how to undo it appended to `undos`. If
     /// it is refused, or the host is out of memory, nothing is noted.
@@ -48,11 +40,12 @@ impl<A: Allocator + Copy> Inner<A> {
         writes: bool,
         undos: &mut Vec<Undo, A>,
     ) -> Result<Option<FrameId>, MachineError>
-        requires { (p : Process) × (a : Placed) × IsSiteOf self.old.state t p a }
+        requires { (p : Process) × (a : Placed)
+            × IsSiteOf self.old.state.processes self.old.state.areas t p a }
 
         // The touch
         ensures touches { (p : Process) (a : Placed) →
-            IsSiteOf self.old.state t p a →
+            IsSiteOf self.old.state.processes self.old.state.areas t p a →
             Touches result self.old.state self.new.state
             (touched_entry self.old.state (access_site t p a) writes (get nat_cmp p.sees t.vpn)) }
         ensures frame { IfOk result (λ frame. frame ≡ frame_seen self.new.state t.pid t.vpn) }
@@ -72,32 +65,17 @@ impl<A: Allocator + Copy> Inner<A> {
         ensures back { IsStillUndone self.old.left self.old.state undos.old.items self.new.state undos.new.items }
     {
         undos.reserve(1)?;
-        let before = self.before(&t);
-        let frame = self.touch(t, writes)?;
-        note(undos, before, &frame);
-        Ok(frame)
-    }
-
-    /// What a touch finds.
-    fn before(&self, t: &ResolvedAddress) -> Before
-        requires { page_at self.now.state.areas t.now.pid t.now.vpn ≡ Some t.now.page }
-        ensures is { result
-            ≡ record {
-              pid = t.now.pid;
-              vpn = t.now.vpn;
-              page = t.now.page;
-              seen = sight_at self.now.state t.now.pid t.now.vpn;
-              place = get page_cmp self.now.state.place t.now.page;
-            } }
-        ensures sound { IsSoundMidRun self.now.state self.now.left }
-    {
-        Before {
-            pid: t.pid,
-            vpn: t.vpn,
-            page: t.page,
-            seen: self.spaces.sight(t.pid, t.vpn, t.page),
-            place: self.spaces.areas().page_frame(t.page),
+        let Touched { frame, undo } = t.touch(
+            &mut self.spaces,
+            &mut self.frames,
+            self.online,
+            self.alloc,
+            writes,
+        )?;
+        if let Some(undo) = undo {
+            undos.push_reserved(undo);
         }
+        Ok(frame)
     }
 
     /// Undoes touches, the last first. Does not allocate.
@@ -130,49 +108,4 @@ impl<A: Allocator + Copy> Inner<A> {
         self.spaces.unplace(given.0);
         self.frames.free_first(given.1);
     }
-}
-
-/// Notes how to undo a touch that returned this frame, if there is anything to undo.
-fn note<A: Allocator + Copy>(undos: &mut Vec<Undo, A>, before: Before, frame: &Option<FrameId>)
-    requires { vec_len undos.old + 1 ≤ vec_capacity undos.old }
-    ensures { undos.new.items
-        ≡ with_undo undos.old.items
-        (noted before.pid before.vpn before.page before.seen before.place frame.now) }
-{
-    if let Some(undo) = noted(before, *frame) {
-        undos.push_reserved(undo);
-    }
-}
-
-/// How to undo a touch that returned this frame. None if there is nothing to undo.
-fn noted(before: Before, frame: Option<FrameId>) -> Option<Undo>
-    ensures { result ≡ noted before.pid before.vpn before.page before.seen before.place frame }
-{
-    let Before {
-        pid,
-        vpn,
-        page,
-        seen,
-        place,
-    } = before;
-    let zero = match seen {
-        None => false,
-        Some(sight) => match sight {
-            Sight::Sees(_) => return None,
-            Sight::ZeroPage => true,
-        },
-    };
-    if zero && frame.is_none() {
-        return None;
-    }
-    let given = match place {
-        Some(_) => None,
-        None => frame.map(|frame| (page, frame)),
-    };
-    Some(Undo {
-        pid,
-        vpn,
-        zero,
-        given,
-    })
 }

@@ -20,11 +20,12 @@ use Rattle.nm_types.specs.Map.{Map, get, replace, without, with_values, spot_cmp
 use Rattle.nm_types.specs.State.{Process}
 use Rattle.nm_types.proofs.Cases.{true_false, none_some}
 use Rattle.nm_types.specs.declared.entry.Entry.{Entry}
-use Rattle.nm_types.specs.declared.entry.Entry.TheVariants.{Zero, Frame, Held}
+use Rattle.nm_types.specs.declared.entry.Entry.TheVariants.{Zero}
 use Rattle.nm_model.specs.definitions.Areas.{Mapped}
 use Rattle.nm_rmap.specs.Mappers.{Mappers, mappers_of, without_mapper}
 use Rattle.nm_model.specs.definitions.PageTables.{Task, entry_at, entry_in}
-use Rattle.nm_spaces.specs.views.ProcessTable.{names, without_entry, cleared_between, cleared}
+use Rattle.nm_spaces.specs.views.ProcessTable.{frame_named, names, without_entry, cleared_between, cleared}
+use Rattle.nm_spaces.proofs.ProcessTable.NamedFrames.{names_alone}
 use Rattle.nm_spaces.specs.views.AddressSpaces.{AddressSpacesView, spaces_view}
 use Rattle.nm_model.specs.definitions.PageTables.{process_of, sight_of}
 use Rattle.nm_spaces.specs.definitions.Tied.{IsTied, IsCleared, IsLess, IsWithout, has_spot, is_between}
@@ -379,13 +380,9 @@ dropped_less r f spot o is below sorted = record {
   pins = refl;
 }
 
-pub less_frame : (r t : Mappers) (f : ℕ) (spot : ℕ × ℕ) (e : Entry) → e ≡ Frame f → f < length r.mappings → IsStrictlySortedBy spot_cmp (mappers_of r f) → t ≡ without_mapper r f spot → IsWithout r t spot (Some e)
-less_frame r t f spot e entry below sorted is =
-    subst (λ e. IsWithout r t spot (Some e)) (sym entry) (subst (λ t. IsWithout r t spot (Some (Frame f))) (sym is) (dropped_less r f spot (Some (Frame f)) (λ g. refl) below sorted))
-
-pub less_held : (r t : Mappers) (f : ℕ) (spot : ℕ × ℕ) (e : Entry) → e ≡ Held f → f < length r.mappings → IsStrictlySortedBy spot_cmp (mappers_of r f) → t ≡ without_mapper r f spot → IsWithout r t spot (Some e)
-less_held r t f spot e entry below sorted is =
-    subst (λ e. IsWithout r t spot (Some e)) (sym entry) (subst (λ t. IsWithout r t spot (Some (Held f))) (sym is) (dropped_less r f spot (Some (Held f)) (λ g. refl) below sorted))
+pub less_named : (r t : Mappers) (f : ℕ) (spot : ℕ × ℕ) (e : Entry) → frame_named e ≡ Some f → f < length r.mappings → IsStrictlySortedBy spot_cmp (mappers_of r f) → t ≡ without_mapper r f spot → IsWithout r t spot (Some e)
+less_named r t f spot e named below sorted is =
+    subst (λ t. IsWithout r t spot (Some e)) (sym is) (dropped_less r f spot (Some e) (names_alone e f named) below sorted)
 
 pub mappers_none : (r : Mappers) (pid a : ℕ) (ts : Map ℕ Task) → IsCleared r r pid a a ts
 mappers_none r pid a ts = record {

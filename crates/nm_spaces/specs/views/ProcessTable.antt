@@ -30,6 +30,12 @@ task_table t = t.table
 abbrev pub entries_in : Map ℕ Task → ℕ → Map ℕ Entry
 entries_in tasks pid = unwrap_or (option_map task_table (get nat_cmp tasks pid)) []
 
+-- the frame that an entry names, for a page on its way the one that it takes; none for the page of zeros
+abbrev pub frame_named : Entry → Option ℕ
+frame_named Zero = None
+frame_named (Frame f) = Some f
+frame_named (Held f) = Some f
+
 -- whether an entry names a frame
 abbrev pub names : ℕ → Option Entry → Bool
 names f None = false

@@ -19,10 +19,10 @@ ghost use Rattle.nm_spaces.specs.definitions.Tied.{IsCleared};
 ghost use Rattle.nm_spaces.specs.views.AddressSpaces.{is_pinned, mapped_of, with_mapped, without_range};
 
 use crate::address_spaces::AddressSpaces;
+use crate::entry::frame_named;
 use crate::process_table::ProcessTable;
 use nm_areas::PageRange;
 use nm_rmap::ReverseMap;
-use nm_tables::Entry;
 use nm_types::{FrameId, MachineError, Page, Pid, Policy, Vpn};
 use std::alloc::{AllocError, Allocator};
 
@@ -184,10 +184,8 @@ fn clear_between<A: Allocator + Copy>(
         if vpn.number() >= end.number() {
             return;
         }
-        match entry {
-            Entry::Zero => {}
-            Entry::Frame(frame) => rmap.drop_one(frame, pid, vpn),
-            Entry::Held(frame) => rmap.drop_one(frame, pid, vpn),
+        if let Some(frame) = frame_named(&entry) {
+            rmap.drop_one(frame, pid, vpn);
         }
         tasks.clear(pid, vpn);
         at = vpn.number() + 1;

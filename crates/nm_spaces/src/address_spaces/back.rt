@@ -12,6 +12,7 @@ ghost use Rattle.nm_spaces.specs.definitions.Tied.{IsWithout};
 ghost use Rattle.nm_spaces.specs.views.AddressSpaces.{pins_here, with_before, with_seen, without_seen, without_page};
 
 use crate::address_spaces::AddressSpaces;
+use crate::entry::frame_named;
 use crate::process_table::ProcessTable;
 use nm_rmap::ReverseMap;
 use nm_tables::Entry;
@@ -83,9 +84,7 @@ fn drop_mapper<A: Allocator + Copy>(
     let Some(entry) = tasks.entry(pid, vpn) else {
         return;
     };
-    match entry {
-        Entry::Zero => {}
-        Entry::Frame(frame) => rmap.drop_one(frame, pid, vpn),
-        Entry::Held(frame) => rmap.drop_one(frame, pid, vpn),
+    if let Some(frame) = frame_named(&entry) {
+        rmap.drop_one(frame, pid, vpn);
     }
 }

@@ -12,7 +12,7 @@ ghost use Rattle.nm_types.specs.State.{Placed, area_over, page_at, page_of};
 ghost use Rattle.nm_types.specs.declared.page.Page.{Page};
 
 use crate::address_spaces::AddressSpaces;
-use nm_tables::Entry;
+use crate::entry::frame_named;
 use nm_types::{Area, FrameId, Geometry, Located, Page, Pid, Sight, Vpn};
 use std::alloc::{AllocError, Allocator};
 
@@ -29,10 +29,9 @@ impl<A: Allocator + Copy> AddressSpaces<A> {
         if vpn.number() >= end.number() {
             return None;
         }
-        match entry {
-            Entry::Zero => Some((vpn, Sight::ZeroPage)),
-            Entry::Frame(_) => Some((vpn, Sight::Sees(self.page_at(pid, vpn)?))),
-            Entry::Held(_) => Some((vpn, Sight::Sees(self.page_at(pid, vpn)?))),
+        match frame_named(&entry) {
+            None => Some((vpn, Sight::ZeroPage)),
+            Some(_) => Some((vpn, Sight::Sees(self.page_at(pid, vpn)?))),
         }
     }
 
@@ -67,16 +66,9 @@ impl<A: Allocator + Copy> AddressSpaces<A> {
         let mut pages = Vec::new(alloc);
         let mut last = None;
         for (vpn, entry) in &entries {
-            match entry {
-                Entry::Zero => {}
-                Entry::Frame(frame) => {
-                    let page = self.seen_in(geometry, pid, *vpn, *frame, &mut last);
-                    pages.push(page)?;
-                }
-                Entry::Held(frame) => {
-                    let page = self.seen_in(geometry, pid, *vpn, *frame, &mut last);
-                    pages.push(page)?;
-                }
+            if let Some(frame) = frame_named(entry) {
+                let page = self.seen_in(geometry, pid, *vpn, frame, &mut last);
+                pages.push(page)?;
             }
         }
         Ok(pages)

@@ -1,56 +1,35 @@
-use Rattle.std.proofs.Common.{◌≡◌, ℕ, ◌+◌, ◌++◌, ◌<◌, List, [], ◌∷◌, length, drop, refl, sym, ap, subst, ◌∙◌, eq-eqb, arith}
+use Rattle.std.proofs.Common.{◌≡◌, ℕ, ◌+◌, ◌++◌, ◌<◌, List, [], ◌∷◌, length, drop, sym, ap, subst, ◌∙◌, arith}
 use Rattle.std.proofs.lemmas.List.Elements.{All-push}
 use Rattle.nm_types.specs.Layout.{node_count}
 use Rattle.nm_types.specs.Map.{get, page_cmp}
 use Rattle.nm_model.specs.definitions.Seen.{between, sights}
 use Rattle.std.specs.Prelude.{All, Some, IfSome}
-use Rattle.nm_model.specs.definitions.PageTables.{sight_of}
 use Rattle.nm_model.specs.definitions.Seen.{IsOver, located}
-use Rattle.nm_spaces.specs.views.ProcessTable.{names}
+use Rattle.nm_spaces.proofs.ProcessTable.NamedFrames.{names_it, sees_page_there, sees_zeros}
 use Rattle.nm_types.specs.declared.located.Located.{Located}
 use Rattle.nm_spaces.proofs.ProcessTable.Changes.{on_any}
 use Rattle.nm_spaces.proofs.Spaces.ListedPages.{pages_in, found_between, page_behind, frame_behind, located_behind, all_listed, few_listed, all_in_place, all_at, some_seen, step, step_over, ended}
 use Rattle.nm_spaces.proofs.address_spaces.AddressSpaces.pages_between.Goals as goal
-use Rattle.nm_spaces.proofs.address_spaces.AddressSpaces.pages_between.Goals.{in-Zero, in-Frame+in_ok-push-in-Frame, in-Held+in_ok-push-in-Held}
+use Rattle.nm_spaces.proofs.address_spaces.AddressSpaces.pages_between.Goals.{in_default, in-Some+in_ok-push}
 
 pub seen_in-page-requires-clause-known : goal.seen_in-page-requires-clause-known
 seen_in-page-requires-clause-known g c =
     let x = c.self.inside in
     let e = c.loop-vpn-item.result in
-    let f = c.in-Frame.frame in
+    let f = c.in-Some.frame in
     let range = c.deref-vpn-items.ensures.value ∙ c.in_ok-entries.ensures.entries in
     let there = found_between c.args.self.now x.tasks x.areas x.rmap c.args.pid c.self.view_is c.self.invariant c.args.first c.args.end c.loop-vpn.vpn-index c.deref-vpn-items.result.now e range c.loop-vpn-test.true c.loop-vpn-item.is in
-    let named = ap (λ o. names f (Some o)) c.in-Frame.is ∙ eq-eqb f f refl in
+    let named = names_it e.1 f (sym c.frame_named.ensures ∙ c.in-Some.is) in
     subst (λ (n : ℕ). f < n) c.requires (frame_behind c.args.self.now x.tasks x.areas x.rmap c.args.pid c.self.view_is c.self.invariant e.0 f e.1 there named)
 
 pub seen_in-page-requires-clause-seen : goal.seen_in-page-requires-clause-seen
 seen_in-page-requires-clause-seen g c =
     let x = c.self.inside in
     let e = c.loop-vpn-item.result in
-    let f = c.in-Frame.frame in
+    let f = c.in-Some.frame in
     let range = c.deref-vpn-items.ensures.value ∙ c.in_ok-entries.ensures.entries in
     let there = found_between c.args.self.now x.tasks x.areas x.rmap c.args.pid c.self.view_is c.self.invariant c.args.first c.args.end c.loop-vpn.vpn-index c.deref-vpn-items.result.now e range c.loop-vpn-test.true c.loop-vpn-item.is in
-    let named = ap (λ o. names f (Some o)) c.in-Frame.is ∙ eq-eqb f f refl in
-    page_behind c.args.self.now x.tasks x.areas x.rmap c.args.pid c.self.view_is c.self.invariant e.0 f e.1 there named
-
-pub seen_in-page-requires-in-Held-clause-known : goal.seen_in-page-requires-in-Held-clause-known
-seen_in-page-requires-in-Held-clause-known g c =
-    let x = c.self.inside in
-    let e = c.loop-vpn-item.result in
-    let f = c.in-Held.frame in
-    let range = c.deref-vpn-items.ensures.value ∙ c.in_ok-entries.ensures.entries in
-    let there = found_between c.args.self.now x.tasks x.areas x.rmap c.args.pid c.self.view_is c.self.invariant c.args.first c.args.end c.loop-vpn.vpn-index c.deref-vpn-items.result.now e range c.loop-vpn-test.true c.loop-vpn-item.is in
-    let named = ap (λ o. names f (Some o)) c.in-Held.is ∙ eq-eqb f f refl in
-    subst (λ (n : ℕ). f < n) c.requires (frame_behind c.args.self.now x.tasks x.areas x.rmap c.args.pid c.self.view_is c.self.invariant e.0 f e.1 there named)
-
-pub seen_in-page-requires-in-Held-clause-seen : goal.seen_in-page-requires-in-Held-clause-seen
-seen_in-page-requires-in-Held-clause-seen g c =
-    let x = c.self.inside in
-    let e = c.loop-vpn-item.result in
-    let f = c.in-Held.frame in
-    let range = c.deref-vpn-items.ensures.value ∙ c.in_ok-entries.ensures.entries in
-    let there = found_between c.args.self.now x.tasks x.areas x.rmap c.args.pid c.self.view_is c.self.invariant c.args.first c.args.end c.loop-vpn.vpn-index c.deref-vpn-items.result.now e range c.loop-vpn-test.true c.loop-vpn-item.is in
-    let named = ap (λ o. names f (Some o)) c.in-Held.is ∙ eq-eqb f f refl in
+    let named = names_it e.1 f (sym c.frame_named.ensures ∙ c.in-Some.is) in
     page_behind c.args.self.now x.tasks x.areas x.rmap c.args.pid c.self.view_is c.self.invariant e.0 f e.1 there named
 
 pub loop-vpn-preserved : goal.loop-vpn-preserved
@@ -63,43 +42,28 @@ loop-vpn-preserved g c =
     let range = c.deref-vpn-items.ensures.value ∙ c.in_ok-entries.ensures.entries in
     let there = found_between y x.tasks x.areas x.rmap c.args.pid c.self.view_is c.self.invariant c.args.first c.args.end c.loop-vpn.vpn-index es e range c.loop-vpn-test.true c.loop-vpn-item.is in
     let rest : List Located = pages_in geometry y.place y.areas c.args.pid (drop (c.loop-vpn.vpn-index + 1) es) in
-    elim c.match-entry.branch [
-      | in-Zero w ↦ record {
+    elim c.match-frame_named.branch [
+      | in_default w ↦ record {
         pages = ap (λ v. v.items ++ rest) w.pages-is
             ∙ step_over geometry y.place y.areas c.args.pid es c.loop-vpn.vpn-index e c.loop-vpn-test.true c.loop-vpn-item.is c.loop-vpn.pages.items _
-            (ap (λ o. located geometry y.place e.0 (sight_of y.areas c.args.pid e.0 o)) w.in-Zero.is) c.loop-vpn.invariant.pages;
+            (ap (located geometry y.place e.0) (sees_zeros y.areas c.args.pid e.0 e.1 (sym c.frame_named.ensures ∙ w.in_default.is))) c.loop-vpn.invariant.pages;
         nodes = subst (λ v. All (λ e. e.node < node_count geometry) v.items) (sym w.pages-is) c.loop-vpn.invariant.nodes;
         last = subst (λ o. IfSome o (IsOver y.areas c.args.pid)) (sym w.last-is) c.loop-vpn.invariant.last;
       }
-      | in-Frame+in_ok-push-in-Frame w ↦
-          let f = w.in-Frame.frame in
-          let named = ap (λ o. names f (Some o)) w.in-Frame.is ∙ eq-eqb f f refl in
+      | in-Some+in_ok-push w ↦
+          let f = w.in-Some.frame in
+          let named = names_it e.1 f (sym c.frame_named.ensures ∙ w.in-Some.is) in
           let here =
-          ap (λ o. located geometry y.place e.0 (sight_of y.areas c.args.pid e.0 o)) w.in-Frame.is
+          ap (located geometry y.place e.0) (sees_page_there y.areas c.args.pid e.0 e.1 f (sym c.frame_named.ensures ∙ w.in-Some.is))
           ∙ located_behind y x.tasks x.areas x.rmap c.args.pid c.self.view_is c.self.invariant e.0 f e.1 there named geometry
           ∙ w.seen_in-page.ensures.page in
-          let items = ap (λ v. v.items) w.pages-is ∙ w.in_ok-push-in-Frame.ensures.items in
+          let items = ap (λ v. v.items) w.pages-is ∙ w.in_ok-push.ensures.items in
           record {
             pages = ap (λ xs. xs ++ rest) items
                 ∙ step geometry y.place y.areas c.args.pid es c.loop-vpn.vpn-index e c.loop-vpn-test.true c.loop-vpn-item.is
                 (w.seen_in-page.result ∷ []) c.loop-vpn.pages.items _ here c.loop-vpn.invariant.pages;
             nodes = subst (All (λ e. e.node < node_count geometry)) (sym items) (All-push (λ e. e.node < node_count geometry) c.loop-vpn.pages.items w.seen_in-page.result c.loop-vpn.invariant.nodes w.seen_in-page.ensures.node);
             last = subst (λ o. IfSome o (IsOver y.areas c.args.pid)) (sym w.last-is) w.seen_in-page.ensures.last;
-          }
-      | in-Held+in_ok-push-in-Held w ↦
-          let f = w.in-Held.frame in
-          let named = ap (λ o. names f (Some o)) w.in-Held.is ∙ eq-eqb f f refl in
-          let here =
-          ap (λ o. located geometry y.place e.0 (sight_of y.areas c.args.pid e.0 o)) w.in-Held.is
-          ∙ located_behind y x.tasks x.areas x.rmap c.args.pid c.self.view_is c.self.invariant e.0 f e.1 there named geometry
-          ∙ w.seen_in-page-in-Held.ensures.page in
-          let items = ap (λ v. v.items) w.pages-is ∙ w.in_ok-push-in-Held.ensures.items in
-          record {
-            pages = ap (λ xs. xs ++ rest) items
-                ∙ step geometry y.place y.areas c.args.pid es c.loop-vpn.vpn-index e c.loop-vpn-test.true c.loop-vpn-item.is
-                (w.seen_in-page-in-Held.result ∷ []) c.loop-vpn.pages.items _ here c.loop-vpn.invariant.pages;
-            nodes = subst (All (λ e. e.node < node_count geometry)) (sym items) (All-push (λ e. e.node < node_count geometry) c.loop-vpn.pages.items w.seen_in-page-in-Held.result c.loop-vpn.invariant.nodes w.seen_in-page-in-Held.ensures.node);
-            last = subst (λ o. IfSome o (IsOver y.areas c.args.pid)) (sym w.last-is) w.seen_in-page-in-Held.ensures.last;
           }
     ]
 
@@ -141,16 +105,9 @@ returns-in_err-entries-clause-asked g c =
     let x = c.self.inside in
     on_any c.from_residual.result (some_seen c.args.self.now x.tasks x.areas x.rmap c.args.pid c.self.view_is c.self.invariant c.args.first c.args.end c.in_err-entries.ensures.asked)
 
-pub returns-in_err-push-in-Frame-clause-asked : goal.returns-in_err-push-in-Frame-clause-asked
-returns-in_err-push-in-Frame-clause-asked g c =
+pub returns-in_err-push-clause-asked : goal.returns-in_err-push-clause-asked
+returns-in_err-push-clause-asked g c =
     let x = c.self.inside in
     let range = c.deref-vpn-items.ensures.value ∙ c.in_ok-entries.ensures.entries in
     let some : 0 < length c.deref-vpn-items.result.now = omega (arith, c.loop-vpn-test.true) in
-    on_any c.from_residual-in_err-push-in-Frame.result (some_seen c.args.self.now x.tasks x.areas x.rmap c.args.pid c.self.view_is c.self.invariant c.args.first c.args.end (subst (λ es. 0 < length es) range some))
-
-pub returns-in_err-push-in-Held-clause-asked : goal.returns-in_err-push-in-Held-clause-asked
-returns-in_err-push-in-Held-clause-asked g c =
-    let x = c.self.inside in
-    let range = c.deref-vpn-items.ensures.value ∙ c.in_ok-entries.ensures.entries in
-    let some : 0 < length c.deref-vpn-items.result.now = omega (arith, c.loop-vpn-test.true) in
-    on_any c.from_residual-in_err-push-in-Held.result (some_seen c.args.self.now x.tasks x.areas x.rmap c.args.pid c.self.view_is c.self.invariant c.args.first c.args.end (subst (λ es. 0 < length es) range some))
+    on_any c.from_residual-in_err-push.result (some_seen c.args.self.now x.tasks x.areas x.rmap c.args.pid c.self.view_is c.self.invariant c.args.first c.args.end (subst (λ es. 0 < length es) range some))

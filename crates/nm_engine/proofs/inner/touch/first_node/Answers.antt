@@ -4,8 +4,7 @@ use Rattle.nm_types.specs.Layout.{Layout}
 use Rattle.nm_types.specs.Nodes.{is_in}
 use Rattle.nm_model.specs.definitions.Order.{first_touch_order}
 use Rattle.nm_model.specs.definitions.Touch.{first_free, has_free}
-use Rattle.nm_engine.specs.views.MidRun.{MidRun}
-use Rattle.nm_engine.proofs.inner.Inner.first_node.Goals as goal
+use Rattle.nm_engine.proofs.inner.touch.first_node.Goals as goal
 
 -- the first node of a set, where that has the nodes with a free frame
 found_first : (free : List (List ℕ)) (nodes order : List ℕ) → ((n : ℕ) → is_in nodes n ≡ has_free free n) → find (is_in nodes) order ≡ first_free free order
@@ -20,9 +19,9 @@ found_first free nodes (n ∷ ns) same =
 
 pub returns : goal.returns
 returns g c =
-    let frames = c.self.inside.frames in
-    let order = λ (layout : Layout) (online : List ℕ). first_touch_order layout online c.args.info.home c.args.info.allowed c.args.policy c.args.index in
+    let k = c.args.frames.now in
+    let t = c.args.t.now in
+    let order = λ (layout : Layout) (online : List ℕ). first_touch_order layout online t.info.home t.info.allowed t.policy t.page.index in
     c.first_touch_node.ensures
-    ∙ found_first frames.free c.free_nodes-free.result (order c.geometry-geometry.result.now c.self.inside.online) c.free_nodes-free.ensures
-    ∙ ap (λ layout. first_free frames.free (order layout c.self.inside.online)) c.geometry-geometry.ensures
-    ∙ ap (λ (y : MidRun). first_free y.state.free (order y.state.layout y.state.online)) c.self.view_is
+    ∙ found_first k.free c.free_nodes-free.result (order c.geometry-geometry.result.now c.args.online) c.free_nodes-free.ensures
+    ∙ ap (λ layout. first_free k.free (order layout c.args.online)) c.geometry-geometry.ensures

@@ -2,18 +2,15 @@ use Rattle.std.proofs.Common.{◌≡◌, ℕ, ◌+◌, ◌-◌, ◌<◌, ◌≤�
 use Rattle.std.specs.List.{AllByRecursion}
 use Rattle.nm_types.specs.declared.area.Area.{Area}
 use Rattle.nm_types.specs.Map.{Map}
-use Rattle.nm_types.specs.State.{Process, Placed, area_over}
+use Rattle.nm_types.specs.State.{Process, Placed, State, area_over}
 use Rattle.nm_types.proofs.Cases.{some_is}
-use Rattle.nm_engine.specs.views.MidRun.{IsSiteOf, access_site}
-use Rattle.nm_engine.specs.views.Shown.{shown}
+use Rattle.nm_engine.specs.views.Parts.{IsSiteOf, access_site}
 use Rattle.nm_engine.specs.declared.inner.resolved_address.ResolvedAddress.{ResolvedAddress}
 use Rattle.nm_model.specs.definitions.Areas.{HasIndices, Mapped}
 use Rattle.nm_model.specs.definitions.Touch.{site}
-use Rattle.nm_engine.proofs.Does.Touches.{outside, touched_there}
-use Rattle.nm_spaces.specs.views.AddressSpaces.{table_of}
+use Rattle.nm_engine.proofs.Does.Touches.{touched_there}
 use Rattle.nm_spaces.proofs.Spaces.AreaLookups.{found_below, found_index}
-use Rattle.nm_engine.specs.views.Shown.{paged_frames}
-use Rattle.nm_engine.proofs.inner.Inner.resolve.Goals as goal
+use Rattle.nm_engine.proofs.inner.resolved_address.ResolvedAddress.of.Goals as goal
 
 -- the area over a page number begins there or before
 over_below : (areas : Map (ℕ × ℕ) Area) (pid v : ℕ) {first : ℕ} {area : Area} → AllByRecursion HasIndices areas → Some ((pid, first), area) ≡ area_over areas pid v → first ≤ v
@@ -35,18 +32,17 @@ overflow_add-page g c =
 
 pub returns-clause-ok : goal.returns-clause-ok
 returns-clause-ok g c =
+    let y = c.args.spaces.now in
     let same = some_is (c.in-Some-find.ensures.found ∙ sym c.in-Some-find.ensures'.found) in
-    let resolve : Placed → ResolvedAddress = λ x. record {
+    let of : Placed → ResolvedAddress = λ x. record {
       pid = c.args.pid;
       info = c.in-Some.info;
       vpn = c.of_address-vpn.result;
       page = record { segment = x.1.page.segment; index = x.1.page.index + (c.number.result - c.number-2.result) };
       policy = x.1.policy;
     } in
-    subst (λ x. (p : Process) × (a : Placed) × (site c.args.self.now.state c.args.pid c.args.addr c.args.len ≡ Ok (access_site (resolve x) p a)) × IsSiteOf c.args.self.now.state (resolve x) p a) (sym same)
-    (outside _ _ _ _ c.self.view_is
-    (λ s. (p : Process) × (a : Placed) × (site s c.args.pid c.args.addr c.args.len ≡ Ok (access_site (resolve ((c.args.pid, c.in-Some-find.first), c.in-Some-find.area)) p a)) × IsSiteOf s (resolve ((c.args.pid, c.in-Some-find.first), c.in-Some-find.area)) p a)
-    (touched_there (shown c.self.inside.spaces.processes (table_of c.self.inside.spaces) (paged_frames c.self.inside.spaces c.self.inside.frames) c.self.inside.online c.self.inside.totals.moved c.self.inside.totals.failed) c.args.pid c.args.addr c.args.len c.of_address-vpn.result c.in-Some-find.first _
+    subst (λ x. (p : Process) × (a : Placed) × IsSiteOf y.processes y.areas (of x) p a × ((s : State) → s.processes ≡ y.processes → s.areas ≡ y.areas → site s c.args.pid c.args.addr c.args.len ≡ Ok (access_site (of x) p a))) (sym same)
+    (touched_there y.processes y.areas c.args.pid c.args.addr c.args.len c.of_address-vpn.result c.in-Some-find.first _
     c.in-Some.info c.in-Some-find.area (sym c.info.ensures ∙ c.in-Some.is) c.if-len-eq0.false (omega (arith, c.if-len-offset.false, c.offset.ensures.value)) c.of_address-vpn.ensures
     (c.in-Some-find.ensures'.found ∙ ap (λ (m : Mapped). area_over m.areas c.args.pid c.of_address-vpn.result) c.areas.ensures.areas)
-    (ap (λ n. c.in-Some-find.area.page.index + (c.number.result - n)) (c.number-2.ensures ∙ ap (λ (x : Placed). x.0.1) same) ∙ ap (λ n. c.in-Some-find.area.page.index + (n - c.in-Some-find.first)) c.number.ensures)))
+    (ap (λ n. c.in-Some-find.area.page.index + (c.number.result - n)) (c.number-2.ensures ∙ ap (λ (x : Placed). x.0.1) same) ∙ ap (λ n. c.in-Some-find.area.page.index + (n - c.in-Some-find.first)) c.number.ensures))
