@@ -53,7 +53,3 @@ range_refusal m pid address len =
     let bad = not (address % 4096 == 0) || nat_le (2 ^ 64) (address + 4096 * pages) in
     let hole = not (is_mapped m.areas pid (address / 4096) pages) in
     first_error ((bad, Einval) ∷ (hole, Efault) ∷ [])
-
--- EINVAL: no range of whole pages
-abbrev pub remove_refusal : ℕ → ℕ → Option Errno
-remove_refusal address pages = first_error ((not (is_range address pages), Einval) ∷ [])
