@@ -1,4 +1,5 @@
 pub mod Interleavings
 pub mod Laws
+pub mod Midway
 pub mod Moves
 pub mod Phases

@@ -2,13 +2,14 @@
 use Rattle.std.proofs.Common.{◌≡◌, ℕ, zero, suc, ◌+◌, ◌≤◌, List, [], ◌∷◌, ◌++◌, true, false, cond, map, length, refl, sym, ap, ◌∙◌, arith, length-append}
 use Rattle.std.specs.Prelude.{Option, Some, None, ◌==◌, if◌then◌else◌}
 use Rattle.std.specs.Option.{unwrap_or, option_map, is_some}
-use Rattle.std.specs.List.{AllByRecursion, flat_map}
+use Rattle.std.specs.List.{flat_map}
 use Rattle.nm_types.specs.declared.entry.Entry.TheVariants.{Frame, Held}
 use Rattle.nm_model.specs.definitions.Frames.{Store, bytes_of}
 use Rattle.nm_model.specs.definitions.Sound.{times}
+pub use Rattle.nm_laws.specs.Midway.{sources, targets, AreCopied}
 use Rattle.nm_laws.proofs.Soundness.Frames.{here, times_cons}
 use Rattle.nm_model.specs.definitions.RunMachine.{Job, InHand, job_from, goes_to, content}
-use Rattle.nm_model.specs.definitions.Events.{is_laid, is_given, drawn, given, job_holds, InJob}
+use Rattle.nm_model.specs.definitions.Events.{is_laid, drawn, given, job_holds, InJob}
 
 -- what neither a draw nor a give changes of a job
 abbrev pub Shape : Type 0
@@ -16,12 +17,6 @@ Shape = (ℕ × List ℕ) × ℕ
 
 abbrev pub shape : Job → Shape
 shape job = (job.source, job.target.0)
-
-abbrev pub sources : List Job → List ℕ
-sources jobs = map (λ job. job.source.0) jobs
-
-abbrev pub targets : List Job → List ℕ
-targets jobs = map (λ job. job.target.0) jobs
 
 pub drawn_shape : (w : ℕ) (jobs : List Job) → map shape (drawn w jobs) ≡ map shape jobs
 drawn_shape w [] = refl
@@ -99,10 +94,6 @@ module _ (jobs others : List Job) (same : map shape jobs ≡ map shape others) w
 
   pub length_same : length jobs ≡ length others
   length_same = length_of_shapes jobs ∙ ap length same ∙ sym (length_of_shapes others)
-
--- a given job is copied
-abbrev pub AreCopied : List Job → Type 0
-AreCopied jobs = AllByRecursion (λ job. is_given job.stage ≡ true → job.target.1 ≡ job.source.1) jobs
 
 pub drawn_copied : (w : ℕ) (jobs : List Job) → AreCopied jobs → AreCopied (drawn w jobs)
 drawn_copied w [] h = tt

@@ -1,43 +1,18 @@
 -- What holds of the machine while a run is under way.
-use Rattle.std.proofs.Common.{◌≡◌, ℕ, ◌+◌, ◌<◌, List, [], ◌∷◌, Bool, false, map, length, refl, sym, ap, subst, ◌∙◌, length-append}
+use Rattle.std.proofs.Common.{◌≡◌, ℕ, ◌+◌, List, [], ◌∷◌, map, length, refl, sym, ap, subst, ◌∙◌, length-append}
 use Rattle.std.specs.Prelude.{Option, Some, None, slice_index_or}
-use Rattle.std.specs.Option.{is_some, unwrap_or, option_map}
-use Rattle.std.specs.List.{AllByRecursion, list_any, flat_map}
+use Rattle.std.specs.Option.{unwrap_or, option_map}
+use Rattle.std.specs.List.{AllByRecursion, flat_map}
 use Rattle.nm_types.specs.declared.page.Page.{Page}
-use Rattle.nm_types.specs.Layout.{frame_count}
-use Rattle.nm_types.specs.Map.{get, page_cmp, same_page, with_values}
+use Rattle.nm_types.specs.Map.{get, page_cmp, with_values}
 use Rattle.nm_types.specs.declared.entry.Entry.{Entry}
 use Rattle.nm_types.specs.declared.entry.Entry.TheVariants.{Zero, Frame, Held}
-use Rattle.nm_model.specs.definitions.PageTables.{entry_at, sight_of, entry_of}
+use Rattle.nm_model.specs.definitions.PageTables.{sight_of, entry_of}
 use Rattle.nm_model.specs.definitions.Sound.{times, IsSoundMidRun}
-use Rattle.nm_model.specs.definitions.RunMachine.{RunMachine, Job, Moving, job_from, goes_to, state_of}
+use Rattle.nm_model.specs.definitions.RunMachine.{RunMachine, Job, job_from, state_of}
 use Rattle.nm_model.specs.definitions.Events.{held_by, hands, job_holds, home_hold}
+pub use Rattle.nm_laws.specs.Midway.{is_source, CopiesPage, ends_of, IsMidway}
 use Rattle.nm_laws.proofs.InFlight.Jobs.{Shape, shape, sources, targets, AreCopied, from_same, held_of_shape, goes_same, content_same, some_same, sources_same, targets_same, jobs_hold}
-
--- whether a page in this frame, if it has one, is the source of a job
-abbrev pub is_source : List Job → Option ℕ → Bool
-is_source jobs None = false
-is_source jobs (Some f) = is_some (job_from jobs f)
-
--- the job copies a page
-abbrev pub CopiesPage : RunMachine → List Job → ℕ × ℕ → Type 0
-CopiesPage m jobs ends = (p : Page) × (get page_cmp m.place p ≡ Some ends.0) × (goes_to jobs ends.0 ≡ ends.1)
-
-abbrev pub ends_of : Job → ℕ × ℕ
-ends_of job = (job.source.0, job.target.0)
-
--- these pages are moving
-pub record IsMidway (m : RunMachine) (moved : List Page) : Type 0 where
-  pub moving : m.phase ≡ Moving
-  pub sound : IsSoundMidRun (state_of m) (sources m.jobs)
-  -- an entry names the frame of its page, or is held and names the frame to which the page goes
-  pub entries : (pid v : ℕ) (e : Entry) → entry_at m.tasks pid v ≡ Some e → e ≡ held_by m.jobs (entry_of m.place (sight_of m.areas pid v e))
-  -- the pages that move are those in the sources of jobs
-  pub pages : (p : Page) → list_any (same_page p) moved ≡ is_source m.jobs (get page_cmp m.place p)
-  pub copies : AllByRecursion (CopiesPage m m.jobs) (map ends_of m.jobs)
-  pub copied : AreCopied m.jobs
-  pub buffers : length m.buf ≡ frame_count m.layout
-  pub once : (f : ℕ) → f < frame_count m.layout → length (hands m f) ≡ 1
 
 -- how many places hold the buffer of a frame
 abbrev pub at_home : Option (List ℕ) → ℕ

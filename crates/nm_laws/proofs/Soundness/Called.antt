@@ -20,7 +20,7 @@ use Rattle.nm_types.specs.Map.{Map, get, set, replace, page_cmp, spot_cmp}
 use Rattle.nm_types.specs.declared.sight.Sight.{Sight}
 use Rattle.nm_types.specs.declared.sight.Sight.TheVariants.{ZeroPage, Sees}
 use Rattle.nm_types.specs.State.{Process, State, covers, area_over, page_of, page_shown, page_at}
-use Rattle.nm_types.proofs.Cases.{true_false, none_some, some_none, some_is, none_is_not}
+use Rattle.nm_types.proofs.Cases.{true_false, none_some, some_none, some_is}
 use Rattle.nm_model.specs.definitions.Seen.{sight_in, sight_at, pins_of, page_seen}
 use Rattle.nm_model.specs.definitions.Areas.{is_shared}
 use Rattle.nm_model.specs.definitions.Effect.{spawn, attach, map_new, with_pins, pin, unpin, covers_page, is_covered}
