@@ -41,15 +41,6 @@ impl<A: Allocator + Copy> FrameStore<A> {
         Ok(FrameStore { frames: store })
     }
 
-    /// A store without frames. Does not allocate.
-    pub fn none(alloc: A) -> Self
-        ensures { result ≡ [] }
-    {
-        FrameStore {
-            frames: Vec::new(alloc),
-        }
-    }
-
     /// How many frames there are, home and out.
     pub fn frame_count(&self) -> usize
         ensures { result ≡ length self.now }
