@@ -56,18 +56,6 @@ impl<A: Allocator + Copy> ReverseMap<A> {
         })
     }
 
-    /// Makes a map of no frames. Does not allocate.
-    pub fn none(alloc: A) -> Self
-        ensures { result ≡ new_map 0 }
-    {
-        ReverseMap {
-            alloc,
-            mappings: Vec::new(alloc),
-            pins: Vec::new(alloc),
-            pinned: 0,
-        }
-    }
-
     /// Makes a page number of a process a mapper of a frame, unless it is one. An error means that the host is out of
     /// memory, that it was no mapper of the frame, and that nothing has changed.
     pub fn add(&mut self, frame: FrameId, pid: Pid, vpn: Vpn) -> Result<(), AllocError>

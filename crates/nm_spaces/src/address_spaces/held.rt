@@ -1,7 +1,7 @@
 //! The address spaces while pages of a run are on their way: their entries are held, as the kernel's migration entries
 //! are (Documentation/mm/page_migration.rst).
 
-ghost use Rattle.std.specs.Prelude.{ℕ, ◌≡◌, ◌<◌, true, [], length, map, Some};
+ghost use Rattle.std.specs.Prelude.{ℕ, ◌≡◌, ◌<◌, true, length, map, Some};
 ghost use Rattle.std.specs.List.{AllByRecursion};
 ghost use Rattle.std.specs.Option.{option_map};
 ghost use Rattle.nm_types.specs.declared.page.Page.{Page};
@@ -11,7 +11,7 @@ ghost use Rattle.nm_model.specs.definitions.Events.{arrived, held_by, laid_for, 
 ghost use Rattle.nm_model.specs.definitions.Frames.{Store};
 ghost use Rattle.nm_model.specs.definitions.PageTables.{entry_at};
 ghost use Rattle.nm_rmap.specs.Mappers.{mappers_of};
-ghost use Rattle.nm_spaces.specs.views.AddressSpaces.{no_spaces, with_moved};
+ghost use Rattle.nm_spaces.specs.views.AddressSpaces.{with_moved};
 ghost use Rattle.nm_spaces.specs.views.Held.{AreApart, entry_here, held_for, on_their_way, is_taken};
 ghost use Rattle.nm_spaces.specs.definitions.Moves.{CanRemap, all_moved};
 ghost use Rattle.nm_spaces.specs.views.ProcessTable.{IsThere, all_replaced, names};
@@ -26,7 +26,6 @@ use nm_types::{FrameId, Page, Pid, Taken, Vpn};
 use std::alloc::Allocator;
 use std::collections::BTreeSet;
 use std::marker::Model;
-use std::mem;
 
 /// Address spaces in which pages are on their way to other frames: each entry of such a page is held, whoever maps it.
 /// Contracts see the page tables, and what the address spaces are once the pages have arrived.
@@ -50,35 +49,21 @@ impl<A: Allocator + Copy> Model for HeldSpaces<A> {
 }
 
 impl<A: Allocator + Copy> HeldSpaces<A> {
-    /// Makes address spaces without processes and without frames. Does not allocate.
-    pub fn none(alloc: A) -> Self
-        ensures none { result.tables ≡ [] }
-        ensures spaces { result.spaces ≡ no_spaces 0 }
-    {
-        HeldSpaces {
-            tasks: ProcessTable::new(alloc),
-            areas: Areas::new(alloc),
-            rmap: ReverseMap::none(alloc),
-        }
-    }
-
-    /// Takes address spaces over, where there are none, and sends pages on their way to other frames: until `settle` the
-    /// page tables are those of the run machine once its run has begun, in which every entry that names a frame that a page
-    /// leaves is held. The new frame has the page, its mappers and its pins. Does not allocate.
-    pub fn hold(&mut self, spaces: &mut AddressSpaces<A>, moves: &[Taken])
-        requires none { self.old.tables ≡ [] }
-        requires moves { CanRemap spaces.old moves.now }
+    /// Takes address spaces over and sends pages on their way to other frames: until `settle` the page tables are those of
+    /// the run machine once its run has begun, in which every entry that names a frame that a page leaves is held. The new
+    /// frame has the page, its mappers and its pins. Does not allocate.
+    pub fn hold(spaces: AddressSpaces<A>, moves: &[Taken]) -> Self
+        requires moves { CanRemap spaces moves.now }
         requires apart { AreApart moves.now }
-        ensures spaces { self.new.spaces ≡ all_moved spaces.old moves.now }
+        ensures spaces { result.spaces ≡ all_moved spaces moves.now }
         ensures entries { (store : Store) (pid v : ℕ) →
-            entry_at self.new.tables pid v
-            ≡ option_map (held_by (map (laid_for store) moves.now)) (entry_here spaces.old pid v) }
-        ensures left { spaces.new ≡ self.old.spaces }
+            entry_at result.tables pid v
+            ≡ option_map (held_by (map (laid_for store) moves.now)) (entry_here spaces pid v) }
     {
-        mem::swap(&mut self.tasks, &mut spaces.tasks);
-        mem::swap(&mut self.areas, &mut spaces.areas);
-        mem::swap(&mut self.rmap, &mut spaces.rmap);
-        self.hold_pages(moves);
+        let AddressSpaces { tasks, areas, rmap } = spaces;
+        let mut held = HeldSpaces { tasks, areas, rmap };
+        held.hold_pages(moves);
+        held
     }
 
     /// The frame of a page, for one on its way the frame that it takes. None if it has none.
@@ -117,20 +102,22 @@ impl<A: Allocator + Copy> HeldSpaces<A> {
         self.areas.move_page(page, to);
     }
 
-    /// Gives the address spaces back, for those that are there, once all pages that are on their way, which are among these, have
-    /// arrived: each held entry names the new frame. Does not allocate.
-    pub fn settle(&mut self, spaces: &mut AddressSpaces<A>, moves: &[Taken])
-        requires below { AllByRecursion (λ t. t.to < self.old.spaces.frames) moves.now }
+    /// Gives the address spaces back once all pages that are on their way, which are among these, have arrived: each held
+    /// entry names the new frame. Does not allocate.
+    pub fn settle(self, moves: &[Taken]) -> AddressSpaces<A>
+        requires below { AllByRecursion (λ t. t.to < self.spaces.frames) moves.now }
         requires among { (f pid v : ℕ) →
-            entry_at self.old.tables pid v ≡ Some (OnItsWay f) →
+            entry_at self.tables pid v ≡ Some (OnItsWay f) →
             is_taken moves.now f ≡ true }
-        ensures settled { spaces.new ≡ self.old.spaces }
-        ensures left { self.new.spaces ≡ spaces.old }
+        ensures { result ≡ self.spaces }
     {
-        arrive(&mut self.tasks, &self.rmap, moves);
-        mem::swap(&mut self.tasks, &mut spaces.tasks);
-        mem::swap(&mut self.areas, &mut spaces.areas);
-        mem::swap(&mut self.rmap, &mut spaces.rmap);
+        let HeldSpaces {
+            mut tasks,
+            areas,
+            rmap,
+        } = self;
+        arrive(&mut tasks, &rmap, moves);
+        AddressSpaces { tasks, areas, rmap }
     }
 }
 
