@@ -1,5 +1,4 @@
 -- What contracts see the values of the code as.
 pub mod Copies
-pub mod Flights
 pub mod Frames
 pub mod Accesses

@@ -1,17 +1,14 @@
 //! The machine's frames: their bytes, and the free ones.
 
-ghost use Rattle.std.specs.Prelude.{◌≡◌, ℕ, false, ◌+◌, ◌<◌, ◌≤◌, [], ◌∷◌, ◌++◌, map, length, vec_capacity, vec_len, Some, IfOk, OnOk, OnErr, min, replicate, take, drop, slice_get, slice_set};
+ghost use Rattle.std.specs.Prelude.{◌≡◌, ℕ, false, ◌+◌, ◌<◌, ◌≤◌, [], ◌∷◌, ◌++◌, length, vec_capacity, vec_len, Some, IfOk, OnOk, OnErr, min, replicate, take, drop, slice_get, slice_set};
 ghost use Rattle.nm_types.specs.Layout.{node_count, frame_count};
 ghost use Rattle.nm_types.specs.Nodes.{is_in};
 ghost use Rattle.nm_model.specs.definitions.Touch.{has_free};
 ghost use Rattle.nm_model.specs.definitions.Frames.{list_of, with_list, appended, prepended};
 ghost use Rattle.std.specs.Cow.{cow_slice_items};
 ghost use Rattle.std.specs.List.{AllByRecursion};
-ghost use Rattle.nm_spaces.specs.definitions.Moves.{CanRemap, all_moved};
-ghost use Rattle.nm_memory.specs.views.Copies.{CanCopy, HasBoth, with_copies, emptied};
+ghost use Rattle.nm_memory.specs.views.Copies.{CanCopy, HasBoth, emptied, jobs_of};
 ghost use Rattle.nm_model.specs.definitions.BeforeCopy.{frames_taken};
-ghost use Rattle.nm_memory.specs.definitions.AfterCopy.{all_stored_after_copy, CanDo};
-ghost use Rattle.nm_memory.specs.views.Accesses.{answer_shown, pending_shown, HasRoom};
 ghost use Rattle.nm_model.specs.definitions.Run.{frames_left};
 ghost use Rattle.nm_model.specs.definitions.Frames.{IsHome, bytes_of, overwrite};
 ghost use Rattle.nm_model.specs.definitions.Sound.{is_audited, numbered};
@@ -20,24 +17,17 @@ ghost use Rattle.nm_memory.specs.views.Frames.{HasAllFrames, KeepsBytes, free_on
 ghost use Rattle.nm_frames.specs.Populated.{IsPopulated};
 ghost use Rattle.nm_model.specs.definitions.Memory.{stretch_of};
 
-mod reach;
-mod run_in_flight;
+mod in_flight;
 
-use crate::answers::AccessAnswer;
 use crate::audit;
-use crate::pending_access::PendingAccess;
-use nm_crew::{Crew, Gate};
+pub use in_flight::FramesInFlight;
+use in_flight::take_out_each;
 use nm_frames::{CopyJob, FrameStore};
 use nm_nodes::NodePool;
-use nm_spaces::AddressSpaces;
 use nm_types::{FrameId, Geometry, NodeId, NodeMask, Taken};
-use run_in_flight::RunInFlight;
 use std::alloc::{AllocError, Allocator};
 use std::borrow::CowSlice;
 use std::marker::Model;
-use std::mem;
-use std::sync::Wait;
-use std::thread::Threads;
 
 /// How many frames get their bytes in memory at once. So many are 64 KiB.
 const POPULATED_TOGETHER: u16 = 16;
@@ -357,62 +347,42 @@ impl<A: Allocator + Copy> Frames<A> {
         let free = audit::free_frames(alloc, &self.nodes, self.node_count())?;
         audit::is_each_once(alloc, &self.geometry, free.as_slice(), places)
     }
-}
 
-impl<A: Allocator + Copy + Send + Sync> Frames<A> {
-    /// Carries out moves: the pages go on their way to their new frames, a crew copies them, and meanwhile what is left to
-    /// do for accesses to other pages is done; then they have arrived. Returns the answers, in the list that it is given,
-    /// which has room for them. Where no page moves and nothing is left to do, nothing goes on its way. There is still room
-    /// for as many moves afterwards.
-    pub fn carry_out<R: Threads + Wait + Sync, G: Gate + Sync>(
-        &mut self,
-        crew: &Crew<R, G>,
-        alloc: A,
-        spaces: &mut AddressSpaces<A>,
-        moves: &[Taken],
-        dues: Vec<PendingAccess<'_, A>, A>,
-        answers: Vec<AccessAnswer<A>, A>,
-    ) -> Vec<AccessAnswer<A>, A>
-        // The moves
-        requires remap { CanRemap spaces.old moves.now }
-        requires can { CanCopy self.old.frames moves.now }
-        requires populated { AllByRecursion (HasBoth self.old.frames) moves.now }
-        requires few { length moves.now ≤ self.old.room }
-
-        // What is left to do
-        requires due { AllByRecursion
-            (CanDo (all_moved spaces.old moves.now).place (emptied self.old.frames moves.now))
-            (map pending_shown dues.items) }
-        requires room { AllByRecursion HasRoom dues.items }
-
-        // The list for the answers
-        requires unanswered { answers.items ≡ [] }
-        requires space { vec_len dues ≤ vec_capacity answers }
+    /// Takes the bytes of both frames of each move out, as jobs in the order of the moves, numbered from 0. Does not
+    /// allocate: the list of the jobs is the one that has had room reserved for them.
+    pub fn take_out(self, moves: &[Taken]) -> (FramesInFlight<A>, Vec<CopyJob<A>, A>)
+        requires can { CanCopy self.frames moves.now }
+        requires populated { AllByRecursion (HasBoth self.frames) moves.now }
+        requires few { length moves.now ≤ self.room }
 
         // Afterwards
-        ensures spaces { spaces.new ≡ all_moved spaces.old moves.now }
-        ensures frames { self.new
-            ≡ record (self.old) {
-              frames = (all_stored_after_copy (all_moved spaces.old moves.now).place
-                  (with_copies self.old.frames moves.now)
-                  (map pending_shown dues.entry.items)).store;
-              room = self.new.room;
+        ensures frames { result.0
+            ≡ record (self) {
+              frames = emptied self.frames moves.now;
+              room = result.0.room;
             } }
-        ensures answers { map answer_shown result.items
-            ≡ (all_stored_after_copy (all_moved spaces.old moves.now).place
-            (with_copies self.old.frames moves.now)
-            (map pending_shown dues.entry.items)).answers }
-        ensures room { length moves.now ≤ self.new.room }
+        ensures jobs { result.1.items ≡ jobs_of 0 self.frames moves.now }
+        ensures room { self.room ≡ min result.0.room (vec_capacity result.1) }
+
+        // Before
+        ensures shelf { HasAllFrames self }
+        ensures vacated { AllByRecursion (IsPopulated self.frames) self.vacated }
     {
-        if moves.is_empty() && dues.is_empty() {
-            return answers;
-        }
-        let mut jobs = mem::replace(&mut self.jobs, Vec::new(alloc));
-        let mut run = RunInFlight::begin(alloc, spaces, &mut self.frames, moves, &mut jobs);
-        let (mut copied, answers) = run.copy_beside(crew, alloc, jobs, dues, answers);
-        run.finish(spaces, &mut self.frames, &mut copied);
-        self.jobs = copied;
-        answers
+        let Frames {
+            geometry,
+            mut frames,
+            nodes,
+            vacated,
+            mut jobs,
+        } = self;
+        take_out_each(&mut frames, moves, &mut jobs);
+        let rest = FramesInFlight {
+            geometry,
+            frames,
+            nodes,
+            vacated,
+        };
+        (rest, jobs)
     }
 }
 

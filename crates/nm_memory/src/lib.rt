@@ -8,5 +8,5 @@ mod frames;
 mod pending_access;
 
 pub use answers::AccessAnswer;
-pub use frames::Frames;
+pub use frames::{Frames, FramesInFlight};
 pub use pending_access::PendingAccess;

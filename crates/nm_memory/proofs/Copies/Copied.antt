@@ -10,7 +10,6 @@ use Rattle.nm_frames.specs.Job.{copied}
 use Rattle.nm_frames.specs.Populated.{IsPopulated}
 use Rattle.nm_model.specs.definitions.Frames.{Store, IsHome, IsOut, bytes_of}
 use Rattle.nm_types.specs.declared.taken.Taken.{Taken}
-use Rattle.nm_spaces.specs.views.Held.{AreApart}
 use Rattle.nm_memory.specs.views.Copies.{with_copy, with_copies, without_both, CanCopy, HasBoth, emptied, with_buf, jobs_of, with_job, refilled, CanRefill}
 use Rattle.nm_memory.proofs.Copies.Home.{copied_frame, home_bytes}
 
@@ -72,6 +71,11 @@ module _ (store : Store) (t : Taken) where
   -- others keep their bytes in memory
   pub stays_populated : (q : ℕ) → q ≢ t.from → q ≢ t.to → IsPopulated store q → IsPopulated (without_both store t) q
   stays_populated q a b whole = ap (λ (o : Option (List ℕ)). length (unwrap_or o [])) (untouched q a b) ∙ whole
+
+-- as many frames have a place while the bytes of some are out
+pub out_as_many : (taken : List Taken) (store : Store) → length (emptied store taken) ≡ length store
+out_as_many [] store = refl
+out_as_many (t ∷ taken) store = out_as_many taken (without_both store t) ∙ as_many store t
 
 -- what is home stays so where another frame gets bytes
 home_beside : (store : Store) (f q : ℕ) (bytes : List ℕ) → q ≢ f → IsHome store q → IsHome (slice_set store f (Some bytes)) q
@@ -200,19 +204,9 @@ module _ {A : Type 0} where
       let is = refilled_last jobs job store in
       (rest.0, rest.1, (rest.2, subst (λ (s : Store). IsOut s j.source.0) is can.1, subst (λ (s : Store). IsOut (with_buf s j.source) j.target.0) is can.2))
 
--- ---- frames that are named once
-
-apart_from : (taken : List Taken) (store : Store) (t : Taken) → CanCopy (without_both store t) taken → AllByRecursion (λ u. u.from ≢ t.to) taken
-apart_from [] store t can = tt
-apart_from (u ∷ taken) store t can = (
-  not_to store t u.from can.0,
-  apart_from taken store t (can_where_more taken (without_both (without_both store t) u) (without_both store t) (λ q home. was_home (without_both store t) u q home) can.3),
-)
-
--- no page leaves a frame that one before it takes
-pub copies_apart : (taken : List Taken) (store : Store) → CanCopy store taken → AreApart taken
-copies_apart [] store can = tt
-copies_apart (t ∷ taken) store can = (
-  apart_from taken store t can.3,
-  copies_apart taken store (can_where_more taken (without_both store t) store (λ q home. was_home store t q home) can.3),
-)
+  -- as many frames have a place once bytes are back
+  pub back_as_many : (jobs : List (CopyJob A)) (store : Store) → length (refilled store jobs) ≡ length store
+  back_as_many [] store = refl
+  back_as_many (job ∷ jobs) store =
+      let r = refilled store jobs in
+      length-set (with_buf r job.source) job.target.0 (Some job.target.1) ∙ length-set r job.source.0 (Some job.source.1) ∙ back_as_many jobs store

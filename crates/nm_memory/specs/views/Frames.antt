@@ -23,6 +23,11 @@ pub record HasAllFrames (k : FramesView) : Type 0 where
   pub buffers : length k.frames ≡ frame_count k.layout
   pub home : (frame : ℕ) → frame < frame_count k.layout → IsHome k.frames frame
 
+-- each node has a list, and each frame a place for its buffer, home or not
+pub record HasAllPlaces (k : FramesView) : Type 0 where
+  pub lists : length k.free ≡ node_count k.layout
+  pub buffers : length k.frames ≡ frame_count k.layout
+
 -- frames that are home stay so, and those that have their bytes in memory keep them
 pub record KeepsBytes (old new : Store) : Type 0 where
   pub as_many : length new ≡ length old

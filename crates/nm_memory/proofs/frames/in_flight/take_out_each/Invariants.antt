@@ -2,7 +2,7 @@ use Rattle.std.proofs.Common.{◌≡◌, ◌≤◌, ◌+◌, ◌++◌, length, d
 use Rattle.std.specs.Prelude.{vec_len, vec_capacity}
 use Rattle.std.specs.List.{AllByRecursion}
 use Rattle.nm_memory.specs.views.Copies.{CanCopy, HasBoth, emptied, jobs_of}
-use Rattle.nm_memory.proofs.frames.run_in_flight.take_out_each.Given as goal
+use Rattle.nm_memory.proofs.frames.in_flight.take_out_each.Given as goal
 
 abbrev pub invariant-loop-taken : goal.invariant-loop-taken
 invariant-loop-taken g l = let rest = drop l.taken-index l.moves in record {

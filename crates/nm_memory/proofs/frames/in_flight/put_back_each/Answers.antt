@@ -2,7 +2,7 @@ use Rattle.std.proofs.Common.{ap, sym, subst, ◌∙◌}
 use Rattle.nm_model.specs.definitions.Frames.{Store, IsOut}
 use Rattle.nm_memory.specs.views.Copies.{CanRefill, refilled, with_buf}
 use Rattle.nm_memory.proofs.Copies.Copied.{refilled_last, can_last}
-use Rattle.nm_memory.proofs.frames.run_in_flight.put_back_each.Goals as goal
+use Rattle.nm_memory.proofs.frames.in_flight.put_back_each.Goals as goal
 
 pub put_back-requires : goal.put_back-requires
 put_back-requires g c =

@@ -11,7 +11,7 @@ use Rattle.nm_types.specs.declared.taken.Taken.{Taken}
 use Rattle.nm_memory.specs.views.Copies.{without_both, CanCopy, HasBoth, emptied, jobs_of}
 use Rattle.nm_memory.proofs.Copies.Copied.{both_without}
 use Rattle.nm_laws.proofs.Lists.{drop_item}
-use Rattle.nm_memory.proofs.frames.run_in_flight.take_out_each.Goals as goal
+use Rattle.nm_memory.proofs.frames.in_flight.take_out_each.Goals as goal
 
 -- a frame is home as before where the bytes of another go out
 home_beside : (store : Store) (f q : ℕ) → f ≢ q → IsHome store q → IsHome (slice_set store f None) q

@@ -1,7 +1,7 @@
 use Rattle.std.proofs.Common.{◌≡◌}
 use Rattle.std.specs.Prelude.{vec_len, vec_capacity}
 use Rattle.nm_memory.specs.views.Copies.{CanRefill, refilled}
-use Rattle.nm_memory.proofs.frames.run_in_flight.put_back_each.Given as goal
+use Rattle.nm_memory.proofs.frames.in_flight.put_back_each.Given as goal
 
 abbrev pub invariant-loop-job : goal.invariant-loop-job
 invariant-loop-job g l = record {
