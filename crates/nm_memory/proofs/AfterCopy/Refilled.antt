@@ -121,6 +121,20 @@ module _ {A : Type 0} where
         told = refl;
       }
 
+  -- what can be done while the bytes of jobs are out can be done once they are back
+  can_refilled : (place : Map Page ℕ) (jobs : List (CopyJob A)) (store : Store) (d : PendingAccess) → CanRefill store jobs → CanDo place store d → CanDo place (refilled store jobs) d
+  can_refilled place jobs store (Known answer) can doable = tt
+  can_refilled place jobs store (ToRead page i len) can doable =
+      let b = beside jobs store doable.frame [] can doable.home in
+      record { frame = doable.frame; placed = doable.placed; home = b.home; populated = ap (λ o. length (unwrap_or o [])) b.same ∙ doable.populated; inside = doable.inside }
+  can_refilled place jobs store (ToWrite page i new) can doable =
+      let b = beside jobs store doable.frame [] can doable.home in
+      record { frame = doable.frame; placed = doable.placed; home = b.home; populated = ap (λ o. length (unwrap_or o [])) b.same ∙ doable.populated; inside = doable.inside }
+
+  pub all_refilled : (place : Map Page ℕ) (jobs : List (CopyJob A)) (store : Store) (dues : List PendingAccess) → CanRefill store jobs → AllByRecursion (CanDo place store) dues → AllByRecursion (CanDo place (refilled store jobs)) dues
+  all_refilled place jobs store [] can doable = tt
+  all_refilled place jobs store (d ∷ dues) can doable = (can_refilled place jobs store d can doable.0, all_refilled place jobs store dues can doable.1)
+
   abbrev back : List (CopyJob A) → StoreAfterCopy → StoreAfterCopy
   back jobs x = record x { store = refilled (x.store) jobs }
 

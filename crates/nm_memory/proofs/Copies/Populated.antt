@@ -90,7 +90,7 @@ copies_populated [] s q both whole = whole
 copies_populated (t ∷ taken) s q both whole =
     copies_populated taken (with_copy s t) q (froms_then taken s t both.0.0 both.1) (set_populated s t.to q (bytes_of s t.from) both.0.0 whole)
 
-done_populated : (place : Map Page ℕ) (dues : List PendingAccess) (s : Store) (q : ℕ) → AllByRecursion IsInside dues → IsPopulated s q → IsPopulated (all_stored_after_copy place s dues).store q
+pub done_populated : (place : Map Page ℕ) (dues : List PendingAccess) (s : Store) (q : ℕ) → AllByRecursion IsInside dues → IsPopulated s q → IsPopulated (all_stored_after_copy place s dues).store q
 done_populated place [] s q inside whole = whole
 done_populated place (Known answer ∷ dues) s q inside whole = done_populated place dues s q inside.1 whole
 done_populated place (ToRead page at len ∷ dues) s q inside whole = done_populated place dues s q inside.1 whole
@@ -98,7 +98,7 @@ done_populated place (ToWrite page at new ∷ dues) s q inside whole =
     let f = frame_at place page in
     done_populated place dues (slice_set s f (Some (overwrite (bytes_of s f) at new))) q inside.1 (written_populated s f q at new inside.0 whole)
 
-can_inside : (place : Map Page ℕ) (s : Store) (dues : List PendingAccess) → AllByRecursion (CanDo place s) dues → AllByRecursion IsInside dues
+pub can_inside : (place : Map Page ℕ) (s : Store) (dues : List PendingAccess) → AllByRecursion (CanDo place s) dues → AllByRecursion IsInside dues
 can_inside place s [] can = tt
 can_inside place s (Known answer ∷ dues) can = (tt, can_inside place s dues can.1)
 can_inside place s (ToRead page at len ∷ dues) can = (can.0.inside, can_inside place s dues can.1)
