@@ -1,2 +1,3 @@
+pub mod HandedOn
 pub mod Pins
 pub mod Touches

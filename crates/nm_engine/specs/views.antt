@@ -1,4 +1,5 @@
 -- What contracts see the values of the code as.
+pub mod Flights
 pub mod MidRun
 pub mod Parts
 pub mod Shown

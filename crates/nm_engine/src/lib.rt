@@ -2,9 +2,13 @@
 #![tactic(auto)]
 
 mod answers;
-mod inner;
 pub mod laws;
 mod machine;
+mod planned_run;
+mod prepared_run;
+mod resolved_address;
+mod run_in_flight;
+mod touch;
 
 pub use answers::RunAnswer;
 pub use machine::{Machine, Totals};

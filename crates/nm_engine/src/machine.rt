@@ -1,10 +1,12 @@
 //! The machine.
 
-ghost use Rattle.std.specs.Prelude.{◌≡◌, ◌<◌, ◌+◌, ◌/◌, [], ◌∷◌, map, length, Some, Err, true, IfOk, OnOk, OnErr};
+ghost use Rattle.std.specs.Prelude.{◌≡◌, ◌<◌, ◌≤◌, ◌+◌, ◌/◌, [], ◌∷◌, map, length, Some, Err, true, IfOk, OnOk, OnErr};
 ghost use Rattle.std.specs.Result.{result_err};
 ghost use Rattle.nm_types.specs.declared.page.Page.{Page};
 ghost use Rattle.nm_types.specs.declared.sight.Sight.TheVariants.{Sees};
 ghost use Rattle.nm_types.specs.Layout.{node_count};
+ghost use Rattle.nm_types.specs.Nodes.{up_from};
+ghost use Rattle.nm_laws.specs.Moves.{IsPlanOf};
 ghost use Rattle.nm_model.specs.definitions.Touch.{Bytes, Done, read, write, site_refusal, touch};
 ghost use Rattle.nm_model.specs.definitions.Run.{total_after, with_counts, run, failures, HasOneAll};
 ghost use Rattle.nm_model.specs.views.Asked.{access_shown};
@@ -23,14 +25,17 @@ mod process;
 mod query;
 
 use crate::answers::RunAnswer;
-use crate::inner::Inner;
-use crate::inner::resolved_address::ResolvedAddress;
-use crate::inner::touch::push_zeros;
 use crate::laws::interleavings;
+use crate::planned_run::{PlannedRun, make_run};
+use crate::resolved_address::ResolvedAddress;
+use crate::touch::push_zeros;
+use core::mem::replace_with;
 use nm_crew::{Crew, Gate};
+use nm_memory::Frames;
+use nm_plan::{Plan, plan};
 use nm_runs::Run;
 use nm_spaces::AddressSpaces;
-use nm_types::{Access, Geometry, MachineError, NodeMask, Pid, Vpn};
+use nm_types::{Access, Geometry, MachineError, NodeId, NodeMask, Pid, Vpn};
 use std::alloc::{AllocError, Allocator};
 use std::marker::Model;
 use std::sync::Wait;
@@ -62,19 +67,25 @@ impl Totals {
 /// Processes, areas and pages over nodes of frames. Contracts see it as a sound `State` of the definitions.
 #[derive(Drop)]
 pub struct Machine<A: Allocator + Copy + Send + Sync> {
-    pub(crate) inner: Inner<A>,
-    alloc: A,
+    pub(crate) spaces: AddressSpaces<A>,
+    pub(crate) frames: Frames<A>,
+    pub(crate) online: NodeMask,
+    pub(crate) totals: Totals,
+    /// Where a page was pinned last. Says nothing of whether it still has the pin.
+    pub(crate) last_pin: Option<(Pid, Vpn)>,
+    pub(crate) alloc: A,
 }
 
 impl<A: Allocator + Copy + Send + Sync> Model for Machine<A> {
-    ghost use Rattle.std.specs.Prelude.{◌≡◌, []};
     ghost use Rattle.nm_types.specs.State.{State};
+    ghost use Rattle.nm_engine.specs.views.Shown.{shown_by};
+    ghost use Rattle.nm_engine.specs.views.MidRun.{IsBetweenRuns};
 
     ghost Value = { State };
 
-    ghost view = { λ m. m.inner.state };
+    ghost view = { λ m. shown_by m.spaces m.frames m.online m.totals.moved m.totals.failed };
 
-    ghost invariant = { λ m. m.inner.left ≡ [] };
+    ghost invariant = { λ m. IsBetweenRuns (shown_by m.spaces m.frames m.online m.totals.moved m.totals.failed) m.frames.vacated m.spaces.frames };
 }
 
 impl<A: Allocator + Copy + Send + Sync> Machine<A> {
@@ -83,8 +94,16 @@ impl<A: Allocator + Copy + Send + Sync> Machine<A> {
     pub fn new(alloc: A, geometry: Geometry<A>) -> Result<Self, AllocError>
         ensures { IfOk result (λ machine. machine ≡ new_machine geometry) }
     {
+        let online = all_nodes(geometry.node_count());
         Ok(Machine {
-            inner: Inner::new(alloc, geometry)?,
+            spaces: AddressSpaces::new(alloc, geometry.frame_count())?,
+            frames: Frames::new(alloc, geometry)?,
+            online,
+            totals: Totals {
+                moved: 0,
+                failed: 0,
+            },
+            last_pin: None,
             alloc,
         })
     }
@@ -94,21 +113,21 @@ impl<A: Allocator + Copy + Send + Sync> Machine<A> {
         ensures geometry { result.now ≡ self.now.layout }
         ensures sound { IsSound self.now }
     {
-        self.inner.frames.geometry()
+        self.frames.geometry()
     }
 
     /// The address spaces of all processes: what each sees, its areas, and the frames and pins of pages.
     pub fn spaces(&self) -> &AddressSpaces<A>
         ensures { result.now ≡ spaces_of self.now }
     {
-        &self.inner.spaces
+        &self.spaces
     }
 
     /// The nodes that are online.
     pub fn online(&self) -> NodeMask
         ensures { result ≡ self.now.online }
     {
-        self.inner.online
+        self.online
     }
 
     /// Reads 1 to 4,096 bytes inside one page. Memory never written reads as zeros. The first touch of shared memory
@@ -121,22 +140,19 @@ impl<A: Allocator + Copy + Send + Sync> Machine<A> {
             (read self.old pid addr len) }
         ensures memory { AsksLast result (site_refusal self.old pid addr len) }
     {
-        let resolved = ResolvedAddress::of(&self.inner.spaces, pid, addr, len)?;
+        let resolved = ResolvedAddress::of(&self.spaces, pid, addr, len)?;
         let len = len as usize;
         let mut bytes = Vec::with_capacity(self.alloc, len)?;
-        let online = self.inner.online;
+        let online = self.online;
         let touched = resolved.touch(
-            &mut self.inner.spaces,
-            &mut self.inner.frames,
+            &mut self.spaces,
+            &mut self.frames,
             online,
             self.alloc,
             false,
         )?;
         match touched.frame {
-            Some(frame) => self
-                .inner
-                .frames
-                .read(frame, Vpn::offset(addr), len, &mut bytes),
+            Some(frame) => self.frames.read(frame, Vpn::offset(addr), len, &mut bytes),
             None => push_zeros(&mut bytes, len),
         }
         Ok(bytes)
@@ -158,19 +174,13 @@ impl<A: Allocator + Copy + Send + Sync> Machine<A> {
             sight_at self.old pid (addr / 4096) ≡ Some (Sees page) →
             ⊥ }
     {
-        let resolved = ResolvedAddress::of(&self.inner.spaces, pid, addr, bytes.len() as u64)?;
-        let online = self.inner.online;
-        let touched = resolved.touch(
-            &mut self.inner.spaces,
-            &mut self.inner.frames,
-            online,
-            self.alloc,
-            true,
-        )?;
+        let resolved = ResolvedAddress::of(&self.spaces, pid, addr, bytes.len() as u64)?;
+        let online = self.online;
+        let touched = resolved.touch(&mut self.spaces, &mut self.frames, online, self.alloc, true)?;
         let Some(frame) = touched.frame else {
             unreachable!()
         };
-        self.inner.frames.write(frame, Vpn::offset(addr), bytes);
+        self.frames.write(frame, Vpn::offset(addr), bytes);
         Ok(())
     }
 
@@ -230,20 +240,37 @@ impl<A: Allocator + Copy + Send + Sync> Machine<A> {
         ensures asked { OnErr result (0 < length requests.now.wanted.items + length accesses.now) }
     {
         interleavings();
-        let plan = self.inner.plan(crew, requests)?;
-        let moves = plan.moves();
-        self.inner.reserve(moves.len())?;
+        let plan = self.plan(crew, requests)?;
         let answers = Vec::with_capacity(self.alloc, accesses.len())?;
-        let dues = self.inner.begin(requests.target, moves, accesses)?;
-        let answers = self
-            .inner
-            .carry_out(crew, requests.target, moves, dues, answers);
-        let failed = self.inner.end_run(plan.statuses());
-        Ok(RunAnswer {
-            statuses: plan.into_statuses(),
-            failed,
+        let planned = PlannedRun {
+            crew,
+            requests,
+            plan,
+            accesses,
             answers,
-        })
+        };
+        replace_with(self, planned, make_run)
+    }
+
+    /// The plan of a run, from the classes of its requests at its start.
+    fn plan<R: Threads + Wait + Sync, G: Gate + Sync>(
+        &self,
+        crew: &Crew<R, G>,
+        requests: &Run<A>,
+    ) -> Result<Plan<A>, AllocError>
+        requires target { requests.now.target < node_count self.now.layout }
+        requires alike { HasOneAll requests.now.wanted.items }
+        ensures plan { IfOk result
+            (λ plan. IsPlanOf self.now requests.now.target requests.now.wanted.items plan) }
+        ensures sound { IsSound self.now }
+        ensures asked { OnErr result (0 < length requests.now.wanted.items) }
+    {
+        let geometry = self.frames.geometry();
+        prove!(geometry.node_count() <= 64);
+        let target = requests.target;
+        let classes = crew.classify(self.alloc, geometry, &self.spaces, requests)?;
+        let front = self.frames.free_front(self.alloc, target, classes.len())?;
+        plan(self.alloc, classes.as_slice(), front.as_slice(), target)
     }
 
     /// Counts this many requests as failed, and does nothing else: what a run does if none of its requests finds a free
@@ -251,7 +278,19 @@ impl<A: Allocator + Copy + Send + Sync> Machine<A> {
     pub fn count_failures(&mut self, requests: usize)
         ensures { self.new ≡ with_counts self.old 0 requests }
     {
-        let totals = self.inner.totals;
-        self.inner.totals = totals.after(0, requests as u64);
+        let totals = self.totals;
+        self.totals = totals.after(0, requests as u64);
     }
+}
+
+/// The nodes below a count of at most 64.
+fn all_nodes(count: usize) -> NodeMask
+    requires { count ≤ 64 }
+    ensures { result ≡ up_from 0 count }
+{
+    let mut nodes = NodeMask::new();
+    for node in 0..count {
+        nodes.insert(NodeId::new(node as u32));
+    }
+    nodes
 }

@@ -13,7 +13,7 @@ use Rattle.nm_types.specs.Map.{Map, get, set, replace, page_cmp}
 use Rattle.nm_types.specs.State.{Process, State, Placed, covers, area_over, page_of}
 use Rattle.nm_model.specs.definitions.Seen.{sight_in, sight_at, frame_seen}
 use Rattle.nm_model.specs.definitions.Order.{first_touch_order}
-use Rattle.nm_engine.specs.declared.inner.resolved_address.ResolvedAddress.{ResolvedAddress}
+use Rattle.nm_engine.specs.declared.resolved_address.ResolvedAddress.{ResolvedAddress}
 use Rattle.nm_types.specs.declared.process.ProcessInfo.{ProcessInfo}
 use Rattle.nm_model.specs.definitions.Effect.{info_of, seeing}
 use Rattle.nm_model.specs.definitions.Areas.{is_shared}

@@ -76,7 +76,7 @@ made_sound s l (Known answer) inside h = h
 made_sound s l (ToRead page at len) inside h = h
 made_sound s l (ToWrite page at new) inside h = written_sound s l page at new inside h
 
-all_made_sound : (dues : List PendingAccess) (s : State) (l : List ℕ) → AllByRecursion IsInside dues → IsSoundMidRun s l → IsSoundMidRun (all_after_copy s dues).state l
+pub all_made_sound : (dues : List PendingAccess) (s : State) (l : List ℕ) → AllByRecursion IsInside dues → IsSoundMidRun s l → IsSoundMidRun (all_after_copy s dues).state l
 all_made_sound [] s l inside h = h
 all_made_sound (d ∷ dues) s l inside h = all_made_sound dues (after_copy s d) l inside.1 (made_sound s l d inside.0 h)
 

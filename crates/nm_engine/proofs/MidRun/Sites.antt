@@ -4,7 +4,7 @@ use Rattle.nm_types.specs.Map.{Map}
 use Rattle.nm_types.specs.declared.area.Area.{Area}
 use Rattle.nm_types.specs.State.{Process, Placed, State}
 use Rattle.nm_model.specs.definitions.Touch.{site}
-use Rattle.nm_engine.specs.declared.inner.resolved_address.ResolvedAddress.{ResolvedAddress}
+use Rattle.nm_engine.specs.declared.resolved_address.ResolvedAddress.{ResolvedAddress}
 use Rattle.nm_engine.specs.views.Parts.{IsSiteOf, access_site}
 
 pub found_in : (s : State) (processes : Map ℕ Process) (areas : Map (ℕ × ℕ) Area) (t : ResolvedAddress) (pid address len : ℕ) → s.processes ≡ processes → s.areas ≡ areas

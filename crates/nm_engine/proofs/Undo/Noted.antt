@@ -4,7 +4,7 @@ use Rattle.std.specs.Prelude.{Option, Some, None}
 use Rattle.nm_types.specs.declared.page.Page.{Page}
 use Rattle.nm_types.specs.declared.sight.Sight.{Sight}
 use Rattle.nm_types.specs.declared.sight.Sight.TheVariants.{ZeroPage}
-use Rattle.nm_engine.specs.declared.inner.touch.Touched.{Touched}
+use Rattle.nm_engine.specs.declared.touch.Touched.{Touched}
 use Rattle.nm_engine.specs.definitions.Undo.{given_now, noted}
 
 -- what is seen before a page gets a frame: the page of zeros, or nothing

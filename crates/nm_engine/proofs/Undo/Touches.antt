@@ -26,8 +26,8 @@ use Rattle.nm_model.specs.definitions.Seen.{sight_in, sight_at}
 use Rattle.nm_model.specs.definitions.Areas.{is_shared}
 use Rattle.nm_model.specs.definitions.Frames.{prepended}
 use Rattle.nm_model.specs.definitions.Order.{first_touch_order}
-use Rattle.nm_engine.specs.declared.inner.resolved_address.ResolvedAddress.{ResolvedAddress}
-use Rattle.nm_engine.specs.declared.inner.undo.Undo.{Undo}
+use Rattle.nm_engine.specs.declared.resolved_address.ResolvedAddress.{ResolvedAddress}
+use Rattle.nm_engine.specs.declared.prepared_run.undo.Undo.{Undo}
 use Rattle.nm_model.specs.definitions.Frames.{bytes_of}
 use Rattle.nm_spaces.specs.views.AddressSpaces.{AddressSpacesView, with_before, without_page}
 use Rattle.nm_memory.specs.views.Frames.{FramesView, CanFree, pool_of}

@@ -9,7 +9,7 @@ use Rattle.nm_types.specs.Map.{get, replace, without, page_cmp}
 use Rattle.nm_types.specs.State.{Process, State}
 use Rattle.nm_model.specs.definitions.Seen.{sight_at}
 use Rattle.nm_model.specs.definitions.Frames.{prepended}
-use Rattle.nm_engine.specs.declared.inner.undo.Undo.{Undo}
+use Rattle.nm_engine.specs.declared.prepared_run.undo.Undo.{Undo}
 use Rattle.nm_model.specs.definitions.Effect.{seeing_before}
 use Rattle.nm_model.specs.definitions.Sound.{IsSoundMidRun}
 

@@ -1,7 +1,7 @@
 -- Worked examples of undoing touches.
 use Rattle.std.specs.Prelude.{◌≡◌, true, false, List, [], ◌∷◌, Some, None}
 use Rattle.nm_types.specs.State.{State}
-use Rattle.nm_engine.specs.declared.inner.undo.Undo.{Undo}
+use Rattle.nm_engine.specs.declared.prepared_run.undo.Undo.{Undo}
 use Rattle.nm_model.specs.definitions.Touch.{read}
 use Rattle.nm_model.specs.definitions.Effect.{map_new}
 use Rattle.nm_model.specs.examples.{A, B, one_process, wrote, attached_by_two, seen_by_two}

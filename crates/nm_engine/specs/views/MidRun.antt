@@ -1,5 +1,5 @@
 -- The parts of a machine together, also during a run.
-use Rattle.std.specs.Prelude.{◌≡◌, ℕ, List}
+use Rattle.std.specs.Prelude.{◌≡◌, ℕ, List, []}
 use Rattle.nm_types.specs.State.{State}
 use Rattle.nm_model.specs.definitions.Sound.{IsSoundMidRun}
 use Rattle.nm_types.specs.Layout.{frame_count}
@@ -14,6 +14,11 @@ pub record MidRun : Type 0 where
 pub record IsKept (s : State) (left : List ℕ) (frames : ℕ) : Type 0 where
   pub sound : IsSoundMidRun s left
   pub as_many : frames ≡ frame_count s.layout
+
+-- .. and no run has frames
+pub record IsBetweenRuns (s : State) (left : List ℕ) (frames : ℕ) : Type 0 where
+  pub kept : IsKept s left frames
+  pub none : left ≡ []
 
 -- only the state may change
 abbrev pub with_state : MidRun → State → MidRun

@@ -4,7 +4,7 @@ use Rattle.std.specs.Ordering.{nat_cmp}
 use Rattle.nm_types.specs.Map.{Map, get}
 use Rattle.nm_types.specs.declared.area.Area.{Area}
 use Rattle.nm_types.specs.State.{Process, Placed, area_over, page_of}
-use Rattle.nm_engine.specs.declared.inner.resolved_address.ResolvedAddress.{ResolvedAddress}
+use Rattle.nm_engine.specs.declared.resolved_address.ResolvedAddress.{ResolvedAddress}
 use Rattle.nm_model.specs.definitions.Effect.{info_of}
 use Rattle.nm_model.specs.definitions.Touch.{AccessSite}
 use Rattle.nm_spaces.specs.views.AddressSpaces.{AddressSpacesView}

@@ -35,10 +35,10 @@ impl<A: Allocator + Copy + Send + Sync> Machine<A> {
         ensures memory { AsksLast result (map_refusal self.old pid addr pages) }
         ensures number { IfOk result (λ number. number ≡ self.old.next_segment) }
     {
-        if self.inner.spaces.info(pid).is_none() {
+        if self.spaces.info(pid).is_none() {
             return Err(MachineError::Refused(Errno::Esrch));
         }
-        Ok(self.inner.spaces.map(pid, addr, pages, shared)?)
+        Ok(self.spaces.map(pid, addr, pages, shared)?)
     }
 
     /// Makes an area of the process from address `addr` on, over `pages` pages of a shared segment from `offset` on, in
@@ -59,10 +59,10 @@ impl<A: Allocator + Copy + Send + Sync> Machine<A> {
             (attach self.old pid addr segment offset pages) }
         ensures memory { AsksLast result (attach_refusal self.old pid addr segment offset pages) }
     {
-        if self.inner.spaces.info(pid).is_none() {
+        if self.spaces.info(pid).is_none() {
             return Err(MachineError::Refused(Errno::Esrch));
         }
-        Ok(self.inner.spaces.attach(pid, addr, segment, offset, pages)?)
+        Ok(self.spaces.attach(pid, addr, segment, offset, pages)?)
     }
 
     /// Unmaps `pages` pages of a process from address `addr` on; the range may have holes (munmap(2)). The process
@@ -83,7 +83,7 @@ impl<A: Allocator + Copy + Send + Sync> Machine<A> {
             ⊎ HasSplit self.old.areas pid (addr / 4096)
             ⊎ HasSplit self.old.areas pid (addr / 4096 + pages) }
     {
-        if self.inner.spaces.info(pid).is_none() {
+        if self.spaces.info(pid).is_none() {
             return Err(MachineError::Refused(Errno::Esrch));
         }
         let Some(range) = PageRange::of_pages(addr, pages) else {
@@ -116,8 +116,8 @@ impl<A: Allocator + Copy + Send + Sync> Machine<A> {
             ⊎ HasSplit self.old.areas pid range.first
             ⊎ HasSplit self.old.areas pid range.end) }
     {
-        let freed = self.inner.spaces.remove(pid, range)?;
-        free_each(&mut self.inner.frames, freed.as_slice());
+        let freed = self.spaces.remove(pid, range)?;
+        free_each(&mut self.frames, freed.as_slice());
         Ok(())
     }
 
@@ -128,10 +128,10 @@ impl<A: Allocator + Copy + Send + Sync> Machine<A> {
         ensures range { IfOk result
             (λ range. (range.first ≡ addr / 4096) × (range.end ≡ addr / 4096 + pages_of len)) }
     {
-        if self.inner.spaces.info(pid).is_none() {
+        if self.spaces.info(pid).is_none() {
             return Err(Errno::Esrch);
         }
-        self.inner.spaces.areas().check_policy(pid, addr, len)
+        self.spaces.areas().check_policy(pid, addr, len)
     }
 
     /// Sets where new pages are placed in the `len` bytes from address `addr` on, rounded up to whole pages, as
@@ -155,10 +155,10 @@ impl<A: Allocator + Copy + Send + Sync> Machine<A> {
             HasSplit self.old.areas pid (addr / 4096)
             ⊎ HasSplit self.old.areas pid (addr / 4096 + pages_of len) }
     {
-        if self.inner.spaces.info(pid).is_none() {
+        if self.spaces.info(pid).is_none() {
             return Err(MachineError::Refused(Errno::Esrch));
         }
-        Ok(self.inner.spaces.set_policy(pid, addr, len, policy)?)
+        Ok(self.spaces.set_policy(pid, addr, len, policy)?)
     }
 }
 

@@ -21,8 +21,8 @@ impl<A: Allocator + Copy + Send + Sync> Machine<A> {
         requires { node < node_count self.old.layout }
         ensures { self.new ≡ set_online self.old node online }
     {
-        prove!(self.inner.frames.geometry().node_count() <= 64);
-        self.inner.online = changed(self.inner.online, node, online);
+        prove!(self.frames.geometry().node_count() <= 64);
+        self.online = changed(self.online, node, online);
     }
 
     /// The pages on a node, by segment and index: at most 16,384. Empty if there is no such node. An error means that
@@ -32,8 +32,8 @@ impl<A: Allocator + Copy + Send + Sync> Machine<A> {
         ensures few { IfOk result (λ pages. length pages.items ≤ 16384) }
         ensures asked { OnErr result (0 < length self.now.place) }
     {
-        let placed = self.inner.spaces.areas().placed()?;
-        let geometry = self.inner.frames.geometry();
+        let placed = self.spaces.areas().placed()?;
+        let geometry = self.frames.geometry();
         prove!(geometry.node_count() <= 64);
         let pages = pages_among(self.alloc, geometry, placed.as_slice(), node)?;
         Ok(pages)

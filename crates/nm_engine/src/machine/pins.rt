@@ -23,8 +23,8 @@ impl<A: Allocator + Copy + Send + Sync> Machine<A> {
             (pin self.old pid addr) }
     {
         let (page, frame) = self.page_seen(pid, addr)?;
-        self.inner.last_pin = Some((pid, Vpn::of_address(addr)));
-        self.inner.spaces.pin(page, frame)
+        self.last_pin = Some((pid, Vpn::of_address(addr)));
+        self.spaces.pin(page, frame)
     }
 
     /// Removes a pin from the page that a process sees at an address, whoever added it.
@@ -35,7 +35,7 @@ impl<A: Allocator + Copy + Send + Sync> Machine<A> {
             (unpin self.old pid addr) }
     {
         let (page, frame) = self.page_seen(pid, addr)?;
-        self.inner.spaces.unpin(page, frame)
+        self.spaces.unpin(page, frame)
     }
 
     /// The page with a frame that a process sees at an address, and its frame; or the refusal that `pin` and `unpin`
@@ -54,10 +54,10 @@ impl<A: Allocator + Copy + Send + Sync> Machine<A> {
             (page_seen self.now pid (addr / 4096)))
             ≡ Some e) }
     {
-        if self.inner.spaces.info(pid).is_none() {
+        if self.spaces.info(pid).is_none() {
             return Err(Errno::Esrch);
         }
-        match self.inner.spaces.seen(pid, Vpn::of_address(addr)) {
+        match self.spaces.seen(pid, Vpn::of_address(addr)) {
             Seen::NoArea | Seen::Zero => Err(Errno::Efault),
             Seen::Absent => Err(Errno::Enoent),
             Seen::At { page, frame, .. } => Ok((page, frame)),
@@ -70,7 +70,7 @@ impl<A: Allocator + Copy + Send + Sync> Machine<A> {
         requires { first ≤ end }
         ensures { result ≡ shows_pinned self.now.areas self.now.pins pid first end }
     {
-        self.last_pin_is_in(pid, first, end) || self.inner.spaces.has_pinned(pid, first, end)
+        self.last_pin_is_in(pid, first, end) || self.spaces.has_pinned(pid, first, end)
     }
 
     /// Whether the page that was pinned last still has a pin, and is shown there in this range of the process.
@@ -78,12 +78,12 @@ impl<A: Allocator + Copy + Send + Sync> Machine<A> {
         ensures { result ≡ true →
             shows_pinned self.now.areas self.now.pins pid first end ≡ true }
     {
-        match self.inner.last_pin {
+        match self.last_pin {
             Some((owner, vpn)) => {
                 owner == pid
                     && vpn.number() >= first.number()
                     && vpn.number() < end.number()
-                    && self.inner.spaces.has_pin_at(pid, vpn)
+                    && self.spaces.has_pin_at(pid, vpn)
             }
             None => false,
         }

@@ -30,16 +30,16 @@ impl<A: Allocator + Copy + Send + Sync> Machine<A> {
             (spawn self.old pid uid home allowed privileged) }
         ensures memory { AsksLast result (spawn_refusal self.old pid home allowed) }
     {
-        let count = self.inner.frames.geometry().node_count();
+        let count = self.frames.geometry().node_count();
         if pid.number() == 0
-            || self.inner.spaces.info(pid).is_some()
+            || self.spaces.info(pid).is_some()
             || home.index() >= count
             || allowed.is_empty()
             || allowed.has_beyond(count)
         {
             return Err(MachineError::Refused(Errno::Einval));
         }
-        if self.inner.spaces.len() >= MAX_PROCESSES {
+        if self.spaces.len() >= MAX_PROCESSES {
             return Err(MachineError::Refused(Errno::Enomem));
         }
         let info = ProcessInfo {
@@ -48,7 +48,7 @@ impl<A: Allocator + Copy + Send + Sync> Machine<A> {
             home,
             allowed,
         };
-        self.inner.spaces.add(pid, info)?;
+        self.spaces.add(pid, info)?;
         Ok(())
     }
 
@@ -64,7 +64,7 @@ impl<A: Allocator + Copy + Send + Sync> Machine<A> {
             list_any (overlaps pid 0 (2 ^ 35)) self.old.areas ≡ true }
         ensures needed { result ≡ Err MachineError.HostMemory → 0 < length self.old.place }
     {
-        if self.inner.spaces.info(pid).is_none() {
+        if self.spaces.info(pid).is_none() {
             return Err(MachineError::Refused(Errno::Esrch));
         }
         let first = Vpn::new(0);
@@ -73,7 +73,7 @@ impl<A: Allocator + Copy + Send + Sync> Machine<A> {
             return Err(MachineError::Refused(Errno::Ebusy));
         }
         self.let_go(pid, PageRange { first, end })?;
-        self.inner.spaces.remove_task(pid);
+        self.spaces.remove_task(pid);
         Ok(())
     }
 }

@@ -19,14 +19,14 @@ impl<A: Allocator + Copy + Send + Sync> Machine<A> {
         ensures failed { result.failed ≡ self.now.failed }
         ensures sound { IsSound self.now }
     {
-        self.inner.totals
+        self.totals
     }
 
     /// Whether a node has a free frame. False if there is no such node. Does not allocate.
     pub fn has_free(&self, node: NodeId) -> bool
         ensures { result ≡ has_free self.now.free node }
     {
-        self.inner.frames.has_free(node)
+        self.frames.has_free(node)
     }
 
     /// The free frames of a node, front first. EINVAL if there is no such node. An empty list takes no memory.
@@ -36,10 +36,10 @@ impl<A: Allocator + Copy + Send + Sync> Machine<A> {
         ensures memory { AsksLast result (list_refusal self.now node) }
         ensures asked { result ≡ Err MachineError.HostMemory → 0 < length (free_list self.now node) }
     {
-        if node.index() >= self.inner.frames.geometry().node_count() {
+        if node.index() >= self.frames.geometry().node_count() {
             return Err(MachineError::Refused(Errno::Einval));
         }
-        Ok(self.inner.frames.free_list(self.alloc, node)?)
+        Ok(self.frames.free_list(self.alloc, node)?)
     }
 
     /// Whether each frame of the machine is in exactly one place: once in its own node's free list, or the frame of one
@@ -48,8 +48,8 @@ impl<A: Allocator + Copy + Send + Sync> Machine<A> {
         ensures told { IfOk result (λ b. b ≡ audited self.now) }
         ensures sound { IfOk result (λ b. b ≡ true) }
     {
-        let places = self.inner.spaces.areas().frames()?;
-        let once = self.inner.frames.audit(self.alloc, places.as_slice())?;
+        let places = self.spaces.areas().frames()?;
+        let once = self.frames.audit(self.alloc, places.as_slice())?;
         Ok(once)
     }
 }

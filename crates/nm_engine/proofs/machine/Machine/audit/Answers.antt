@@ -5,22 +5,22 @@ use Rattle.nm_model.specs.definitions.Areas.{Mapped}
 use Rattle.nm_model.specs.definitions.Sound.{audited, is_audited, numbered}
 use Rattle.nm_engine.specs.views.Shown.{shown_by}
 use Rattle.nm_laws.proofs.Soundness.Sounded.{sound_is_audited}
-use Rattle.nm_engine.proofs.Between.{shows, none_left, sound_between}
+use Rattle.nm_engine.proofs.Between.{sound_between}
 use Rattle.nm_engine.proofs.machine.Machine.audit.Goals as goal
 
 pub returns-clause-sound : goal.returns-clause-sound
 returns-clause-sound g c =
-    let i = c.self-inside.inside.0.0 in
+    let i = c.self.inside in
     let s = shown_by i.spaces i.frames i.online i.totals.moved i.totals.failed in
     c.in_ok-once.ensures ∙ ap (is_audited s.layout (numbered 0 s.free)) (c.as_slice.ensures.value ∙ c.in_ok-places.ensures.frames ∙ ap (λ (m : Mapped). values_of m.place) c.areas.ensures.areas)
-    ∙ sound_is_audited s (sound_between c.self-inside.invariant (none_left c.self-inside.view_is c.self.invariant))
+    ∙ sound_is_audited s (sound_between c.self.invariant)
 
 pub returns-clause-told : goal.returns-clause-told
 returns-clause-told g c =
-    let i = c.self-inside.inside.0.0 in
+    let i = c.self.inside in
     let s = shown_by i.spaces i.frames i.online i.totals.moved i.totals.failed in
     c.in_ok-once.ensures ∙ ap (is_audited s.layout (numbered 0 s.free)) (c.as_slice.ensures.value ∙ c.in_ok-places.ensures.frames ∙ ap (λ (m : Mapped). values_of m.place) c.areas.ensures.areas)
-    ∙ ap audited (shows c.self-inside.view_is c.self.view_is)
+    ∙ ap audited c.self.view_is
 
 pub returns-in_err-places-clause-told : goal.returns-in_err-places-clause-told
 returns-in_err-places-clause-told g c = IfOk-from_err c.from_residual.result _ c.from_residual.ensures.0

@@ -4,24 +4,26 @@ use Rattle.nm_model.specs.definitions.Run.{with_counts, total_after}
 use Rattle.nm_model.specs.definitions.Sound.{IsSoundMidRun}
 use Rattle.nm_engine.specs.views.Shown.{shown_by}
 use Rattle.nm_laws.proofs.Soundness.Moved.{counted_sound}
-use Rattle.nm_engine.proofs.Between.{shows}
 use Rattle.nm_engine.proofs.machine.Machine.count_failures.Goals as goal
 
-pub invariant_of-self-inside : goal.invariant_of-self-inside
-invariant_of-self-inside g c =
-    let i = c.self-inside.inside.0.0 in
+pub invariant_of-self : goal.invariant_of-self
+invariant_of-self g c =
+    let i = c.self.inside in
     let s = shown_by i.spaces i.frames i.online i.totals.moved i.totals.failed in
-    let after = c.after-self-inside-inside in
+    let after = c.after-self-inside in
     let is = ap (λ n. record s { moved = n; failed = after.result.failed }) after.ensures.moved ∙ ap (λ n. record s { moved = total_after i.totals.moved 0; failed = n }) after.ensures.failed in
     record {
-      sound = subst (λ (t : State). IsSoundMidRun t i.frames.vacated) (sym is) (counted_sound s i.frames.vacated 0 c.args.requests c.self-inside.invariant.sound);
-      as_many = c.self-inside.invariant.as_many;
+      kept = record {
+        sound = subst (λ (t : State). IsSoundMidRun t i.frames.vacated) (sym is) (counted_sound s i.frames.vacated 0 c.args.requests c.self.invariant.kept.sound);
+        as_many = c.self.invariant.kept.as_many;
+      };
+      none = c.self.invariant.none;
     }
 
 pub returns : goal.returns
 returns g c =
-    let i = c.self-inside.inside.0.0 in
+    let i = c.self.inside in
     let s = shown_by i.spaces i.frames i.online i.totals.moved i.totals.failed in
-    let after = c.after-self-inside-inside in
+    let after = c.after-self-inside in
     ap (λ n. record s { moved = n; failed = after.result.failed }) after.ensures.moved ∙ ap (λ n. record s { moved = total_after i.totals.moved 0; failed = n }) after.ensures.failed
-    ∙ ap (λ (x : State). with_counts x 0 c.args.requests) (shows c.self-inside.view_is c.self.view_is)
+    ∙ ap (λ (x : State). with_counts x 0 c.args.requests) c.self.view_is

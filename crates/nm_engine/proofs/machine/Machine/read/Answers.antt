@@ -5,7 +5,7 @@ use Rattle.nm_model.specs.definitions.Frames.{bytes_of}
 use Rattle.nm_model.specs.definitions.Seen.{sight_at}
 use Rattle.nm_model.specs.definitions.Memory.{mem_range}
 use Rattle.nm_model.specs.definitions.Memory.{stretch_of}
-use Rattle.nm_model.specs.definitions.Touch.{Answered, Bytes, read, read_after}
+use Rattle.nm_model.specs.definitions.Touch.{Answered, Bytes, read, read_after, touched}
 use Rattle.nm_types.specs.State.{State}
 use Rattle.nm_engine.specs.views.Shown.{shown}
 use Rattle.nm_model.specs.definitions.Seen.{frame_seen}
@@ -14,22 +14,20 @@ use Rattle.nm_laws.proofs.Seen.Frames.{page_of_frame, place_in_range}
 use Rattle.nm_engine.proofs.Shown.Reads.{reads_frame, reads_zeros}
 use Rattle.nm_engine.proofs.machine.Machine.read.Goals.{in-Some, in-None}
 use Rattle.nm_spaces.specs.views.AddressSpaces.{table_of}
-use Rattle.nm_engine.specs.views.Shown.{paged_frames}
-use Rattle.nm_engine.proofs.Between.{shows}
+use Rattle.nm_engine.specs.views.Shown.{paged_frames, shown_by}
+use Rattle.nm_engine.specs.definitions.Does.{Accesses}
+use Rattle.nm_engine.proofs.Does.HandedOn.{read_handed_on}
 use Rattle.nm_engine.proofs.machine.Machine.read.Goals as goal
 
-pub invariant_of-self-inside : goal.invariant_of-self-inside
-invariant_of-self-inside g c = let i = c.self-inside.inside.0.0 in c.touch.ensures.kept i.totals.moved i.totals.failed
+pub invariant_of-self : goal.invariant_of-self
+invariant_of-self g c = let i = c.self.inside in record { kept = c.touch.ensures.kept i.totals.moved i.totals.failed; none = c.touch.ensures.left ∙ c.self.invariant.none }
 
-pub invariant_of-self-inside-in-Some : goal.invariant_of-self-inside-in-Some
-invariant_of-self-inside-in-Some g c = let i = c.self-inside.inside.0.0 in c.touch.ensures.kept i.totals.moved i.totals.failed
-
-pub invariant_of-self-inside-in-None : goal.invariant_of-self-inside-in-None
-invariant_of-self-inside-in-None g c = let i = c.self-inside.inside.0.0 in c.touch.ensures.kept i.totals.moved i.totals.failed
+pub invariant_of-self-2 : goal.invariant_of-self-2
+invariant_of-self-2 g c = let i = c.self.inside in record { kept = c.touch.ensures.kept i.totals.moved i.totals.failed; none = c.touch.ensures.left ∙ c.self.invariant.none }
 
 pub read-requires-clause-frame : goal.read-requires-clause-frame
 read-requires-clause-frame g c =
-    let i = c.self-inside.inside.0.0 in
+    let i = c.self.inside in
     let y = c.touch.new.spaces in
     let k = c.touch.new.frames in
     let page = page_of_frame y.place _ c.in-Some.frame (sym c.in_ok-touched.ensures.frame ∙ c.in-Some.is) in
@@ -37,7 +35,7 @@ read-requires-clause-frame g c =
 
 pub returns-clause-answer : goal.returns-clause-answer
 returns-clause-answer g c =
-    let i = c.self-inside.inside.0.0 in
+    let i = c.self.inside in
     let y = c.touch.new.spaces in
     let k = c.touch.new.frames in
     let s = shown i.spaces.processes (table_of i.spaces) (paged_frames i.spaces i.frames) i.online i.totals.moved i.totals.failed in
@@ -60,8 +58,17 @@ returns-clause-answer g c =
           ∙ ap (λ (old : List ℕ). old ++ replicate c.args.len 0) c.in_ok-bytes.ensures.items
           ∙ sym (reads_zeros y.processes (table_of y) (paged_frames y k) i.online i.totals.moved i.totals.failed _ sound c.args.pid c.args.addr c.args.len c.in_ok-resolved.ensures.inside seen)
     ] in
-    let states : c.match-touched.self ≡ new = elim c.match-touched.branch [ in-Some w ↦ w.self-is | in-None w ↦ w.self-is ] in
-    let at = shows c.self-inside.view_is c.self.view_is in (
+    let at = c.self.view_is in (
       ap (λ (z : State). (by z).answer) (sym at) ∙ ap (λ (z : Answered). z.answer) done ∙ ap Bytes (sym bytes),
-      states ∙ sym (ap (λ (z : Answered). z.state) done) ∙ ap (λ (z : State). (by z).state) at,
+      sym (ap (λ (z : Answered). z.state) done) ∙ ap (λ (z : State). (by z).state) at,
     )
+
+pub returns-in_err-touched-clause-answer : goal.returns-in_err-touched-clause-answer
+returns-in_err-touched-clause-answer g c =
+    let i = c.self.inside in
+    let s = shown_by i.spaces i.frames i.online i.totals.moved i.totals.failed in
+    let new = shown_by c.touch.new.spaces c.touch.new.frames i.online i.totals.moved i.totals.failed in
+    let there = c.in_ok-resolved.ensures.ok in
+    subst (λ (z : State). Accesses c.from_residual-in_err-touched.result (λ bytes. Bytes bytes.items) z new (read z c.args.pid c.args.addr c.args.len)) c.self.view_is
+    (read_handed_on c.touch.result c.from_residual-in_err-touched.result _ (λ bytes. Bytes bytes.items) s new c.args.pid c.args.addr c.args.len c.in_err-touched.was c.from_residual-in_err-touched.ensures
+    (ap (touched s false) (there.3 s refl refl)) (c.touch.ensures.touches i.totals.moved i.totals.failed there.0 there.1 there.2))

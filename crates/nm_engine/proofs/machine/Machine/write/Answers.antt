@@ -15,19 +15,18 @@ use Rattle.nm_engine.specs.views.Shown.{paged_frames, shown_by}
 use Rattle.nm_engine.proofs.Shown.BothParts.{kept_stocked}
 use Rattle.nm_engine.proofs.Shown.PopulatedFrames.{place_populated}
 use Rattle.nm_engine.specs.definitions.Does.{AsksLast}
-use Rattle.nm_engine.proofs.Between.{shows}
-use Rattle.nm_engine.proofs.inner.HandedOn.{memory_handed_on}
+use Rattle.nm_engine.proofs.Does.HandedOn.{memory_handed_on}
 use Rattle.nm_engine.proofs.machine.Machine.write.Goals as goal
 
 abbrev overwritten : FramesView → ℕ → List ℕ → ℕ → FramesView
 overwritten k frame new at = record k { frames = slice_set k.frames frame (Some (overwrite (bytes_of k.frames frame) at new)) }
 
-pub invariant_of-self-inside : goal.invariant_of-self-inside
-invariant_of-self-inside g c = let i = c.self-inside.inside.0.0 in c.touch.ensures.kept i.totals.moved i.totals.failed
+pub invariant_of-self : goal.invariant_of-self
+invariant_of-self g c = let i = c.self.inside in record { kept = c.touch.ensures.kept i.totals.moved i.totals.failed; none = c.touch.ensures.left ∙ c.self.invariant.none }
 
 pub write-requires-clause-frame : goal.write-requires-clause-frame
 write-requires-clause-frame g c =
-    let i = c.self-inside.inside.0.0 in
+    let i = c.self.inside in
     let y = c.touch.new.spaces in
     let k = c.touch.new.frames in
     let page = page_of_frame y.place _ c.in-Some.frame (sym c.in_ok-touched.ensures.frame ∙ c.in-Some.is) in
@@ -35,26 +34,29 @@ write-requires-clause-frame g c =
 
 pub write-requires-clause-populated : goal.write-requires-clause-populated
 write-requires-clause-populated g c =
-    let i = c.self-inside.inside.0.0 in
+    let i = c.self.inside in
     let y = c.touch.new.spaces in
     let page = page_of_frame y.place _ c.in-Some.frame (sym c.in_ok-touched.ensures.frame ∙ c.in-Some.is) in
     place_populated c.touch.new.frames.frames y.place page.0 c.in-Some.frame (c.touch.ensures.kept i.totals.moved i.totals.failed).sound.bytes.whole page.2
 
-pub invariant_of-self-inside-2 : goal.invariant_of-self-inside-2
-invariant_of-self-inside-2 g c =
-    let i = c.self-inside.inside.0.0 in
+pub invariant_of-self-2 : goal.invariant_of-self-2
+invariant_of-self-2 g c =
+    let i = c.self.inside in
     let y = c.touch.new.spaces in
     let k = c.touch.new.frames in
     let kept = c.touch.ensures.kept i.totals.moved i.totals.failed in
     let new = shown_by y k i.online i.totals.moved i.totals.failed in
     let seen = ap (λ (x : ℕ × ℕ). frame_seen new x.0 x.1) (λ i. (sym c.in_ok-resolved.ensures.pid i, sym c.in_ok-resolved.ensures.page i)) ∙ sym c.in_ok-touched.ensures.frame ∙ c.in-Some.is in
     let after : c.write.new.self.vacated ≡ k.vacated = ap (λ (k : FramesView). k.vacated) c.write.ensures.written in
-    subst (λ l. IsKept (shown_by y c.write.new.self i.online i.totals.moved i.totals.failed) l y.frames) (sym after)
-    (written_kept y.processes (table_of y) (paged_frames y k) i.online i.totals.moved i.totals.failed _ c.args.pid c.args.addr c.in-Some.frame c.args.bytes.now (paged_frames y c.write.new.self) kept (kept_stocked y k i.online i.totals.moved i.totals.failed kept c.write.ensures.shelf) seen (ap (paged_frames y) (c.write.ensures.written ∙ ap (overwritten k c.in-Some.frame c.args.bytes.now) c.offset.ensures.value)) c.in_ok-resolved.ensures.inside)
+    record {
+      none = after ∙ c.touch.ensures.left ∙ c.self.invariant.none;
+      kept = subst (λ l. IsKept (shown_by y c.write.new.self i.online i.totals.moved i.totals.failed) l y.frames) (sym after)
+          (written_kept y.processes (table_of y) (paged_frames y k) i.online i.totals.moved i.totals.failed _ c.args.pid c.args.addr c.in-Some.frame c.args.bytes.now (paged_frames y c.write.new.self) kept (kept_stocked y k i.online i.totals.moved i.totals.failed kept c.write.ensures.shelf) seen (ap (paged_frames y) (c.write.ensures.written ∙ ap (overwritten k c.in-Some.frame c.args.bytes.now) c.offset.ensures.value)) c.in_ok-resolved.ensures.inside);
+    }
 
 pub returns-clause-answer : goal.returns-clause-answer
 returns-clause-answer g c =
-    let i = c.self-inside.inside.0.0 in
+    let i = c.self.inside in
     let y = c.touch.new.spaces in
     let k = c.touch.new.frames in
     let s = shown_by i.spaces i.frames i.online i.totals.moved i.totals.failed in
@@ -65,7 +67,7 @@ returns-clause-answer g c =
     let there = c.in_ok-resolved.ensures.ok in
     let touched = touch_is s new c.args.pid c.args.addr (length c.args.bytes.now) true _ (there.3 s refl refl) (c.in_ok-touched.ensures.touches i.totals.moved i.totals.failed there.0 there.1 there.2) in
     let done : by s ≡ write_after s c.args.pid c.args.addr c.args.bytes.now (Ok new) = ap (write_after s c.args.pid c.args.addr c.args.bytes.now) touched in
-    let at = shows c.self-inside.view_is c.self.view_is in (
+    let at = c.self.view_is in (
       ap (λ (z : State). (by z).answer) (sym at) ∙ ap (λ (z : Answered). z.answer) done,
       written_is y.processes (table_of y) (paged_frames y k) i.online i.totals.moved i.totals.failed _ c.args.pid c.args.addr c.in-Some.frame c.args.bytes.now (paged_frames y c.write.new.self) kept (kept_stocked y k i.online i.totals.moved i.totals.failed kept c.write.ensures.shelf) seen (ap (paged_frames y) (c.write.ensures.written ∙ ap (overwritten k c.in-Some.frame c.args.bytes.now) c.offset.ensures.value))
           ∙ sym (ap (λ (z : Answered). z.state) done) ∙ ap (λ (z : State). (by z).state) at,
@@ -73,8 +75,8 @@ returns-clause-answer g c =
 
 pub returns-in_err-touched-clause-memory : goal.returns-in_err-touched-clause-memory
 returns-in_err-touched-clause-memory g c =
-    let i = c.self-inside.inside.0.0 in
+    let i = c.self.inside in
     let s = shown_by i.spaces i.frames i.online i.totals.moved i.totals.failed in
     let there = c.in_ok-resolved.ensures.ok in
-    subst (λ (z : State). AsksLast c.from_residual-in_err-touched.result (result_err (touch z c.args.pid c.args.addr (length c.args.bytes.now) true))) (shows c.self-inside.view_is c.self.view_is)
+    subst (λ (z : State). AsksLast c.from_residual-in_err-touched.result (result_err (touch z c.args.pid c.args.addr (length c.args.bytes.now) true))) c.self.view_is
     (memory_handed_on c.touch.result c.from_residual-in_err-touched.result _ c.in_err-touched.was c.from_residual-in_err-touched.ensures (ap (λ x. result_err (touched s true x)) (there.3 s refl refl)) (c.touch.ensures.memory i.totals.moved i.totals.failed there.0 there.1 there.2))

@@ -1,8 +1,0 @@
-use Rattle.std.proofs.Common.{rules}
-use Rattle.nm_engine.proofs.inner.Inner.touch_early.Goals as goal
-
-pub returns-in-Read-clause-state : goal.returns-in-Read-clause-state
-returns-in-Read-clause-state g c = search rules
-
-pub returns-in-Read-clause-due : goal.returns-in-Read-clause-due
-returns-in-Read-clause-due g c = search rules

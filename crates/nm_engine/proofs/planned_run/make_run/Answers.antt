@@ -1,0 +1,163 @@
+use Rattle.std.proofs.Common.{◌≡◌, ℕ, ◌+◌, ◌<◌, List, [], ◌∷◌, map, length, ap, sym, subst, ◌∙◌, arith}
+use Rattle.std.specs.List.{AllByRecursion}
+use Rattle.std.proofs.lemmas.List.{length-map}
+use Rattle.nm_types.specs.Layout.{node_count}
+use Rattle.nm_types.specs.State.{State}
+use Rattle.nm_types.specs.declared.request.Wanted.{Wanted}
+use Rattle.nm_types.specs.declared.taken.Taken.{Taken}
+use Rattle.nm_frames.specs.declared.job.CopyJob.{CopyJob}
+use Rattle.nm_frames.specs.Job.{copied}
+use Rattle.nm_laws.specs.Laws.{with_moves}
+use Rattle.nm_laws.specs.Moves.{CanMove, IsPlanOf}
+use Rattle.nm_laws.proofs.Early.Flown.{run_state, run_answers}
+use Rattle.nm_laws.proofs.Early.Phases.{pages_of, touched_all, given_back, planned_phases}
+use Rattle.nm_laws.proofs.Early.Ready.{all_layout}
+use Rattle.nm_model.specs.definitions.BeforeCopy.{PendingAccess, all_after_copy, without_fronts, with_fronts, frames_taken, IsPending}
+use Rattle.nm_model.specs.definitions.Decide.{Planned}
+use Rattle.nm_model.specs.definitions.Run.{failures, frames_left, run, with_all_free, with_counts}
+use Rattle.nm_model.specs.definitions.Sound.{IsSound}
+use Rattle.nm_model.specs.definitions.Touch.{Access, AllAnswered}
+use Rattle.nm_model.specs.views.Asked.{access_shown}
+use Rattle.nm_memory.specs.views.Accesses.{answer_shown, pending_shown}
+use Rattle.nm_engine.specs.views.Flights.{IsReadyFor, state_meanwhile}
+use Rattle.nm_engine.specs.views.MidRun.{MidRun}
+use Rattle.nm_engine.proofs.InFlight.Flights.{copied_twice}
+use Rattle.nm_engine.proofs.planned_run.make_run.Goals as goal
+
+-- what holds of each thing that is left to do
+all_by : {P Q : PendingAccess → Type 0} (ds : List PendingAccess) → ((d : PendingAccess) → P d → Q d) → AllByRecursion P ds → AllByRecursion Q ds
+all_by [] each all = tt
+all_by (d ∷ ds) each all = (each d all.0, all_by ds each all.1)
+
+pub prepare-requires-clause-target : goal.prepare-requires-clause-target
+prepare-requires-clause-target g c = subst (λ (s : State). c.args.planned.requests.now.target < node_count s.layout) (sym c.of-run.ensures.state) c.requires.target
+
+pub prepare-requires-clause-none : goal.prepare-requires-clause-none
+prepare-requires-clause-none g c = c.of-run.ensures.left
+
+pub prepare-requires-clause-moves : goal.prepare-requires-clause-moves
+prepare-requires-clause-moves g c =
+    let t = c.args.planned.requests.now.target in
+    subst (λ (ms : List Taken). CanMove c.of-run.result.state t ms) (sym c.moves-moves.ensures) (subst (λ (x : State). CanMove x t c.args.planned.plan.taken) (sym c.of-run.ensures.state) c.requires.plan.can)
+
+-- the run is ready to begin where its accesses have been touched
+ready_for : (x : MidRun) (r s : State) (t : ℕ) (moves : List Taken) (accesses : List Access) → r ≡ s → t < node_count s.layout → x.left ≡ frames_taken moves → x.state ≡ (touched_all r t moves accesses).state
+    → IsSound (given_back r t moves accesses) → CanMove (given_back r t moves accesses) t moves → IsReadyFor x t moves
+ready_for x r s t moves accesses at inside taken touched back can =
+    let nodes = ap (λ (z : State). node_count z.layout) at in
+    let stays = ap (λ (z : State). node_count z.layout) touched ∙ ap node_count (all_layout (pages_of moves) accesses (without_fronts r t (length moves))) in
+    record {
+      node = omega (arith, nodes, stays, inside);
+      taken = taken;
+      sound = subst (λ (z : State). IsSound (with_fronts z t (frames_taken moves))) (sym touched) back;
+      can = subst (λ (z : State). CanMove (with_fronts z t (frames_taken moves)) t moves) (sym touched) can;
+    }
+
+pub begin-run-requires-clause-ready : goal.begin-run-requires-clause-ready
+begin-run-requires-clause-ready g c κs within =
+    let r = c.of-run.result.state in
+    let t = c.args.planned.requests.now.target in
+    let ws = c.args.planned.requests.now.wanted.items in
+    let moves : List Taken = c.moves-moves.result.now in
+    let accesses : List Access = map (λ a. access_shown {A = g.row.A.Denot} a.now) c.args.planned.accesses.now in
+    let at = c.of-run.ensures.state in
+    let ready = planned_phases r t moves accesses c.args.machine ws c.args.planned.plan at c.requires.plan c.moves-moves.ensures c.in-Ok.ensures.sound c.requires.target in
+    (t, ready_for c.prepare.new.self r c.args.machine t moves accesses at c.requires.target c.in-Ok.ensures.left c.in-Ok.ensures.state ready.1.back ready.1.can)
+
+pub begin-run-requires-clause-few : goal.begin-run-requires-clause-few
+begin-run-requires-clause-few g c κs within = c.in-Ok.ensures.room
+
+pub copy_beside-run-requires-clause-due : goal.copy_beside-run-requires-clause-due
+copy_beside-run-requires-clause-due g c κs within =
+    let r = c.of-run.result.state in
+    let t = c.args.planned.requests.now.target in
+    let ws = c.args.planned.requests.now.wanted.items in
+    let moves : List Taken = c.moves-moves.result.now in
+    let accesses : List Access = map (λ a. access_shown {A = g.row.A.Denot} a.now) c.args.planned.accesses.now in
+    let ready = planned_phases r t moves accesses c.args.machine ws c.args.planned.plan c.of-run.ensures.state c.requires.plan c.moves-moves.ensures c.in-Ok.ensures.sound c.requires.target in
+    all_by (map pending_shown c.in-Ok.dues.items) c.begin-run.ensures.due
+    (subst (λ (ds : List PendingAccess). AllByRecursion (IsPending (pages_of moves) c.prepare.new.self.state) ds) (sym c.in-Ok.ensures.dues)
+    (subst (λ (x : State). AllByRecursion (IsPending (pages_of moves) x) (touched_all r t moves accesses).dues) (sym c.in-Ok.ensures.state) ready.1.due))
+
+pub copy_beside-run-requires-clause-out : goal.copy_beside-run-requires-clause-out
+copy_beside-run-requires-clause-out g c κs within = c.begin-run.ensures.out
+
+pub copy_beside-run-requires-clause-tickets : goal.copy_beside-run-requires-clause-tickets
+copy_beside-run-requires-clause-tickets g c κs within = c.begin-run.ensures.tickets
+
+pub copy_beside-run-requires-clause-room : goal.copy_beside-run-requires-clause-room
+copy_beside-run-requires-clause-room g c κs within = c.in-Ok.ensures.ready
+
+pub copy_beside-run-requires-clause-unanswered : goal.copy_beside-run-requires-clause-unanswered
+copy_beside-run-requires-clause-unanswered g c κs within = c.requires.unanswered
+
+pub copy_beside-run-requires-clause-space : goal.copy_beside-run-requires-clause-space
+copy_beside-run-requires-clause-space g c κs within = omega (arith, c.in-Ok.ensures.len, c.requires.space)
+
+pub finish-machine-requires-clause-out : goal.finish-machine-requires-clause-out
+finish-machine-requires-clause-out g c κs within = c.copy_beside-run.ensures.out
+
+pub finish-machine-requires-clause-done : goal.finish-machine-requires-clause-done
+finish-machine-requires-clause-done g c κs within =
+    let is = c.copy_beside-run.ensures.jobs in
+    ap (λ (js : List (CopyJob g.row.A.Denot)). map copied js) is ∙ copied_twice c.begin-run.result.1.items ∙ sym is
+
+pub returns-in-Ok-clause-failed : goal.returns-in-Ok-clause-failed
+returns-in-Ok-clause-failed g c = c.finish-machine.ensures.failed ∙ ap failures (c.statuses.ensures ∙ sym c.into_statuses.ensures)
+
+pub returns-in-Ok-clause-statuses : goal.returns-in-Ok-clause-statuses
+returns-in-Ok-clause-statuses g c = c.into_statuses.ensures ∙ sym c.requires.plan.agrees.statuses
+
+pub returns-in-Ok-clause-answers : goal.returns-in-Ok-clause-answers
+returns-in-Ok-clause-answers g c =
+    let r = c.of-run.result.state in
+    let t = c.args.planned.requests.now.target in
+    let ws = c.args.planned.requests.now.wanted.items in
+    let moves : List Taken = c.moves-moves.result.now in
+    let accesses : List Access = map (λ a. access_shown {A = g.row.A.Denot} a.now) c.args.planned.accesses.now in
+    let at = c.of-run.ensures.state in
+    let ready = planned_phases r t moves accesses c.args.machine ws c.args.planned.plan at c.requires.plan c.moves-moves.ensures c.in-Ok.ensures.sound c.requires.target in
+    let early = touched_all r t moves accesses in
+    let dues = map pending_shown c.in-Ok.dues.items in
+    let made : List PendingAccess → State → AllAnswered = λ ds x. all_after_copy (with_moves (with_fronts x t (frames_taken moves)) t moves) ds in
+    run_answers r t ws c.args.planned.plan moves accesses (all_after_copy (with_moves (given_back r t moves accesses) t moves) early.dues) ready.0 c.moves-moves.ensures ready.1.flight (map (answer_shown {A = g.row.A.Denot}) c.copy_beside-run.result.2.items)
+    (c.copy_beside-run.ensures.answers ∙ ap (λ (x : State). (all_after_copy x dues).answers) (c.begin-run.ensures.state t (ready_for c.prepare.new.self r c.args.machine t moves accesses at c.requires.target c.in-Ok.ensures.left c.in-Ok.ensures.state ready.1.back ready.1.can))
+    ∙ ap (λ (x : State). (made dues x).answers) c.in-Ok.ensures.state ∙ ap (λ (ds : List PendingAccess). (made ds early.state).answers) c.in-Ok.ensures.dues)
+    ∙ ap (λ (s : State). (run s t ws accesses).answers) at
+
+pub returns-in-Ok-clause-state : goal.returns-in-Ok-clause-state
+returns-in-Ok-clause-state g c =
+    let r = c.of-run.result.state in
+    let t = c.args.planned.requests.now.target in
+    let ws = c.args.planned.requests.now.wanted.items in
+    let moves : List Taken = c.moves-moves.result.now in
+    let accesses : List Access = map (λ a. access_shown {A = g.row.A.Denot} a.now) c.args.planned.accesses.now in
+    let at = c.of-run.ensures.state in
+    let ready = planned_phases r t moves accesses c.args.machine ws c.args.planned.plan at c.requires.plan c.moves-moves.ensures c.in-Ok.ensures.sound c.requires.target in
+    let early = touched_all r t moves accesses in
+    let dues = map pending_shown c.in-Ok.dues.items in
+    let flown = c.copy_beside-run.result.0 in
+    let now = state_meanwhile flown c.copy_beside-run.result.1.items in
+    let made : List PendingAccess → State → AllAnswered = λ ds x. all_after_copy (with_moves (with_fronts x t (frames_taken moves)) t moves) ds in
+    c.finish-machine.ensures.state
+    ∙ ap (λ n. with_counts (with_all_free now (frames_left flown.moves)) n (failures c.statuses.result.now)) (sym (length-map flown.moves (λ (t : Taken). t.from)))
+    ∙ run_state r t ws c.args.planned.plan moves accesses (all_after_copy (with_moves (given_back r t moves accesses) t moves) early.dues) ready.0 c.moves-moves.ensures ready.1.flight now (frames_left flown.moves) c.statuses.result.now
+    (c.copy_beside-run.ensures.state ∙ ap (λ (x : State). (all_after_copy x dues).state) (c.begin-run.ensures.state t (ready_for c.prepare.new.self r c.args.machine t moves accesses at c.requires.target c.in-Ok.ensures.left c.in-Ok.ensures.state ready.1.back ready.1.can))
+    ∙ ap (λ (x : State). (made dues x).state) c.in-Ok.ensures.state ∙ ap (λ (ds : List PendingAccess). (made ds early.state).state) c.in-Ok.ensures.dues)
+    (ap frames_left (c.copy_beside-run.ensures.moves ∙ c.begin-run.ensures.moves)) c.statuses.ensures
+    ∙ ap (λ (s : State). (run s t ws accesses).state) at
+
+-- memory that is asked for moves, or for accesses, is asked for none where nothing is requested
+asked_for : (s : State) (t : ℕ) (ws : List Wanted) (p : Planned) (moves : List Taken) (n : ℕ) → IsPlanOf s t ws p → moves ≡ p.taken → 0 < length moves + n → 0 < length ws + n
+asked_for s t [] p moves n plan same h = subst (λ (ms : List Taken). 0 < length ms + n) (same ∙ ap (λ (q : Planned). q.taken) plan.planned) h
+asked_for s t (w ∷ ws) p moves n plan same h = omega arith
+
+pub returns-in-Err-clause-asked : goal.returns-in-Err-clause-asked
+returns-in-Err-clause-asked g c =
+    asked_for _ c.args.planned.requests.now.target c.args.planned.requests.now.wanted.items c.args.planned.plan c.moves-moves.result.now (length c.args.planned.accesses.now) c.requires.plan c.moves-moves.ensures c.in-Err.ensures.asked
+
+pub into_machine-requires-clause-none : goal.into_machine-requires-clause-none
+into_machine-requires-clause-none g c κs within = ap (λ (x : MidRun). x.left) c.in-Err.ensures.err ∙ c.of-run.ensures.left
+
+pub returns-in-Err-clause-err : goal.returns-in-Err-clause-err
+returns-in-Err-clause-err g c = c.into_machine.ensures ∙ ap (λ (x : MidRun). x.state) c.in-Err.ensures.err ∙ c.of-run.ensures.state

@@ -1,0 +1,181 @@
+use Rattle.std.proofs.Common.{◌≡◌, ℕ, ◌<◌, List, [], ◌∷◌, map, refl, sym, ap, subst, ◌∙◌, arith}
+use Rattle.std.specs.Prelude.{option_map, slice_get}
+use Rattle.std.specs.List.{AllByRecursion}
+use Rattle.std.specs.Ordering.{nat_cmp}
+use Rattle.nm_types.specs.Map.{get}
+use Rattle.nm_types.specs.State.{State}
+use Rattle.nm_frames.specs.Job.{copied}
+use Rattle.nm_frames.specs.Populated.{IsPopulated}
+use Rattle.nm_laws.specs.Laws.{with_moves}
+use Rattle.nm_model.specs.definitions.BeforeCopy.{with_fronts, frames_taken}
+use Rattle.nm_model.specs.definitions.Events.{held_by, laid_for}
+use Rattle.nm_model.specs.definitions.Frames.{Store}
+use Rattle.nm_model.specs.definitions.Run.{frames_left}
+use Rattle.nm_model.specs.definitions.Sound.{IsSound}
+use Rattle.nm_model.specs.definitions.Seen.{sight_in}
+use Rattle.nm_spaces.specs.definitions.Moves.{all_moved}
+use Rattle.nm_spaces.specs.views.AddressSpaces.{AddressSpacesView}
+use Rattle.nm_spaces.specs.views.Held.{entry_here}
+use Rattle.nm_spaces.proofs.Held.HeldEntries.{held_is_taken, frames_stay, takes_below}
+use Rattle.nm_spaces.proofs.Held.NoEntryThere.{names_another}
+use Rattle.nm_memory.specs.definitions.AfterCopy.{CanDo}
+use Rattle.nm_memory.specs.views.Copies.{CanCopy, HasBoth, emptied, refilled, with_copies}
+use Rattle.nm_memory.specs.views.Frames.{FramesView}
+use Rattle.nm_memory.proofs.Copies.Copied.{tickets_from}
+use Rattle.nm_memory.proofs.Copies.Populated.{after_populated}
+use Rattle.nm_engine.specs.views.MidRun.{MidRun, IsKept}
+use Rattle.nm_engine.specs.views.Shown.{shown_by}
+use Rattle.nm_engine.specs.views.Spaces.{spaces_of}
+use Rattle.nm_engine.proofs.InFlight.AllAtOnce.{prepared, lefts_populated, both_whole, remap, can_copy, can_meanwhile, finished_shows, finished_kept}
+use Rattle.nm_engine.proofs.InFlight.Apart.{copies_apart}
+use Rattle.nm_engine.proofs.InFlight.Flights.{once_home, home_is, can_home, whole_then}
+use Rattle.nm_engine.proofs.InFlight.Moments.{begins}
+use Rattle.nm_engine.proofs.prepared_run.PreparedRun.begin.Goals as goal
+
+pub vacate_each-requires-clause-populated : goal.vacate_each-requires-clause-populated
+vacate_each-requires-clause-populated g c =
+    let i = c.self.inside in
+    let r = c.requires.ready in
+    lefts_populated i.spaces i.frames i.online i.totals.moved i.totals.failed r.0 c.args.moves.now [] c.args.self c.self.view_is r.1.sound r.1.can
+
+pub take_out-frames-requires-clause-can : goal.take_out-frames-requires-clause-can
+take_out-frames-requires-clause-can g c =
+    let i = c.self.inside in
+    let r = c.requires.ready in
+    let moves = c.args.moves.now in
+    let h = prepared i.spaces i.frames i.online i.totals.moved i.totals.failed r.0 moves [] c.args.self c.self.view_is c.self.invariant c.vacate_each.ensures.shelf
+    r.1.node r.1.taken r.1.sound r.1.can tt c.vacate_each.ensures.populated in
+    subst (λ (v : FramesView). CanCopy v.frames moves) (sym c.vacate_each.ensures.vacated) (can_copy i.spaces i.frames i.online i.totals.moved i.totals.failed r.0 moves [] h)
+
+pub take_out-frames-requires-clause-populated : goal.take_out-frames-requires-clause-populated
+take_out-frames-requires-clause-populated g c =
+    let i = c.self.inside in
+    let r = c.requires.ready in
+    let moves = c.args.moves.now in
+    let h = prepared i.spaces i.frames i.online i.totals.moved i.totals.failed r.0 moves [] c.args.self c.self.view_is c.self.invariant c.vacate_each.ensures.shelf
+    r.1.node r.1.taken r.1.sound r.1.can tt c.vacate_each.ensures.populated in
+    subst (λ (v : FramesView). AllByRecursion (HasBoth v.frames) moves) (sym c.vacate_each.ensures.vacated) (both_whole i.spaces i.frames i.online i.totals.moved i.totals.failed r.0 moves [] h)
+
+pub take_out-frames-requires-clause-few : goal.take_out-frames-requires-clause-few
+take_out-frames-requires-clause-few g c =
+    let same = ap (λ (v : FramesView). v.room) c.vacate_each.ensures.vacated in
+    let room = ap (λ (x : MidRun). x.room) c.self.view_is in
+    omega (arith, same, room, c.requires.few)
+
+pub hold-requires-clause-moves : goal.hold-requires-clause-moves
+hold-requires-clause-moves g c =
+    let i = c.self.inside in
+    let r = c.requires.ready in
+    let moves = c.args.moves.now in
+    let h = prepared i.spaces i.frames i.online i.totals.moved i.totals.failed r.0 moves [] c.args.self c.self.view_is c.self.invariant c.vacate_each.ensures.shelf
+    r.1.node r.1.taken r.1.sound r.1.can tt c.vacate_each.ensures.populated in
+    remap i.spaces i.frames i.online i.totals.moved i.totals.failed r.0 moves [] h
+
+pub hold-requires-clause-apart : goal.hold-requires-clause-apart
+hold-requires-clause-apart g c =
+    let i = c.self.inside in
+    let r = c.requires.ready in
+    let moves = c.args.moves.now in
+    let h = prepared i.spaces i.frames i.online i.totals.moved i.totals.failed r.0 moves [] c.args.self c.self.view_is c.self.invariant c.vacate_each.ensures.shelf
+    r.1.node r.1.taken r.1.sound r.1.can tt c.vacate_each.ensures.populated in
+    let k : FramesView = i.frames in
+    copies_apart moves k.frames (can_copy i.spaces i.frames i.online i.totals.moved i.totals.failed r.0 moves [] h)
+
+pub invariant_of-run : goal.invariant_of-run
+invariant_of-run g c =
+    let i = c.self.inside in
+    let r = c.requires.ready in
+    let y = i.spaces in
+    let moves = c.args.moves.now in
+    let h = prepared i.spaces i.frames i.online i.totals.moved i.totals.failed r.0 moves [] c.args.self c.self.view_is c.self.invariant c.vacate_each.ensures.shelf
+    r.1.node r.1.taken r.1.sound r.1.can tt c.vacate_each.ensures.populated in
+    let can = remap i.spaces i.frames i.online i.totals.moved i.totals.failed r.0 moves [] h in
+    record {
+      held = λ f pid v named. names_another [] moves y (sight_in (get nat_cmp y.processes pid) v) f can (sym (c.hold.ensures.entries [] pid v) ∙ named);
+      among = λ f pid v held. held_is_taken [] y.place moves (sight_in (get nat_cmp y.processes pid) v) f (sym (c.hold.ensures.entries [] pid v) ∙ held);
+      below = subst (λ n. AllByRecursion (λ t. t.to < n) moves) (sym (ap (λ (z : AddressSpacesView). z.frames) c.hold.ensures.spaces ∙ frames_stay moves y)) (takes_below moves y can);
+      left = ap (λ (v : FramesView). v.vacated) (c.take_out-frames.ensures.frames ∙ ap (λ (v : FramesView). record v { frames = emptied v.frames moves; room = c.take_out-frames.result.0.room }) c.vacate_each.ensures.vacated);
+    }
+
+pub returns-clause-entries : goal.returns-clause-entries
+returns-clause-entries g c store pid v =
+    c.hold.ensures.entries store pid v
+    ∙ ap (λ (x : MidRun). option_map (held_by (map (laid_for store) c.args.moves.now)) (entry_here (spaces_of x.state) pid v)) c.self.view_is
+
+pub returns-clause-spaces : goal.returns-clause-spaces
+returns-clause-spaces g c =
+    let y = c.self.inside.spaces in
+    let moves = c.args.moves.now in
+    c.hold.ensures.spaces ∙ (λ j. all_moved (record y { frames = c.self.invariant.as_many j }) moves)
+    ∙ ap (λ (x : MidRun). all_moved (spaces_of x.state) moves) c.self.view_is
+
+pub returns-clause-state : goal.returns-clause-state
+returns-clause-state g c target ready =
+    let i = c.self.inside in
+    let k : FramesView = i.frames in
+    let moves = c.args.moves.now in
+    let h = prepared i.spaces i.frames i.online i.totals.moved i.totals.failed target moves [] c.args.self c.self.view_is c.self.invariant c.vacate_each.ensures.shelf
+    ready.node ready.taken ready.sound ready.can tt c.vacate_each.ensures.populated in
+    let w : FramesView = c.take_out-frames.result.0 in
+    let jobs = c.take_out-frames.result.1.items in
+    let is = once_home {A = g.row.A.Denot} k c.vacate_each.new.self w moves jobs c.vacate_each.ensures.vacated c.take_out-frames.ensures.frames c.take_out-frames.ensures.jobs
+    (can_copy i.spaces i.frames i.online i.totals.moved i.totals.failed target moves [] h) in
+    let then : FramesView = record k { frames = with_copies k.frames moves; vacated = frames_left moves; room = w.room } in
+    (λ j. shown_by (c.hold.ensures.spaces j) (is j) i.online i.totals.moved i.totals.failed)
+    ∙ finished_shows i.spaces i.frames i.online i.totals.moved i.totals.failed target moves [] h then refl
+    ∙ ap (λ (x : MidRun). with_moves (with_fronts x.state target (frames_taken moves)) target moves) c.self.view_is
+
+pub returns-clause-out : goal.returns-clause-out
+returns-clause-out g c =
+    let i = c.self.inside in
+    let k : FramesView = i.frames in
+    let r = c.requires.ready in
+    let moves = c.args.moves.now in
+    let h = prepared i.spaces i.frames i.online i.totals.moved i.totals.failed r.0 moves [] c.args.self c.self.view_is c.self.invariant c.vacate_each.ensures.shelf
+    r.1.node r.1.taken r.1.sound r.1.can tt c.vacate_each.ensures.populated in
+    let can = can_copy i.spaces i.frames i.online i.totals.moved i.totals.failed r.0 moves [] h in
+    let v : FramesView = c.vacate_each.new.self in
+    let w : FramesView = c.take_out-frames.result.0 in
+    let jobs = c.take_out-frames.result.1.items in
+    let out = c.take_out-frames.ensures in
+    let left = c.vacate_each.ensures.vacated in
+    let is = once_home {A = g.row.A.Denot} k v w moves jobs left out.frames out.jobs can in
+    let home = home_is {A = g.row.A.Denot} k v w moves jobs left out.frames out.jobs can in
+    let then : FramesView = record k { frames = with_copies k.frames moves; vacated = frames_left moves; room = w.room } in
+    let leaves : AllByRecursion (IsPopulated k.frames) (frames_left moves) = lefts_populated i.spaces i.frames i.online i.totals.moved i.totals.failed r.0 moves [] c.args.self c.self.view_is r.1.sound r.1.can in
+    let stays : w.vacated ≡ frames_left moves = ap (λ (x : FramesView). x.vacated) is in
+    record {
+      can = can_home {A = g.row.A.Denot} k v w moves jobs left out.frames out.jobs can;
+      whole = whole_then {A = g.row.A.Denot} k v w moves jobs left out.frames out.jobs can c.vacate_each.ensures.shelf;
+      kept = subst (λ (z : AddressSpacesView). IsKept (shown_by z (record w { frames = refilled w.frames (map copied jobs) }) i.online i.totals.moved i.totals.failed) w.vacated z.frames) (sym c.hold.ensures.spaces)
+          (subst (λ (x : FramesView). IsKept (shown_by (all_moved i.spaces moves) x i.online i.totals.moved i.totals.failed) x.vacated (all_moved i.spaces moves).frames) (sym is)
+          (finished_kept i.spaces i.frames i.online i.totals.moved i.totals.failed r.0 moves [] h then refl));
+      populated = subst (λ (l : List ℕ). AllByRecursion (IsPopulated (refilled w.frames (map copied jobs))) l) (sym stays)
+          (subst (λ (s : Store). AllByRecursion (IsPopulated s) (frames_left moves)) (sym home)
+          (after_populated (frames_left moves) (all_moved i.spaces moves).place [] moves k.frames k.frames (both_whole i.spaces i.frames i.online i.totals.moved i.totals.failed r.0 moves [] h) tt leaves));
+    }
+
+pub returns-clause-tickets : goal.returns-clause-tickets
+returns-clause-tickets g c t job at =
+    let v : FramesView = c.vacate_each.new.self in
+    let is = tickets_from g.row.A.Denot c.args.moves.now 0 v.frames t job (ap (λ js. slice_get js t) (sym c.take_out-frames.ensures.jobs) ∙ at) in
+    omega (arith, is)
+
+pub returns-clause-due : goal.returns-clause-due
+returns-clause-due g c d pending =
+    let i = c.self.inside in
+    let k : FramesView = i.frames in
+    let r = c.requires.ready in
+    let moves = c.args.moves.now in
+    let h = prepared i.spaces i.frames i.online i.totals.moved i.totals.failed r.0 moves (d ∷ []) c.args.self c.self.view_is c.self.invariant c.vacate_each.ensures.shelf
+    r.1.node r.1.taken r.1.sound r.1.can (pending, tt) c.vacate_each.ensures.populated in
+    let can = can_meanwhile i.spaces i.frames i.online i.totals.moved i.totals.failed r.0 moves (d ∷ []) h in
+    let gone = c.take_out-frames.ensures.frames ∙ ap (λ (v : FramesView). record v { frames = emptied v.frames moves; room = c.take_out-frames.result.0.room }) c.vacate_each.ensures.vacated in
+    subst (λ (z : AddressSpacesView). CanDo z.place c.take_out-frames.result.0.frames d) (sym c.hold.ensures.spaces)
+    (subst (λ (x : FramesView). CanDo (all_moved i.spaces moves).place x.frames d) (sym gone) can.0)
+
+pub returns-clause-event : goal.returns-clause-event
+returns-clause-event g c m target wanted all p rest alike ready at plan taken =
+    let moves = c.args.moves.now in
+    begins {A = g.row.A.Denot} m _ c.take_out-frames.result.1.items target wanted all p rest (subst IsSound (sym at) ready.sound) alike plan taken
+    (returns-clause-state g c target ready ∙ ap (λ (s : State). with_moves s target moves) (sym at))

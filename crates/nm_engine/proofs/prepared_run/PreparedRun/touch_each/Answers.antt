@@ -1,0 +1,156 @@
+use Rattle.std.proofs.Common.{◌≡◌, ◌==◌, true, ℕ, ◌+◌, ◌++◌, List, [], ◌∷◌, map, length, drop, refl, sym, ap, subst, ◌∙◌, arith, length-append, append_assoc}
+use Rattle.std.proofs.Math.ListN.{drop_of_length-le}
+use Rattle.std.proofs.lemmas.List.{map-append, append-nil}
+use Rattle.std.proofs.lemmas.Bool.Decides.{nat_tests}
+use Rattle.std.specs.List.{AllByRecursion}
+use Rattle.nm_types.specs.State.{State}
+use Rattle.nm_model.specs.views.Asked.{access_shown}
+use Rattle.nm_memory.specs.views.Accesses.{pending_shown, HasRoom}
+use Rattle.nm_model.specs.definitions.BeforeCopy.{PendingAccess, AllBeforeCopy, before_copy, all_before_copy}
+use Rattle.nm_engine.specs.views.MidRun.{MidRun, with_state}
+use Rattle.nm_engine.specs.definitions.Undo.{CanUndo, all_undone}
+use Rattle.nm_laws.proofs.Early.Among.{all_early_alike}
+use Rattle.nm_laws.proofs.Early.Phases.{pages_of}
+use Rattle.nm_laws.proofs.Lists.{drop_item}
+use Rattle.nm_engine.proofs.prepared_run.PreparedRun.touch_each.Goals as goal
+
+all_and_one : {X : Type 0} (P : X → Type 0) (xs : List X) (x : X) → AllByRecursion P xs → P x → AllByRecursion P (xs ++ x ∷ [])
+all_and_one P [] x all one = (one, tt)
+all_and_one P (y ∷ xs) x all one = (all.0, all_and_one P xs x all.1 one)
+
+pub loop-access-init : goal.loop-access-init
+loop-access-init g c =
+    let none = c.in_ok-dues.ensures.items in
+    let shown = map (λ a. access_shown {A = g.row.A.Denot} a.now) c.args.accesses.now in
+    let all : AllBeforeCopy = all_before_copy c.args.self.now.state c.in_ok-moving.moving.keys shown in
+    record {
+      state = refl;
+      dues = ap (λ ds. map pending_shown ds ++ all.dues) none;
+      room = subst (AllByRecursion HasRoom) (sym none) tt;
+      len = ap length none;
+      within = omega arith;
+      fits = c.in_ok-dues.ensures.capacity;
+      same = refl;
+      back = subst (λ us. CanUndo c.args.self.now.state c.args.self.now.left us × (all_undone c.args.self.now.state us ≡ c.args.self.now.state)) (sym c.new-undos.ensures.items) (tt, refl);
+    }
+
+pub push_reserved-requires : goal.push_reserved-requires
+push_reserved-requires g c =
+    let many = c.loop-access.dues.ok.0 in
+    omega (arith, many, c.loop-access.invariant.len, c.loop-access.invariant.fits, c.loop-access-test.true)
+
+pub take_back-requires : goal.take_back-requires
+take_back-requires g c =
+    let s = c.loop-access.self in
+    let left = ap (λ (x : MidRun). x.left) c.loop-access.invariant.same in
+    let can = c.touch_early.ensures.back (subst (λ (l : List ℕ). CanUndo s.state l c.loop-access.undos.items) (sym left) c.loop-access.invariant.back.0) in
+    subst (λ (l : List ℕ). CanUndo c.touch_early.new.self.state l c.touch_early.new.undos.items) (sym (ap (λ (x : MidRun). x.left) c.touch_early.ensures.same)) can.0
+
+pub returns-in-Err-clause-err : goal.returns-in-Err-clause-err
+returns-in-Err-clause-err g c =
+    let s = c.loop-access.self in
+    let n = c.touch_early.new.self in
+    let left = ap (λ (x : MidRun). x.left) c.loop-access.invariant.same in
+    let can = c.touch_early.ensures.back (subst (λ (l : List ℕ). CanUndo s.state l c.loop-access.undos.items) (sym left) c.loop-access.invariant.back.0) in
+    let then : State = all_undone n.state c.touch_early.new.undos.items in
+    c.take_back.ensures.back ∙ ap (λ (x : MidRun). with_state x then) (c.touch_early.ensures.same) ∙ ap (λ (x : MidRun). with_state x then) c.loop-access.invariant.same
+    ∙ ap (with_state c.args.self.now) (can.1 ∙ c.loop-access.invariant.back.1)
+
+pub returns-in-Err-clause-same : goal.returns-in-Err-clause-same
+returns-in-Err-clause-same g c =
+    let s = c.loop-access.self in
+    let n = c.touch_early.new.self in
+    let then : State = all_undone n.state c.touch_early.new.undos.items in
+    let whole = c.take_back.ensures.back ∙ ap (λ (x : MidRun). with_state x then) (c.touch_early.ensures.same) ∙ ap (λ (x : MidRun). with_state x then) c.loop-access.invariant.same in
+    whole ∙ ap (λ (x : MidRun). with_state c.args.self.now x.state) (sym whole)
+
+pub loop-access-preserved : goal.loop-access-preserved
+loop-access-preserved g c =
+    let accesses = c.args.accesses.now in
+    let k = c.loop-access.access-index in
+    let a = c.access-item.result in
+    let s = c.loop-access.self in
+    let n = c.touch_early.new.self in
+    let keys = c.in_ok-moving.moving.keys in
+    let rest = map (λ a. access_shown {A = g.row.A.Denot} a.now) (drop (k + 1) accesses) in
+    let at = drop_item accesses k a c.loop-access-test.true c.access-item.is in
+    let due = c.in-Ok.ensures.due in
+    let told = map pending_shown c.loop-access.dues.items in
+    let items = c.push_reserved.ensures.items in
+    let left = ap (λ (x : MidRun). x.left) c.loop-access.invariant.same in
+    let can = c.touch_early.ensures.back (subst (λ (l : List ℕ). CanUndo s.state l c.loop-access.undos.items) (sym left) c.loop-access.invariant.back.0) in
+    let more = ap length items ∙ length-append c.loop-access.dues.items _ in
+    record {
+      state = ap (λ (x : State). (all_before_copy x keys rest).state) c.in-Ok.ensures.state ∙ ap (λ xs. (all_before_copy s.state keys (map (λ a. access_shown {A = g.row.A.Denot} a.now) xs)).state) (sym at) ∙ c.loop-access.invariant.state;
+      dues =
+          ap (λ ds. map pending_shown ds ++ (all_before_copy n.state keys rest).dues) items
+          ∙ ap (λ ds. ds ++ (all_before_copy n.state keys rest).dues) (map-append pending_shown c.loop-access.dues.items _)
+          ∙ append_assoc told _ _
+          ∙ ap (λ (x : State). told ++ pending_shown c.in-Ok.due ∷ (all_before_copy x keys rest).dues) c.in-Ok.ensures.state
+          ∙ ap (λ (d : PendingAccess). told ++ d ∷ (all_before_copy (before_copy s.state keys (access_shown a.now)).state keys rest).dues) due
+          ∙ ap (λ xs. told ++ (all_before_copy s.state keys (map (λ a. access_shown {A = g.row.A.Denot} a.now) xs)).dues) (sym at) ∙ c.loop-access.invariant.dues;
+      room = subst (AllByRecursion HasRoom) (sym items) (all_and_one HasRoom c.loop-access.dues.items c.in-Ok.due c.loop-access.invariant.room c.in-Ok.ensures.room);
+      len = omega (arith, more, c.loop-access.invariant.len);
+      within = omega (arith, c.loop-access-test.true);
+      fits = omega (arith, c.push_reserved.ensures.capacity, c.loop-access.invariant.fits);
+      same = c.touch_early.ensures.same ∙ ap (λ (x : MidRun). with_state x n.state) c.loop-access.invariant.same;
+      back = (subst (λ (l : List ℕ). CanUndo n.state l c.touch_early.new.undos.items) left can.0, can.1 ∙ c.loop-access.invariant.back.1);
+    }
+
+pub returns-clause-state : goal.returns-clause-state
+returns-clause-state g c =
+    let accesses = c.args.accesses.now in
+    let keys = c.in_ok-moving.moving.keys in
+    let shown = map (λ a. access_shown {A = g.row.A.Denot} a.now) accesses in
+    let ends = drop_of_length-le accesses (omega (arith, c.loop-access-test.false)) in
+    ap (λ xs. (all_before_copy c.loop-access.self.state keys (map (λ a. access_shown {A = g.row.A.Denot} a.now) xs)).state) (sym ends) ∙ c.loop-access.invariant.state
+    ∙ ap (λ (x : AllBeforeCopy). x.state) (all_early_alike keys (pages_of c.args.moves.now) c.in_ok-moving.ensures.pages shown c.args.self.now.state)
+
+pub returns-clause-dues : goal.returns-clause-dues
+returns-clause-dues g c =
+    let accesses = c.args.accesses.now in
+    let keys = c.in_ok-moving.moving.keys in
+    let shown = map (λ a. access_shown {A = g.row.A.Denot} a.now) accesses in
+    let told = map pending_shown c.loop-access.dues.items in
+    let ends = drop_of_length-le accesses (omega (arith, c.loop-access-test.false)) in
+    sym (append-nil told)
+    ∙ ap (λ xs. told ++ (all_before_copy c.loop-access.self.state keys (map (λ a. access_shown {A = g.row.A.Denot} a.now) xs)).dues) (sym ends) ∙ c.loop-access.invariant.dues
+    ∙ ap (λ (x : AllBeforeCopy). x.dues) (all_early_alike keys (pages_of c.args.moves.now) c.in_ok-moving.ensures.pages shown c.args.self.now.state)
+
+pub returns-clause-room : goal.returns-clause-room
+returns-clause-room g c = c.loop-access.invariant.room
+
+pub returns-clause-len : goal.returns-clause-len
+returns-clause-len g c =
+    let many = c.loop-access.dues.ok.0 in
+    omega (arith, many, c.loop-access.invariant.len, c.loop-access.invariant.within, c.loop-access-test.false)
+
+pub returns-clause-same : goal.returns-clause-same
+returns-clause-same g c = c.loop-access.invariant.same
+
+-- without accesses nothing is made ready
+no_access : {X : Type 0} (xs : List X) → true ≡ (length xs == 0) → xs ≡ []
+no_access [] is = refl
+no_access (x ∷ xs) is = absurd (grind (arith, nat_tests))
+
+pub returns-then-is_empty-clause-state : goal.returns-then-is_empty-clause-state
+returns-then-is_empty-clause-state g c =
+    let none = no_access c.args.accesses.now (sym c.if-is_empty.true ∙ c.is_empty.ensures) in
+    ap (λ xs. (all_before_copy c.args.self.now.state (pages_of c.args.moves.now) (map (λ a. access_shown {A = g.row.A.Denot} a.now) xs)).state) (sym none)
+
+pub returns-then-is_empty-clause-dues : goal.returns-then-is_empty-clause-dues
+returns-then-is_empty-clause-dues g c =
+    let none = no_access c.args.accesses.now (sym c.if-is_empty.true ∙ c.is_empty.ensures) in
+    ap (map pending_shown) c.in_ok-dues.ensures.items
+    ∙ ap (λ xs. (all_before_copy c.args.self.now.state (pages_of c.args.moves.now) (map (λ a. access_shown {A = g.row.A.Denot} a.now) xs)).dues) (sym none)
+
+pub returns-then-is_empty-clause-room : goal.returns-then-is_empty-clause-room
+returns-then-is_empty-clause-room g c = subst (AllByRecursion HasRoom) (sym c.in_ok-dues.ensures.items) tt
+
+pub returns-then-is_empty-clause-len : goal.returns-then-is_empty-clause-len
+returns-then-is_empty-clause-len g c =
+    let none = no_access c.args.accesses.now (sym c.if-is_empty.true ∙ c.is_empty.ensures) in
+    c.in_ok-dues.ensures.len ∙ ap (λ xs. length xs) (sym none)
+
+pub returns-in-Err-clause-asked : goal.returns-in-Err-clause-asked
+returns-in-Err-clause-asked g c = omega (arith, c.loop-access-test.true)

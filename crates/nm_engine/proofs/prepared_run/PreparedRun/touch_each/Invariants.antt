@@ -1,0 +1,23 @@
+use Rattle.std.proofs.Common.{◌≡◌, ◌≤◌, ◌++◌, map, length, drop}
+use Rattle.std.specs.Prelude.{vec_capacity}
+use Rattle.std.specs.List.{AllByRecursion}
+use Rattle.nm_model.specs.views.Asked.{access_shown}
+use Rattle.nm_memory.specs.views.Accesses.{pending_shown, HasRoom}
+use Rattle.nm_model.specs.definitions.BeforeCopy.{AllBeforeCopy, all_before_copy}
+use Rattle.nm_engine.specs.views.MidRun.{with_state}
+use Rattle.nm_engine.specs.definitions.Undo.{CanUndo, all_undone}
+use Rattle.nm_engine.proofs.prepared_run.PreparedRun.touch_each.Given as goal
+
+abbrev pub invariant-loop-access : goal.invariant-loop-access
+invariant-loop-access g l =
+    let rest : AllBeforeCopy = all_before_copy l.self.state l.moving.keys (map (λ a. access_shown a.now) (drop l.access-index l.accesses)) in
+    let all : AllBeforeCopy = all_before_copy l.fn.self.state l.moving.keys (map (λ a. access_shown a.now) l.accesses) in record {
+      state : rest.state ≡ all.state;
+      dues : map pending_shown l.dues.items ++ rest.dues ≡ all.dues;
+      room : AllByRecursion HasRoom l.dues.items;
+      len : length l.dues.items ≡ l.access-index;
+      within : l.access-index ≤ length l.accesses;
+      fits : length l.accesses ≤ vec_capacity l.dues;
+      same : l.self ≡ with_state l.fn.self l.self.state;
+      back : CanUndo l.self.state l.fn.self.left l.undos.items × (all_undone l.self.state l.undos.items ≡ l.fn.self.state);
+    }

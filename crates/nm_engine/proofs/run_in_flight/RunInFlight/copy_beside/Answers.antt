@@ -1,0 +1,37 @@
+use Rattle.std.proofs.Common.{List, map, sym, ap, subst, ◌∙◌}
+use Rattle.nm_frames.specs.declared.job.CopyJob.{CopyJob}
+use Rattle.nm_frames.specs.Job.{copied}
+use Rattle.nm_memory.specs.definitions.AfterCopy.{all_stored_after_copy}
+use Rattle.nm_memory.specs.views.Accesses.{pending_shown}
+use Rattle.nm_engine.specs.views.Flights.{Flight, AreOutIn, state_meanwhile, with_store}
+use Rattle.nm_engine.proofs.InFlight.Flights.{answers_then, state_then, out_then, out_done, state_done}
+use Rattle.nm_engine.proofs.run_in_flight.RunInFlight.copy_beside.Goals as goal
+
+pub copy_while-jobs-requires-clause-work : goal.copy_while-jobs-requires-clause-work
+copy_while-jobs-requires-clause-work g c κs within = (c.requires.due, (c.requires.room, (c.requires.unanswered, c.requires.space)))
+
+pub returns-clause-out : goal.returns-clause-out
+returns-clause-out g c =
+    let x = c.args.self in
+    let jobs = c.args.jobs.items in
+    let dues = map pending_shown c.args.dues.items in
+    let done = out_done (with_store x (all_stored_after_copy x.spaces.place x.frames.frames dues).store) jobs (out_then x jobs dues c.requires.out c.requires.due) in
+    subst (λ (js : List (CopyJob g.row.A.Denot)). AreOutIn c.copy_while-jobs.result.1.0 js) (sym c.copy_while-jobs.ensures.jobs)
+    (subst (λ (y : Flight). AreOutIn y (map copied jobs)) (sym c.copy_while-jobs.ensures.work.0) done)
+
+pub returns-clause-state : goal.returns-clause-state
+returns-clause-state g c =
+    let x = c.args.self in
+    let jobs = c.args.jobs.items in
+    let dues = map pending_shown c.args.dues.items in
+    (λ i. state_meanwhile (c.copy_while-jobs.ensures.work.0 i) (c.copy_while-jobs.ensures.jobs i))
+    ∙ state_done (with_store x (all_stored_after_copy x.spaces.place x.frames.frames dues).store) jobs ∙ state_then x jobs dues c.requires.out c.requires.due
+
+pub returns-clause-answers : goal.returns-clause-answers
+returns-clause-answers g c =
+    let jobs = c.args.jobs.items in
+    let dues = map pending_shown c.args.dues.items in
+    c.copy_while-jobs.ensures.work.1 ∙ answers_then c.args.self jobs dues c.requires.out c.requires.due
+
+pub returns-clause-moves : goal.returns-clause-moves
+returns-clause-moves g c = ap (λ (y : Flight). y.moves) c.copy_while-jobs.ensures.work.0

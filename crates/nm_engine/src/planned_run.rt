@@ -1,0 +1,91 @@
+//! Runs that are planned, made on a machine.
+
+ghost use Rattle.std.specs.Prelude.{◌≡◌, ◌<◌, ◌≤◌, ◌+◌, [], ◌∷◌, map, length, vec_capacity, IfOk, OnOk, OnErr};
+ghost use denote.Param.Send.{Frees, IsSend, IsSync};
+ghost use Rattle.nm_types.specs.Layout.{node_count};
+ghost use Rattle.nm_laws.specs.Moves.{IsPlanOf};
+ghost use Rattle.nm_model.specs.definitions.Run.{run, failures, HasOneAll};
+ghost use Rattle.nm_model.specs.views.Asked.{access_shown};
+ghost use Rattle.nm_memory.specs.views.Accesses.{answer_shown};
+
+use crate::answers::RunAnswer;
+use crate::machine::Machine;
+use crate::prepared_run::PreparedRun;
+use nm_crew::{Crew, Gate};
+use nm_memory::AccessAnswer;
+use nm_plan::Plan;
+use nm_runs::Run;
+use nm_types::Access;
+use std::alloc::{AllocError, Allocator};
+use std::sync::Wait;
+use std::thread::Threads;
+
+/// A run with its plan, the accesses that come while its pages are on their way, and an empty list with room for their
+/// answers.
+pub(crate) struct PlannedRun<'r, A: Allocator + Copy, R: Threads + Wait + Sync, G: Gate + Sync> {
+    pub(crate) crew: &'r Crew<'r, R, G>,
+    pub(crate) requests: &'r Run<A>,
+    pub(crate) plan: Plan<A>,
+    pub(crate) accesses: &'r [&'r Access<A>],
+    pub(crate) answers: Vec<AccessAnswer<A>, A>,
+}
+
+/// Makes a planned run. Returns the machine after it, with what the run answers; an error means that the host is out of
+/// memory, and that the machine is as it was.
+pub(crate) fn make_run<A, R, G>(
+    machine: Machine<A>,
+    planned: PlannedRun<'_, A, R, G>,
+) -> (Machine<A>, Result<RunAnswer<A>, AllocError>)
+where
+    A: Allocator + Copy + Send + Sync,
+    R: Threads + Wait + Sync,
+    G: Gate + Sync,
+    requires bounds { IsSend A.row × IsSync A.row × IsSync R.row × IsSync G.row × Frees A.Allocator A.dealloc_token }
+    requires target { planned.requests.now.target < node_count machine.layout }
+    requires plan { IsPlanOf machine planned.requests.now.target planned.requests.now.wanted.items planned.plan }
+    requires unanswered { planned.answers.items ≡ [] }
+    requires space { length planned.accesses.now ≤ vec_capacity planned.answers }
+
+    // On success
+    ensures statuses { IfOk result.1
+        (λ flown. flown.statuses.items
+        ≡ (run machine planned.entry.requests.now.target planned.entry.requests.now.wanted.items
+        (map (λ a. access_shown a.now) planned.entry.accesses.now)).statuses) }
+    ensures failed { IfOk result.1 (λ flown. flown.failed ≡ failures flown.statuses.items) }
+    ensures answers { IfOk result.1
+        (λ flown. map answer_shown flown.answers.items ∷ []
+        ≡ (run machine planned.entry.requests.now.target planned.entry.requests.now.wanted.items
+        (map (λ a. access_shown a.now) planned.entry.accesses.now)).answers) }
+    ensures state { OnOk result.1
+        (result.0
+        ≡ (run machine planned.entry.requests.now.target planned.entry.requests.now.wanted.items
+        (map (λ a. access_shown a.now) planned.entry.accesses.now)).state) }
+
+    // Without memory
+    ensures err { OnErr result.1 (result.0 ≡ machine) }
+    ensures asked { OnErr result.1 (0 < length planned.entry.requests.now.wanted.items + length planned.entry.accesses.now) }
+{
+    let PlannedRun {
+        crew,
+        requests,
+        plan,
+        accesses,
+        answers,
+    } = planned;
+    let moves = plan.moves();
+    let mut run = PreparedRun::of(machine);
+    match run.prepare(requests.target, moves, accesses) {
+        Ok(dues) => {
+            let (run, jobs) = run.begin(moves);
+            let (run, jobs, answers) = run.copy_beside(crew, jobs, dues, answers);
+            let (machine, failed) = run.finish(jobs, plan.statuses());
+            let answer = RunAnswer {
+                statuses: plan.into_statuses(),
+                failed,
+                answers,
+            };
+            (machine, Ok(answer))
+        }
+        Err(error) => (run.into_machine(), Err(error)),
+    }
+}

@@ -1,0 +1,112 @@
+//! Runs that begin, and that have ended.
+
+ghost use Rattle.std.specs.Prelude.{◌≡◌, ◌≤◌, [], ℕ, Bool, List, Some, map, length, slice_get, option_map};
+ghost use Rattle.std.specs.List.{AllByRecursion};
+ghost use Rattle.nm_types.specs.declared.request.Wanted.{Wanted};
+ghost use Rattle.nm_frames.specs.declared.job.CopyJob.{CopyJob as Job};
+ghost use Rattle.nm_laws.specs.Interleavings.{IsAtRest};
+ghost use Rattle.nm_laws.specs.Laws.{moves_all, with_moves};
+ghost use Rattle.nm_laws.specs.Moves.{IsPlanOf};
+ghost use Rattle.nm_model.specs.definitions.BeforeCopy.{PendingAccess as Pending, with_fronts, frames_taken, IsPending};
+ghost use Rattle.nm_model.specs.definitions.Decide.{Planned};
+ghost use Rattle.nm_model.specs.definitions.Events.{begun, held_by, laid_for};
+ghost use Rattle.nm_model.specs.definitions.Frames.{Store};
+ghost use Rattle.nm_model.specs.definitions.PageTables.{entry_at};
+ghost use Rattle.nm_model.specs.definitions.Run.{with_all_free, failures, with_counts};
+ghost use Rattle.nm_model.specs.definitions.RunMachine.{RunMachine, state_of};
+ghost use Rattle.nm_spaces.specs.definitions.Moves.{all_moved};
+ghost use Rattle.nm_spaces.specs.views.Held.{entry_here};
+ghost use Rattle.nm_memory.specs.definitions.AfterCopy.{CanDo};
+ghost use Rattle.nm_engine.specs.views.Flights.{AreOutIn, IsMoment, IsReadyFor, state_meanwhile};
+ghost use Rattle.nm_engine.specs.views.Spaces.{spaces_of};
+
+use crate::prepared_run::PreparedRun;
+use crate::run_in_flight::RunInFlight;
+use nm_frames::CopyJob;
+use nm_spaces::HeldSpaces;
+use nm_types::{Errno, Taken};
+use std::alloc::Allocator;
+
+impl<A: Allocator + Copy + Send + Sync> PreparedRun<A> {
+    /// Begins the run of these moves, whose frames are taken: every entry that names a frame that a page leaves is held,
+    /// on its way to the frame that the page takes, and the bytes of both frames go out, as the jobs of the crew. Does
+    /// not allocate.
+    pub(crate) fn begin(self, moves: &[Taken]) -> (RunInFlight<'_, A>, Vec<CopyJob<A>, A>)
+        requires ready { (target : ℕ) × IsReadyFor self target moves.now }
+        requires few { length moves.now ≤ self.room }
+
+        // The run
+        ensures entries { (store : Store) (pid v : ℕ) →
+            entry_at result.0.tables pid v
+            ≡ option_map (held_by (map (laid_for store) moves.now))
+            (entry_here (spaces_of self.state) pid v) }
+        ensures spaces { result.0.spaces ≡ all_moved (spaces_of self.state) moves.now }
+        ensures moves { result.0.moves ≡ moves.now }
+        ensures state { (target : ℕ) →
+            IsReadyFor self target moves.now →
+            state_meanwhile result.0 result.1.items
+            ≡ with_moves (with_fronts self.state target (frames_taken moves.now)) target moves.now }
+
+        // The run machine that has begun the same run
+        ensures event { (m : RunMachine) (target : ℕ) (wanted : List Wanted) (all : Bool) (p : Planned) →
+            IsAtRest m →
+            AllByRecursion (λ w. moves_all w ≡ all) wanted →
+            IsReadyFor self target moves.now →
+            state_of m ≡ with_fronts self.state target (frames_taken moves.now) →
+            IsPlanOf (state_of m) target wanted p →
+            p.taken ≡ moves.now →
+            IsMoment (begun m target wanted) result.0 result.1.items }
+
+        // Its jobs
+        ensures out { AreOutIn result.0 result.1.items }
+        ensures tickets { (t : ℕ) (job : Job _) → slice_get result.1.items t ≡ Some job → job.ticket ≡ t }
+
+        // What is left to do for accesses can be done meanwhile
+        ensures due { (d : Pending) →
+            IsPending (map (λ t. t.page) moves.now) self.state d →
+            CanDo result.0.spaces.place result.0.frames.frames d }
+    {
+        let mut frames = self.frames;
+        frames.vacate_each(moves);
+        let (frames, jobs) = frames.take_out(moves);
+        let run = RunInFlight {
+            spaces: HeldSpaces::hold(self.spaces, moves),
+            frames,
+            online: self.online,
+            totals: self.totals,
+            last_pin: self.last_pin,
+            alloc: self.alloc,
+            moves,
+        };
+        (run, jobs)
+    }
+
+    /// Ends a run: its moves and failures are counted, and the frames that its pages left become free. Returns the
+    /// number of failures.
+    pub(crate) fn end_run(&mut self, statuses: &[i32]) -> usize
+        ensures state { self.new.state
+            ≡ with_counts (with_all_free self.old.state self.old.left) (length self.old.left)
+            (failures statuses.now) }
+        ensures left { self.new.left ≡ [] }
+        ensures failed { result ≡ failures statuses.now }
+    {
+        let failed = failures(statuses);
+        let totals = self.totals;
+        let moved = self.frames.free_vacated() as u64;
+        self.totals = totals.after(moved, failed as u64);
+        failed
+    }
+}
+
+/// How many of these statuses are of failed requests: the page has a pin (EBUSY), or the target has no free frame
+/// (ENOMEM). This is what `pgmigrate_fail` of `/proc/vmstat` counts.
+fn failures(statuses: &[i32]) -> usize
+    ensures { result ≡ failures statuses.now }
+{
+    let pinned = -Errno::Ebusy.number();
+    let full = -Errno::Enomem.number();
+    statuses
+        .iter()
+        .filter(|status| **status == pinned || **status == full)
+        .count()
+}

@@ -1,0 +1,239 @@
+//! Runs whose pages are on their way.
+
+ghost use Rattle.std.specs.Prelude.{◌≡◌, ◌≤◌, [], ◌∷◌, ◌++◌, ℕ, List, IsSome, Some, true, map, length, slice_get, vec_len, vec_capacity};
+ghost use Rattle.std.specs.List.{AllByRecursion, list_all};
+ghost use Rattle.nm_frames.specs.Job.{copied};
+ghost use Rattle.nm_frames.specs.declared.job.CopyJob.{CopyJob as Job};
+ghost use Rattle.nm_types.specs.Map.{get, page_cmp};
+ghost use Rattle.nm_model.specs.definitions.Accesses.{accessed};
+ghost use Rattle.nm_model.specs.definitions.BeforeCopy.{all_after_copy, before_copy};
+ghost use Rattle.nm_model.specs.definitions.Events.{ended, is_given};
+ghost use Rattle.nm_model.specs.definitions.Run.{failures, frames_left, with_all_free, with_counts};
+ghost use Rattle.nm_model.specs.definitions.RunMachine.{RunMachine, state_of};
+ghost use Rattle.nm_model.specs.definitions.Touch.{Access};
+ghost use Rattle.nm_memory.specs.definitions.AfterCopy.{CanDo, all_stored_after_copy, answer_from_store, frame_at, store_after_copy};
+ghost use Rattle.nm_memory.specs.views.Accesses.{answer_shown, pending_shown, HasRoom};
+ghost use Rattle.nm_engine.specs.views.Flights.{AreOutIn, IsMoment, state_meanwhile, with_store};
+
+use crate::machine::{Machine, Totals};
+use crate::prepared_run::PreparedRun;
+use nm_crew::{Crew, Gate};
+use nm_frames::CopyJob;
+use nm_memory::{AccessAnswer, FramesInFlight, PendingAccess};
+use nm_spaces::HeldSpaces;
+use nm_types::{FrameId, NodeMask, Page, Pid, Taken, Vpn};
+use std::alloc::Allocator;
+use std::marker::Model;
+use std::sync::Wait;
+use std::thread::Threads;
+
+/// A run whose pages are on their way to other frames, with the whole machine. Whoever maps such a page, its entry is
+/// held, as it is in the kernel (Documentation/mm/page_migration.rst); the bytes of both frames of each move are out, in
+/// the jobs of the crew. Contracts see the page tables, what the address spaces are once the pages have arrived, and the
+/// frames with the bytes that are home.
+#[derive(Drop)]
+pub(crate) struct RunInFlight<'m, A: Allocator + Copy> {
+    pub(crate) spaces: HeldSpaces<A>,
+    pub(crate) frames: FramesInFlight<A>,
+    pub(crate) online: NodeMask,
+    pub(crate) totals: Totals,
+    pub(crate) last_pin: Option<(Pid, Vpn)>,
+    pub(crate) alloc: A,
+    pub(crate) moves: &'m [Taken],
+}
+
+impl<'m, A: Allocator + Copy> Model for RunInFlight<'m, A> {
+    ghost use Rattle.nm_engine.specs.views.Flights.{Flight, flight_of, IsUnderWay};
+
+    ghost Value = { Flight };
+
+    ghost view = { λ r. flight_of r.spaces r.frames r.online r.totals.moved r.totals.failed r.moves.now };
+
+    ghost invariant = { λ r. IsUnderWay (flight_of r.spaces r.frames r.online r.totals.moved r.totals.failed r.moves.now) };
+}
+
+impl<'m, A: Allocator + Copy> RunInFlight<'m, A> {
+    /// Does what is left to do for an access, whose touch is made, to a page that is not on its way. Does not allocate.
+    fn access(&mut self, due: PendingAccess<'_, A>) -> AccessAnswer<A>
+        requires due { CanDo self.old.spaces.place self.old.frames.frames (pending_shown due) }
+        requires room { HasRoom due }
+        ensures run { self.new
+            ≡ with_store self.old
+            (store_after_copy self.old.spaces.place self.old.frames.frames
+            (pending_shown due.entry)) }
+        ensures answer { answer_shown result
+            ≡ answer_from_store self.old.spaces.place self.old.frames.frames
+            (pending_shown due.entry) }
+
+        // The run machine that has made the same access
+        ensures event { (m : RunMachine) (a : Access) (jobs : List (Job A)) →
+            AreOutIn self.old jobs →
+            IsMoment m self.old jobs →
+            before_copy (state_of m) (map (λ t. t.page) self.old.moves) a
+            ≡ record { state = state_of m; due = pending_shown due.entry } →
+            IsMoment (accessed m a) self.new jobs
+            × ((accessed m a).answers ≡ m.answers ++ answer_shown result ∷ []) }
+    {
+        match due {
+            PendingAccess::Known(answer) => answer,
+            PendingAccess::Read {
+                page,
+                at,
+                len,
+                mut bytes,
+            } => {
+                let frame = self.frame_of(page);
+                self.frames.read(frame, at, len, &mut bytes);
+                AccessAnswer::Bytes(bytes)
+            }
+            PendingAccess::Write { page, at, bytes } => {
+                let frame = self.frame_of(page);
+                self.frames.write(frame, at, bytes);
+                AccessAnswer::Done
+            }
+        }
+    }
+
+    /// The frame of a page that has one.
+    fn frame_of(&self, page: Page) -> FrameId
+        requires { IsSome (get page_cmp self.now.spaces.place page) }
+        ensures { result ≡ frame_at self.now.spaces.place page }
+    {
+        let Some(frame) = self.spaces.place(page) else {
+            unreachable!()
+        };
+        frame
+    }
+
+    /// Does what is left to do for accesses, in order. The answers go into a list that has room for them. The gate is
+    /// called before each access.
+    fn answer_each<G: Gate>(
+        mut self,
+        dues: Vec<PendingAccess<'_, A>, A>,
+        mut answers: Vec<AccessAnswer<A>, A>,
+        gate: &G,
+    ) -> (Self, Vec<AccessAnswer<A>, A>)
+        // What is left to do
+        requires due { AllByRecursion (CanDo self.spaces.place self.frames.frames)
+            (map pending_shown dues.items) }
+        requires room { AllByRecursion HasRoom dues.items }
+
+        // The list for the answers
+        requires unanswered { answers.items ≡ [] }
+        requires space { vec_len dues ≤ vec_capacity answers }
+
+        // Afterwards
+        ensures run { result.0
+            ≡ with_store self.entry
+            (all_stored_after_copy self.entry.spaces.place self.entry.frames.frames
+            (map pending_shown dues.entry.items)).store }
+        ensures answers { map answer_shown result.1.items
+            ≡ (all_stored_after_copy self.entry.spaces.place self.entry.frames.frames
+            (map pending_shown dues.entry.items)).answers }
+    {
+        for due in dues {
+            gate.access(answers.len());
+            let answer = self.access(due);
+            answers.push_reserved(answer);
+        }
+        (self, answers)
+    }
+}
+
+impl<'m, A: Allocator + Copy + Send + Sync> RunInFlight<'m, A> {
+    /// Has a crew make the copies of the run, and meanwhile does what is left to do for accesses. The answers go into a
+    /// list that has room for them. Returns the run, the jobs, done, and the answers.
+    pub(crate) fn copy_beside<R: Threads + Wait + Sync, G: Gate + Sync>(
+        self,
+        crew: &Crew<R, G>,
+        jobs: Vec<CopyJob<A>, A>,
+        dues: Vec<PendingAccess<'_, A>, A>,
+        answers: Vec<AccessAnswer<A>, A>,
+    ) -> (Self, Vec<CopyJob<A>, A>, Vec<AccessAnswer<A>, A>)
+        // The jobs
+        requires out { AreOutIn self jobs.items }
+        requires tickets { (t : ℕ) (job : Job _) → slice_get jobs.items t ≡ Some job → job.ticket ≡ t }
+
+        // What is left to do
+        requires due { AllByRecursion (CanDo self.spaces.place self.frames.frames)
+            (map pending_shown dues.items) }
+        requires room { AllByRecursion HasRoom dues.items }
+
+        // The list for the answers
+        requires unanswered { answers.items ≡ [] }
+        requires space { vec_len dues ≤ vec_capacity answers }
+
+        // Afterwards
+        ensures jobs { result.1.items ≡ map copied jobs.items }
+        ensures out { AreOutIn result.0 result.1.items }
+        ensures moves { result.0.moves ≡ self.entry.moves }
+        ensures state { state_meanwhile result.0 result.1.items
+            ≡ (all_after_copy (state_meanwhile self.entry jobs.items) (map pending_shown dues.entry.items)).state }
+        ensures answers { map answer_shown result.2.items
+            ≡ (all_after_copy (state_meanwhile self.entry jobs.items) (map pending_shown dues.entry.items)).answers }
+    {
+        let gate = crew.gate();
+        let alloc = self.alloc;
+        let run = self;
+        let (jobs, (run, answers)) = crew.copy_while(
+            alloc,
+            jobs,
+            move || -> (RunInFlight<A>, Vec<AccessAnswer<A>, A>)
+                requires due { AllByRecursion (CanDo run.spaces.place run.frames.frames)
+                    (map pending_shown dues.items) }
+                requires room { AllByRecursion HasRoom dues.items }
+                requires unanswered { answers.items ≡ [] }
+                requires space { vec_len dues ≤ vec_capacity answers }
+                ensures run { result.0
+                    ≡ with_store run.entry
+                    (all_stored_after_copy run.entry.spaces.place run.entry.frames.frames
+                    (map pending_shown dues.entry.items)).store }
+                ensures answers { map answer_shown result.1.items
+                    ≡ (all_stored_after_copy run.entry.spaces.place run.entry.frames.frames
+                    (map pending_shown dues.entry.items)).answers }
+            { run.answer_each(dues, answers, gate) },
+        );
+        (run, jobs, answers)
+    }
+
+    /// Ends the run: the bytes of its jobs, which are done, are home again, each held entry names the frame that its page
+    /// was on its way to, the frames that the pages have left become free, in the order of the moves, and the moves and
+    /// failures are counted. Returns the machine and the number of failures. Does not allocate.
+    pub(crate) fn finish(self, jobs: Vec<CopyJob<A>, A>, statuses: &[i32]) -> (Machine<A>, usize)
+        requires out { AreOutIn self jobs.items }
+        requires done { map copied jobs.items ≡ jobs.items }
+        ensures state { result.0
+            ≡ with_counts (with_all_free (state_meanwhile self.entry jobs.items) (frames_left self.entry.moves))
+            (length self.entry.moves) (failures statuses.now) }
+        ensures failed { result.1 ≡ failures statuses.now }
+
+        // The run machine that has ended the same run
+        ensures event { (m : RunMachine) →
+            IsMoment m self.entry jobs.items →
+            list_all (λ job. is_given job.stage) m.jobs ≡ true →
+            m.statuses ≡ statuses.now →
+            state_of (ended m) ≡ result.0 }
+    {
+        let mut run = self.arrive(jobs);
+        let failed = run.end_run(statuses);
+        (run.into_machine(), failed)
+    }
+
+    /// Lets the pages arrive: the bytes of the jobs, which are done, are home again, and each held entry names the frame
+    /// that its page was on its way to. Does not allocate.
+    fn arrive(self, jobs: Vec<CopyJob<A>, A>) -> PreparedRun<A>
+        requires out { AreOutIn self jobs.items }
+        requires done { map copied jobs.items ≡ jobs.items }
+        ensures state { result.state ≡ state_meanwhile self.entry jobs.items }
+        ensures left { result.left ≡ frames_left self.entry.moves }
+    {
+        PreparedRun {
+            spaces: self.spaces.settle(self.moves),
+            frames: self.frames.put_back(jobs),
+            online: self.online,
+            totals: self.totals,
+            last_pin: self.last_pin,
+            alloc: self.alloc,
+        }
+    }
+}
