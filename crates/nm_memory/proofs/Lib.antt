@@ -1,4 +1,5 @@
 pub mod AfterCopy
+pub mod Boxed
 pub mod Copies
 pub mod FreeLists
 pub mod Shelves

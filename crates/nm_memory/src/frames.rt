@@ -32,14 +32,20 @@ use std::marker::Model;
 /// How many frames get their bytes in memory at once. So many are 64 KiB.
 const POPULATED_TOGETHER: u16 = 16;
 
-/// The frames of all nodes with their bytes, each node's free frames, and the frames that a run's pages have left and
-/// that become free when it ends.
+/// What frames are made of, but for the list of jobs.
 #[derive(Drop)]
-pub struct Frames<A: Allocator + Copy> {
+struct FrameParts<A: Allocator + Copy> {
     geometry: Geometry<A>,
     frames: FrameStore<A>,
     nodes: NodePool<A>,
     vacated: Vec<FrameId, A>,
+}
+
+/// The frames of all nodes with their bytes, each node's free frames, and the frames that a run's pages have left and
+/// that become free when it ends. All but the list of jobs is in one box, so that a move copies little.
+#[derive(Drop)]
+pub struct Frames<A: Allocator + Copy> {
+    parts: Box<FrameParts<A>, A>,
     jobs: Vec<CopyJob<A>, A>,
 }
 
@@ -52,20 +58,20 @@ impl<A: Allocator + Copy> Model for Frames<A> {
     ghost Value = { FramesView };
 
     ghost view = { λ s. record {
-      layout = s.geometry;
-      frames = s.frames;
-      free = s.nodes.lists;
-      vacated = s.vacated.items;
-      room = min (vec_capacity s.vacated) (vec_capacity s.jobs);
+      layout = s.parts.value.geometry;
+      frames = s.parts.value.frames;
+      free = s.parts.value.nodes.lists;
+      vacated = s.parts.value.vacated.items;
+      room = min (vec_capacity s.parts.value.vacated) (vec_capacity s.jobs);
     } };
 
-    ghost invariant = { λ s. (s.nodes.sizes ≡ s.geometry.sizes) × HasAllFrames (record {
-      layout = s.geometry;
-      frames = s.frames;
-      free = s.nodes.lists;
-      vacated = s.vacated.items;
-      room = min (vec_capacity s.vacated) (vec_capacity s.jobs);
-    }) × (s.jobs.items ≡ []) × AllByRecursion (IsPopulated s.frames) s.vacated.items };
+    ghost invariant = { λ s. (s.parts.value.nodes.sizes ≡ s.parts.value.geometry.sizes) × HasAllFrames (record {
+      layout = s.parts.value.geometry;
+      frames = s.parts.value.frames;
+      free = s.parts.value.nodes.lists;
+      vacated = s.parts.value.vacated.items;
+      room = min (vec_capacity s.parts.value.vacated) (vec_capacity s.jobs);
+    }) × (s.jobs.items ≡ []) × AllByRecursion (IsPopulated s.parts.value.frames) s.parts.value.vacated.items };
 }
 
 impl<A: Allocator + Copy> Frames<A> {
@@ -79,11 +85,17 @@ impl<A: Allocator + Copy> Frames<A> {
     {
         let frames = FrameStore::new(alloc, geometry.frame_count())?;
         let nodes = NodePool::new(alloc, &geometry)?;
+        let parts = Box::new(
+            alloc,
+            FrameParts {
+                geometry,
+                frames,
+                nodes,
+                vacated: Vec::new(alloc),
+            },
+        )?;
         Ok(Frames {
-            geometry,
-            frames,
-            nodes,
-            vacated: Vec::new(alloc),
+            parts,
             jobs: Vec::new(alloc),
         })
     }
@@ -92,7 +104,8 @@ impl<A: Allocator + Copy> Frames<A> {
     pub fn geometry(&self) -> &Geometry<A>
         ensures { result.now ≡ self.now.layout }
     {
-        &self.geometry
+        let parts = &*self.parts;
+        &parts.geometry
     }
 
     /// How many nodes there are: 1 to 64.
@@ -101,15 +114,17 @@ impl<A: Allocator + Copy> Frames<A> {
         ensures few { result ≤ 64 }
         ensures others { (node : ℕ) → result ≤ node → has_free self.now.free node ≡ false }
     {
-        self.geometry.node_count()
+        let parts = &*self.parts;
+        parts.geometry.node_count()
     }
 
     /// How many free frames a node has. 0 if there is no such node.
     pub(crate) fn free_count(&self, node: NodeId) -> usize
         ensures { result ≡ length (free_on self.now node) }
     {
+        let parts = &*self.parts;
         if node.index() < self.node_count() {
-            self.nodes.free_count(node)
+            parts.nodes.free_count(node)
         } else {
             0
         }
@@ -142,7 +157,8 @@ impl<A: Allocator + Copy> Frames<A> {
         ensures frames { IfOk result (λ frames. frames.items ≡ free_on self.now node) }
         ensures asked { OnErr result (0 < length (free_on self.now node)) }
     {
-        front_of(alloc, &self.nodes, node, self.nodes.free_count(node))
+        let parts = &*self.parts;
+        front_of(alloc, &parts.nodes, node, parts.nodes.free_count(node))
     }
 
     /// The first `count` free frames of a node, or all if there are fewer: borrowed where they lie in one piece, else as
@@ -158,8 +174,9 @@ impl<A: Allocator + Copy> Frames<A> {
             (λ frames. cow_slice_items frames ≡ take count (free_on self.now node)) }
         ensures asked { OnErr result (1 < min count (length (free_on self.now node))) }
     {
-        let count = count.min(self.nodes.free_count(node));
-        front_in_place(alloc, &self.nodes, node, count)
+        let parts = &*self.parts;
+        let count = count.min(parts.nodes.free_count(node));
+        front_in_place(alloc, &parts.nodes, node, count)
     }
 
     /// The front of a node's free list. None if the list is empty.
@@ -168,7 +185,8 @@ impl<A: Allocator + Copy> Frames<A> {
         ensures front { result ≡ slice_get (free_on self.now node) 0 }
         ensures shelf { HasAllFrames self.now }
     {
-        self.nodes.nth(node, 0)
+        let parts = &*self.parts;
+        parts.nodes.nth(node, 0)
     }
 
     /// Takes the front of a node's free list. None if the list is empty.
@@ -182,7 +200,8 @@ impl<A: Allocator + Copy> Frames<A> {
             } }
         ensures shelf { HasAllFrames self.old }
     {
-        self.nodes.take_front(node)
+        let parts = &mut *self.parts;
+        parts.nodes.take_front(node)
     }
 
     /// Appends `len` bytes of a frame, from index `at` on, to a list that has room for them.
@@ -193,7 +212,8 @@ impl<A: Allocator + Copy> Frames<A> {
         ensures { bytes.new.items
             ≡ bytes.old.items ++ stretch_of (bytes_of self.now.frames frame) at len }
     {
-        copy_bytes(&self.frames, frame, at, len, bytes);
+        let parts = &*self.parts;
+        copy_bytes(&parts.frames, frame, at, len, bytes);
     }
 
     /// Gives a frame its bytes in memory, unless it has them. An error means that the host is out of memory, and that the
@@ -206,7 +226,8 @@ impl<A: Allocator + Copy> Frames<A> {
         ensures absent { OnErr result (IsPopulated self.old.frames frame → ⊥) }
         ensures shelf { HasAllFrames self.new }
     {
-        populate(&mut self.frames, alloc, frame)
+        let parts = &mut *self.parts;
+        populate(&mut parts.frames, alloc, frame)
     }
 
     /// Gives the frames that pages of moves take their bytes in memory, as far as they lack them. An error means that the
@@ -222,7 +243,8 @@ impl<A: Allocator + Copy> Frames<A> {
             (AllByRecursion (IsPopulated self.old.frames) (frames_taken moves.now) → ⊥) }
         ensures shelf { HasAllFrames self.new }
     {
-        populate_each(&mut self.frames, alloc, moves)
+        let parts = &mut *self.parts;
+        populate_each(&mut parts.frames, alloc, moves)
     }
 
     /// Overwrites the bytes of a frame from index `at` on.
@@ -237,7 +259,8 @@ impl<A: Allocator + Copy> Frames<A> {
             } }
         ensures shelf { HasAllFrames self.old }
     {
-        self.frames.write(frame, at, bytes);
+        let parts = &mut *self.parts;
+        parts.frames.write(frame, at, bytes);
     }
 
     /// Sets all bytes of a frame to zero.
@@ -250,7 +273,8 @@ impl<A: Allocator + Copy> Frames<A> {
                   (Some (replicate 4096 0));
             } }
     {
-        self.frames.zero(frame);
+        let parts = &mut *self.parts;
+        parts.frames.zero(frame);
     }
 
     /// Reserves room for `count` moves of a run. An error means that the host is out of memory, and that there was less room.
@@ -260,8 +284,9 @@ impl<A: Allocator + Copy> Frames<A> {
         ensures asked { OnErr result (0 < length self.old.vacated + count) }
         ensures full { OnErr result (self.old.room < length self.old.vacated + count) }
     {
-        self.vacated.reserve(count)?;
-        self.jobs.reserve(self.vacated.len() + count)
+        let parts = &mut *self.parts;
+        parts.vacated.reserve(count)?;
+        self.jobs.reserve(parts.vacated.len() + count)
     }
 
     /// Takes `count` frames from the front of a node's list, or all if there are fewer: they belong to a run until its
@@ -278,7 +303,8 @@ impl<A: Allocator + Copy> Frames<A> {
             } }
         ensures shelf { HasAllFrames self.old }
     {
-        self.nodes.take_many(node, count, &mut self.vacated);
+        let parts = &mut *self.parts;
+        parts.nodes.take_many(node, count, &mut parts.vacated);
     }
 
     /// Puts the frames taken for these moves back at the front of the list of the node that they came from.
@@ -293,8 +319,9 @@ impl<A: Allocator + Copy> Frames<A> {
             } }
         ensures shelf { HasAllFrames self.old }
     {
-        self.vacated.clear();
-        return_tos(&mut self.nodes, node, moves);
+        let parts = &mut *self.parts;
+        parts.vacated.clear();
+        return_tos(&mut parts.nodes, node, moves);
     }
 
     /// Lets the pages of these moves leave their frames, which become free when the run ends, for those taken for them.
@@ -305,8 +332,9 @@ impl<A: Allocator + Copy> Frames<A> {
         ensures populated { AllByRecursion (IsPopulated self.old.frames) self.old.vacated }
         ensures shelf { HasAllFrames self.old }
     {
-        self.vacated.clear();
-        push_left(&mut self.vacated, moves);
+        let parts = &mut *self.parts;
+        parts.vacated.clear();
+        push_left(&mut parts.vacated, moves);
     }
 
     /// Frees the frames that the pages of this run have left, in order, each at the end of its own node's list, and
@@ -317,9 +345,10 @@ impl<A: Allocator + Copy> Frames<A> {
         ensures freed { self.new ≡ all_freed self.old }
         ensures count { result ≡ length self.old.vacated }
     {
-        let count = self.vacated.len();
-        free_frames(&mut self.nodes, self.vacated.as_slice());
-        self.vacated.clear();
+        let parts = &mut *self.parts;
+        let count = parts.vacated.len();
+        free_frames(&mut parts.nodes, parts.vacated.as_slice());
+        parts.vacated.clear();
         count
     }
 
@@ -328,7 +357,8 @@ impl<A: Allocator + Copy> Frames<A> {
         requires { CanFree (pool_of self.old) (frame ∷ []) }
         ensures { self.new ≡ record (self.old) { free = (appended (pool_of self.old) frame).lists } }
     {
-        self.nodes.append(frame);
+        let parts = &mut *self.parts;
+        parts.nodes.append(frame);
     }
 
     /// Frees a frame, at the front of its own node's list. Does not allocate.
@@ -336,7 +366,8 @@ impl<A: Allocator + Copy> Frames<A> {
         requires { CanFree (pool_of self.old) (frame ∷ []) }
         ensures { self.new ≡ record (self.old) { free = (prepended (pool_of self.old) frame).lists } }
     {
-        self.nodes.prepend(frame);
+        let parts = &mut *self.parts;
+        parts.nodes.prepend(frame);
     }
 
     /// Whether each frame is in exactly one place: its own node's list, or the places of pages.
@@ -344,8 +375,9 @@ impl<A: Allocator + Copy> Frames<A> {
         ensures { IfOk result
             (λ b. b ≡ is_audited self.now.layout (numbered 0 self.now.free) places.now) }
     {
-        let free = audit::free_frames(alloc, &self.nodes, self.node_count())?;
-        audit::is_each_once(alloc, &self.geometry, free.as_slice(), places)
+        let parts = &*self.parts;
+        let free = audit::free_frames(alloc, &parts.nodes, self.node_count())?;
+        audit::is_each_once(alloc, &parts.geometry, free.as_slice(), places)
     }
 
     /// Takes the bytes of both frames of each move out, as jobs in the order of the moves, numbered from 0. Does not
@@ -369,20 +401,11 @@ impl<A: Allocator + Copy> Frames<A> {
         ensures vacated { AllByRecursion (IsPopulated self.frames) self.vacated }
     {
         let Frames {
-            geometry,
-            mut frames,
-            nodes,
-            vacated,
+            mut parts,
             mut jobs,
         } = self;
-        take_out_each(&mut frames, moves, &mut jobs);
-        let rest = FramesInFlight {
-            geometry,
-            frames,
-            nodes,
-            vacated,
-        };
-        (rest, jobs)
+        take_out_each(&mut parts.frames, moves, &mut jobs);
+        (FramesInFlight { parts }, jobs)
     }
 }
 

@@ -9,10 +9,9 @@ ghost use Rattle.nm_model.specs.definitions.Memory.{stretch_of};
 ghost use Rattle.nm_memory.specs.views.Copies.{CanCopy, HasBoth, emptied, jobs_of, refilled, CanRefill};
 ghost use Rattle.nm_memory.specs.views.Frames.{HasAllPlaces};
 
-use crate::frames::{Frames, copy_bytes};
+use crate::frames::{FrameParts, Frames, copy_bytes};
 use nm_frames::{CopyJob, FrameStore};
-use nm_nodes::NodePool;
-use nm_types::{FrameId, Geometry, Taken};
+use nm_types::{FrameId, Taken};
 use std::alloc::Allocator;
 use std::marker::Model;
 
@@ -21,10 +20,7 @@ use std::marker::Model;
 /// room for.
 #[derive(Drop)]
 pub struct FramesInFlight<A: Allocator + Copy> {
-    pub(super) geometry: Geometry<A>,
-    pub(super) frames: FrameStore<A>,
-    pub(super) nodes: NodePool<A>,
-    pub(super) vacated: Vec<FrameId, A>,
+    pub(super) parts: Box<FrameParts<A>, A>,
 }
 
 impl<A: Allocator + Copy> Model for FramesInFlight<A> {
@@ -34,19 +30,19 @@ impl<A: Allocator + Copy> Model for FramesInFlight<A> {
     ghost Value = { FramesView };
 
     ghost view = { λ s. record {
-      layout = s.geometry;
-      frames = s.frames;
-      free = s.nodes.lists;
-      vacated = s.vacated.items;
-      room = vec_capacity s.vacated;
+      layout = s.parts.value.geometry;
+      frames = s.parts.value.frames;
+      free = s.parts.value.nodes.lists;
+      vacated = s.parts.value.vacated.items;
+      room = vec_capacity s.parts.value.vacated;
     } };
 
-    ghost invariant = { λ s. (s.nodes.sizes ≡ s.geometry.sizes) × HasAllPlaces (record {
-      layout = s.geometry;
-      frames = s.frames;
-      free = s.nodes.lists;
-      vacated = s.vacated.items;
-      room = vec_capacity s.vacated;
+    ghost invariant = { λ s. (s.parts.value.nodes.sizes ≡ s.parts.value.geometry.sizes) × HasAllPlaces (record {
+      layout = s.parts.value.geometry;
+      frames = s.parts.value.frames;
+      free = s.parts.value.nodes.lists;
+      vacated = s.parts.value.vacated.items;
+      room = vec_capacity s.parts.value.vacated;
     }) };
 }
 
@@ -59,7 +55,8 @@ impl<A: Allocator + Copy> FramesInFlight<A> {
         ensures { bytes.new.items
             ≡ bytes.old.items ++ stretch_of (bytes_of self.now.frames frame) at len }
     {
-        copy_bytes(&self.frames, frame, at, len, bytes);
+        let parts = &*self.parts;
+        copy_bytes(&parts.frames, frame, at, len, bytes);
     }
 
     /// Overwrites the bytes of a frame that is home from index `at` on.
@@ -74,7 +71,8 @@ impl<A: Allocator + Copy> FramesInFlight<A> {
             } }
         ensures places { HasAllPlaces self.old }
     {
-        self.frames.write(frame, at, bytes);
+        let parts = &mut *self.parts;
+        parts.frames.write(frame, at, bytes);
     }
 
     /// Puts the bytes of the jobs back home, and with that ends the flight. Does not allocate: the list of the jobs, empty
@@ -92,18 +90,10 @@ impl<A: Allocator + Copy> FramesInFlight<A> {
             } }
         ensures room { result.room ≡ min self.room (vec_capacity copied) }
     {
-        let FramesInFlight {
-            geometry,
-            mut frames,
-            nodes,
-            vacated,
-        } = self;
-        put_back_each(&mut frames, &mut copied);
+        let FramesInFlight { mut parts } = self;
+        put_back_each(&mut parts.frames, &mut copied);
         Frames {
-            geometry,
-            frames,
-            nodes,
-            vacated,
+            parts,
             jobs: copied,
         }
     }

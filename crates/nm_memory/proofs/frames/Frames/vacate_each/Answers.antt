@@ -3,17 +3,20 @@ use Rattle.std.specs.List.{AllByRecursion}
 use Rattle.nm_frames.specs.Populated.{IsPopulated}
 use Rattle.nm_memory.specs.views.Frames.{FramesView, HasAllFrames}
 use Rattle.nm_model.specs.definitions.Run.{frames_left}
+use Rattle.nm_memory.proofs.Boxed.{seen, held}
 use Rattle.nm_memory.proofs.frames.Frames.vacate_each.Goals as goal
 
 pub invariant_of-self : goal.invariant_of-self
 invariant_of-self g c =
-    let shelf = c.self.invariant.1 in
-    let k = c.self.inside in
+    let own = held c.self.inside.jobs c.deref_mut-parts.ensures.value c.self.invariant in
+    let shown = seen c.self.inside.jobs c.deref_mut-parts.ensures.value c.self.view_is in
+    let shelf = own.1 in
+    let k = c.deref_mut-parts.result.now in
     let items = c.push_left.ensures.items ∙ ap (λ xs. xs ++ frames_left c.args.moves.now) c.clear.ensures.items in (
-      c.self.invariant.0,
+      own.0,
       record { lists = shelf.lists; buffers = shelf.buffers; home = shelf.home },
-      c.self.invariant.2,
-      subst (AllByRecursion (IsPopulated k.frames)) (sym items) (subst (λ (v : FramesView). AllByRecursion (IsPopulated v.frames) (frames_left c.args.moves.now)) (sym c.self.view_is) c.requires.populated),
+      own.2,
+      subst (AllByRecursion (IsPopulated k.frames)) (sym items) (subst (λ (v : FramesView). AllByRecursion (IsPopulated v.frames) (frames_left c.args.moves.now)) (sym shown) c.requires.populated),
     )
 
 pub returns-clause-populated : goal.returns-clause-populated
@@ -24,15 +27,15 @@ returns-clause-shelf g c = subst HasAllFrames c.self.view_is c.self.invariant.1
 
 pub push_left-requires : goal.push_left-requires
 push_left-requires g c =
-    let fits = subst (λ (v : FramesView). length c.args.moves.now ≤ v.room) (sym c.self.view_is) c.requires.room in
+    let fits = subst (λ (v : FramesView). length c.args.moves.now ≤ v.room) (sym (seen c.self.inside.jobs c.deref_mut-parts.ensures.value c.self.view_is)) c.requires.room in
     omega (arith, fits, c.clear.ensures.len, c.clear.ensures.capacity)
 
 pub returns-clause-vacated : goal.returns-clause-vacated
 returns-clause-vacated g c =
-    let k = c.self.inside in
+    let k = c.deref_mut-parts.result.now in
     let moves = c.args.moves.now in
-    let fields : List ℕ → ℕ → FramesView = λ vacated room. record { layout = k.geometry; frames = k.frames; free = k.nodes.lists; vacated = vacated; room = min room (vec_capacity k.jobs) } in
+    let fields : List ℕ → ℕ → FramesView = λ vacated room. record { layout = k.geometry; frames = k.frames; free = k.nodes.lists; vacated = vacated; room = min room (vec_capacity c.self.inside.jobs) } in
     let items = c.push_left.ensures.items ∙ ap (λ xs. xs ++ frames_left moves) c.clear.ensures.items in
     ap (λ vacated. fields vacated (vec_capacity c.push_left.new.vacated)) items
     ∙ ap (fields (frames_left moves)) (c.push_left.ensures.room ∙ c.clear.ensures.capacity)
-    ∙ ap (λ (v : FramesView). record v { vacated = frames_left moves }) c.self.view_is
+    ∙ ap (λ (v : FramesView). record v { vacated = frames_left moves }) (seen c.self.inside.jobs c.deref_mut-parts.ensures.value c.self.view_is)

@@ -7,22 +7,27 @@ use Rattle.nm_memory.specs.views.Frames.{FramesView}
 use Rattle.nm_memory.proofs.Copies.Populated.{all_set}
 use Rattle.nm_model.specs.definitions.Frames.{Store}
 use Rattle.nm_memory.proofs.Shelves.{seen_home, bytes_set, frames_changed}
+use Rattle.nm_memory.proofs.Boxed.{seen, held}
 use Rattle.nm_memory.proofs.frames.Frames.zero.Goals as goal
 
 pub zero-requires-clause-home : goal.zero-requires-clause-home
-zero-requires-clause-home g c = seen_home _ c.args.self.now c.args.frame c.self.view_is c.self.invariant.1 c.requires.frame
+zero-requires-clause-home g c =
+    let own = held c.self.inside.jobs c.deref_mut-parts.ensures.value c.self.invariant in
+    let shown = seen c.self.inside.jobs c.deref_mut-parts.ensures.value c.self.view_is in
+    seen_home _ c.args.self.now c.args.frame shown own.1 c.requires.frame
 
 pub zero-requires-clause-populated : goal.zero-requires-clause-populated
-zero-requires-clause-populated g c = subst (λ (v : FramesView). IsPopulated v.frames c.args.frame) (sym c.self.view_is) c.requires.populated
+zero-requires-clause-populated g c = subst (λ (v : FramesView). IsPopulated v.frames c.args.frame) (sym (seen c.self.inside.jobs c.deref_mut-parts.ensures.value c.self.view_is)) c.requires.populated
 
 pub invariant_of-self : goal.invariant_of-self
-invariant_of-self g c = (
-  c.self.invariant.0,
-  bytes_set _ c.zero.new.self c.args.frame _ c.zero.ensures c.self.invariant.1,
-  c.self.invariant.2,
-  subst (λ (s : Store). AllByRecursion (IsPopulated s) c.self.inside.vacated.items) (sym c.zero.ensures)
-      (all_set c.self.inside.vacated.items c.self.inside.frames c.args.frame (replicate 4096 0) (length-replicate {A = ℕ} 4096 0) c.self.invariant.3),
-)
+invariant_of-self g c =
+    let own = held c.self.inside.jobs c.deref_mut-parts.ensures.value c.self.invariant in (
+      own.0,
+      bytes_set _ c.zero.new.self c.args.frame _ c.zero.ensures own.1,
+      own.2,
+      subst (λ (s : Store). AllByRecursion (IsPopulated s) c.deref_mut-parts.result.now.vacated.items) (sym c.zero.ensures)
+          (all_set c.deref_mut-parts.result.now.vacated.items c.deref_mut-parts.result.now.frames c.args.frame (replicate 4096 0) (length-replicate {A = ℕ} 4096 0) own.3),
+    )
 
 pub returns : goal.returns
-returns g c = frames_changed (λ (s : Store). slice_set s c.args.frame (Some (replicate 4096 0))) _ c.args.self.now c.zero.new.self c.self.view_is c.zero.ensures
+returns g c = frames_changed (λ (s : Store). slice_set s c.args.frame (Some (replicate 4096 0))) _ c.args.self.now c.zero.new.self (seen c.self.inside.jobs c.deref_mut-parts.ensures.value c.self.view_is) c.zero.ensures

@@ -7,22 +7,25 @@ use Rattle.nm_model.specs.definitions.Frames.{Store, IsHome}
 use Rattle.nm_memory.specs.views.Copies.{CanRefill, refilled}
 use Rattle.nm_memory.specs.views.Frames.{FramesView}
 use Rattle.nm_memory.proofs.Copies.Copied.{back_as_many}
+use Rattle.nm_memory.proofs.Boxed.{seen_alone, held_alone}
 use Rattle.nm_memory.proofs.frames.in_flight.FramesInFlight.put_back.Goals as goal
 
 pub put_back_each-requires : goal.put_back_each-requires
-put_back_each-requires g c = subst (λ (v : FramesView). CanRefill v.frames c.args.copied.items) (sym c.self.view_is) c.requires.can
+put_back_each-requires g c = subst (λ (v : FramesView). CanRefill v.frames c.args.copied.items) (sym (seen_alone c.deref_mut.ensures.value c.self.view_is)) c.requires.can
 
 pub invariant_of-result : goal.invariant_of-result
 invariant_of-result g c =
-    let k = c.self.inside in
+    let own = held_alone c.deref_mut.ensures.value c.self.invariant in
+    let shown = seen_alone c.deref_mut.ensures.value c.self.view_is in
+    let k = c.deref_mut.result.now in
     let copied = c.args.copied.items in
     let is = c.put_back_each.ensures.frames in
-    let homes = subst (λ (v : FramesView). (f : _) → f < frame_count v.layout → IsHome (refilled v.frames copied) f) (sym c.self.view_is) c.requires.home in
-    let whole = subst (λ (v : FramesView). AllByRecursion (IsPopulated (refilled v.frames copied)) v.vacated) (sym c.self.view_is) c.requires.populated in (
-      c.self.invariant.0,
+    let homes = subst (λ (v : FramesView). (f : _) → f < frame_count v.layout → IsHome (refilled v.frames copied) f) (sym shown) c.requires.home in
+    let whole = subst (λ (v : FramesView). AllByRecursion (IsPopulated (refilled v.frames copied)) v.vacated) (sym shown) c.requires.populated in (
+      own.0,
       record {
-        lists = c.self.invariant.1.lists;
-        buffers = ap (λ (s : Store). length s) is ∙ back_as_many copied k.frames ∙ c.self.invariant.1.buffers;
+        lists = own.1.lists;
+        buffers = ap (λ (s : Store). length s) is ∙ back_as_many copied k.frames ∙ own.1.buffers;
         home = λ f below. subst (λ (s : Store). IsHome s f) (sym is) (homes f below);
       },
       c.put_back_each.ensures.empty,
@@ -31,12 +34,12 @@ invariant_of-result g c =
 
 pub returns-clause-frames : goal.returns-clause-frames
 returns-clause-frames g c =
-    let k = c.self.inside in
+    let k = c.deref_mut.result.now in
     let copied = c.args.copied.items in
     let room = min (vec_capacity k.vacated) (vec_capacity c.put_back_each.new.jobs) in
     let fields : Store → FramesView = λ s. record { layout = k.geometry; frames = s; free = k.nodes.lists; vacated = k.vacated.items; room = room } in
-    ap fields c.put_back_each.ensures.frames ∙ ap (λ (v : FramesView). record v { frames = refilled v.frames copied; room = room }) c.self.view_is
+    ap fields c.put_back_each.ensures.frames ∙ ap (λ (v : FramesView). record v { frames = refilled v.frames copied; room = room }) (seen_alone c.deref_mut.ensures.value c.self.view_is)
 
 pub returns-clause-room : goal.returns-clause-room
 returns-clause-room g c =
-    ap (min (vec_capacity c.self.inside.vacated)) c.put_back_each.ensures.room ∙ ap (λ (v : FramesView). min v.room (vec_capacity c.args.copied)) c.self.view_is
+    ap (min (vec_capacity c.deref_mut.result.now.vacated)) c.put_back_each.ensures.room ∙ ap (λ (v : FramesView). min v.room (vec_capacity c.args.copied)) (seen_alone c.deref_mut.ensures.value c.self.view_is)

@@ -4,31 +4,33 @@ use Rattle.nm_frames.specs.Populated.{IsPopulated}
 use Rattle.nm_model.specs.definitions.Frames.{Store, IsHome, bytes_of, overwrite}
 use Rattle.nm_memory.specs.views.Frames.{FramesView, HasAllPlaces}
 use Rattle.nm_memory.proofs.Shelves.{frames_changed}
+use Rattle.nm_memory.proofs.Boxed.{seen_alone, held_alone}
 use Rattle.nm_memory.proofs.frames.in_flight.FramesInFlight.write.Goals as goal
 
 pub write-requires-clause-home : goal.write-requires-clause-home
-write-requires-clause-home g c = subst (λ (v : FramesView). IsHome v.frames c.args.frame) (sym c.self.view_is) c.requires.home
+write-requires-clause-home g c = subst (λ (v : FramesView). IsHome v.frames c.args.frame) (sym (seen_alone c.deref_mut-parts.ensures.value c.self.view_is)) c.requires.home
 
 pub write-requires-clause-populated : goal.write-requires-clause-populated
-write-requires-clause-populated g c = subst (λ (v : FramesView). IsPopulated v.frames c.args.frame) (sym c.self.view_is) c.requires.populated
+write-requires-clause-populated g c = subst (λ (v : FramesView). IsPopulated v.frames c.args.frame) (sym (seen_alone c.deref_mut-parts.ensures.value c.self.view_is)) c.requires.populated
 
 pub write-requires-clause-inside : goal.write-requires-clause-inside
 write-requires-clause-inside g c = c.requires.inside
 
 pub invariant_of-self : goal.invariant_of-self
 invariant_of-self g c =
-    let k = c.self.inside in
+    let own = held_alone c.deref_mut-parts.ensures.value c.self.invariant in
+    let k = c.deref_mut-parts.result.now in
     let bytes = overwrite (bytes_of k.frames c.args.frame) c.args.at c.args.bytes.now in (
-      c.self.invariant.0,
+      own.0,
       record {
-        lists = c.self.invariant.1.lists;
-        buffers = ap (λ (s : Store). length s) c.write.ensures ∙ length-set k.frames c.args.frame (Some bytes) ∙ c.self.invariant.1.buffers;
+        lists = own.1.lists;
+        buffers = ap (λ (s : Store). length s) c.write.ensures ∙ length-set k.frames c.args.frame (Some bytes) ∙ own.1.buffers;
       },
     )
 
 pub returns-clause-written : goal.returns-clause-written
 returns-clause-written g c =
-    frames_changed (λ (s : Store). slice_set s c.args.frame (Some (overwrite (bytes_of s c.args.frame) c.args.at c.args.bytes.now))) _ c.args.self.now c.write.new.self c.self.view_is c.write.ensures
+    frames_changed (λ (s : Store). slice_set s c.args.frame (Some (overwrite (bytes_of s c.args.frame) c.args.at c.args.bytes.now))) _ c.args.self.now c.write.new.self (seen_alone c.deref_mut-parts.ensures.value c.self.view_is) c.write.ensures
 
 pub returns-clause-places : goal.returns-clause-places
 returns-clause-places g c = subst HasAllPlaces c.self.view_is c.self.invariant.1
