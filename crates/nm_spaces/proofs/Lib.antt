@@ -1,3 +1,4 @@
+pub mod Boxed
 pub mod Held
 pub mod Moves
 pub mod ProcessTable

@@ -40,6 +40,12 @@ pub struct PlacedSight {
 /// and its pins. Contracts see what each process sees, page by page.
 #[derive(Drop)]
 pub struct AddressSpaces<A: Allocator + Copy> {
+    parts: Box<SpaceParts<A>, A>,
+}
+
+/// What address spaces are made of. It is in one box, so that a move of address spaces copies a pointer.
+#[derive(Drop)]
+pub(crate) struct SpaceParts<A: Allocator + Copy> {
     pub(crate) tasks: ProcessTable<A>,
     pub(crate) areas: Areas<A>,
     pub(crate) rmap: ReverseMap<A>,
@@ -51,9 +57,9 @@ impl<A: Allocator + Copy> Model for AddressSpaces<A> {
 
     ghost Value = { AddressSpacesView };
 
-    ghost view = { λ s. spaces_view s.tasks s.areas s.rmap };
+    ghost view = { λ s. spaces_view s.parts.value.tasks s.parts.value.areas s.parts.value.rmap };
 
-    ghost invariant = { λ s. IsTied s.tasks s.areas s.rmap };
+    ghost invariant = { λ s. IsTied s.parts.value.tasks s.parts.value.areas s.parts.value.rmap };
 }
 
 impl<A: Allocator + Copy> AddressSpaces<A> {
@@ -61,10 +67,13 @@ impl<A: Allocator + Copy> AddressSpaces<A> {
     pub fn new(alloc: A, frames: usize) -> Result<Self, AllocError>
         ensures { IfOk result (λ spaces. spaces ≡ no_spaces frames) }
     {
-        Ok(AddressSpaces {
+        let parts = SpaceParts {
             tasks: ProcessTable::new(alloc),
             areas: Areas::new(alloc),
             rmap: ReverseMap::new(alloc, frames)?,
+        };
+        Ok(AddressSpaces {
+            parts: Box::new(alloc, parts)?,
         })
     }
 
@@ -72,14 +81,16 @@ impl<A: Allocator + Copy> AddressSpaces<A> {
     pub fn len(&self) -> usize
         ensures { result ≡ length self.now.processes }
     {
-        self.tasks.len()
+        let parts = &*self.parts;
+        parts.tasks.len()
     }
 
     /// What `spawn` fixed of a process. None if there is no process with this pid.
     pub fn info(&self, pid: Pid) -> Option<ProcessInfo>
         ensures { result ≡ option_map info_of (get nat_cmp self.now.processes pid) }
     {
-        self.tasks.info(pid)
+        let parts = &*self.parts;
+        parts.tasks.info(pid)
     }
 
     /// The areas of all processes, the segments that they show, and the frames of pages.
@@ -89,14 +100,16 @@ impl<A: Allocator + Copy> AddressSpaces<A> {
             get page_cmp self.now.place page ≡ Some frame →
             frame < self.now.frames }
     {
-        &self.areas
+        let parts = &*self.parts;
+        &parts.areas
     }
 
     /// The page that an area of a process shows at a page number. None if there is no area.
     pub(crate) fn page_at(&self, pid: Pid, vpn: Vpn) -> Option<Page>
         ensures { result ≡ page_at self.now.areas pid vpn }
     {
-        let (first, area) = self.areas.find(pid, vpn)?;
+        let parts = &*self.parts;
+        let (first, area) = parts.areas.find(pid, vpn)?;
         Some(page_in(first, &area, vpn))
     }
 
@@ -108,7 +121,8 @@ impl<A: Allocator + Copy> AddressSpaces<A> {
         ensures frame { IfSome result
             (λ seen. seen.frame ≡ frame_of self.now.place (Some seen.sight)) }
     {
-        let entry = self.tasks.entry(pid, vpn)?;
+        let parts = &*self.parts;
+        let entry = parts.tasks.entry(pid, vpn)?;
         let frame = frame_named(&entry);
         let sight = match frame {
             None => Sight::ZeroPage,
@@ -128,7 +142,8 @@ impl<A: Allocator + Copy> AddressSpaces<A> {
         ensures asked { OnErr result
             ((p : Process) → get nat_cmp self.now.processes pid ≡ Some p → 0 < length p.sees) }
     {
-        self.tasks.entries(pid)
+        let parts = &*self.parts;
+        parts.tasks.entries(pid)
     }
 
     /// What is to be seen of a page that has this frame.
@@ -136,11 +151,12 @@ impl<A: Allocator + Copy> AddressSpaces<A> {
         requires { get page_cmp self.now.place page ≡ Some frame }
         ensures { result ≡ look_at_place self.now.processes self.now.pins page (Some frame) }
     {
+        let parts = &*self.parts;
         Seen::At {
             page,
             frame,
-            processes: self.rmap.processes(frame),
-            pinned: self.rmap.pins(frame) > 0,
+            processes: parts.rmap.processes(frame),
+            pinned: parts.rmap.pins(frame) > 0,
         }
     }
 
@@ -155,7 +171,8 @@ impl<A: Allocator + Copy> AddressSpaces<A> {
             }) }
         ensures err { OnErr result (self.new ≡ self.old) }
     {
-        self.tasks.add(pid, info)
+        let parts = &mut *self.parts;
+        parts.tasks.add(pid, info)
     }
 
     /// Makes a process see the page of zeros at a page number. An error means that the host is out of memory, which
@@ -179,7 +196,8 @@ impl<A: Allocator + Copy> AddressSpaces<A> {
             v / 512 ≡ vpn / 512 →
             sight_in (get nat_cmp self.old.processes pid) v ≡ None) }
     {
-        self.tasks.set(pid, vpn, Entry::Zero)
+        let parts = &mut *self.parts;
+        parts.tasks.set(pid, vpn, Entry::Zero)
     }
 
     /// Makes a process see a page that has a frame, at a page number.
@@ -200,9 +218,10 @@ impl<A: Allocator + Copy> AddressSpaces<A> {
         // Without memory
         ensures err { OnErr result (self.new ≡ self.old) }
     {
-        self.rmap.add(frame, pid, vpn)?;
-        if let Err(error) = self.tasks.set(pid, vpn, Entry::Frame(frame)) {
-            self.rmap.drop_one(frame, pid, vpn);
+        let parts = &mut *self.parts;
+        parts.rmap.add(frame, pid, vpn)?;
+        if let Err(error) = parts.tasks.set(pid, vpn, Entry::Frame(frame)) {
+            parts.rmap.drop_one(frame, pid, vpn);
             return Err(error);
         }
         Ok(())
@@ -234,14 +253,15 @@ impl<A: Allocator + Copy> AddressSpaces<A> {
         // Without memory
         ensures err { OnErr result (self.new ≡ self.old) }
     {
-        self.areas.set_frame(page, frame)?;
-        if let Err(error) = self.rmap.add(frame, pid, vpn) {
-            self.areas.drop_frame(page);
+        let parts = &mut *self.parts;
+        parts.areas.set_frame(page, frame)?;
+        if let Err(error) = parts.rmap.add(frame, pid, vpn) {
+            parts.areas.drop_frame(page);
             return Err(error);
         }
-        if let Err(error) = self.tasks.set(pid, vpn, Entry::Frame(frame)) {
-            self.rmap.drop_one(frame, pid, vpn);
-            self.areas.drop_frame(page);
+        if let Err(error) = parts.tasks.set(pid, vpn, Entry::Frame(frame)) {
+            parts.rmap.drop_one(frame, pid, vpn);
+            parts.areas.drop_frame(page);
             return Err(error);
         }
         Ok(())
@@ -260,7 +280,8 @@ impl<A: Allocator + Copy> AddressSpaces<A> {
         ensures full { IfErr result (λ error. (error ≡ Ebusy) × (65535 ≤ pins_here self.old page)) }
         ensures err { OnErr result (self.new ≡ self.old) }
     {
-        self.rmap.pin(frame)
+        let parts = &mut *self.parts;
+        parts.rmap.pin(frame)
     }
 
     /// Removes a pin from a page that has a frame. EINVAL, with nothing changed, if it has none.
@@ -276,7 +297,8 @@ impl<A: Allocator + Copy> AddressSpaces<A> {
         ensures none { IfErr result (λ error. (error ≡ Einval) × (pins_here self.old page ≡ 0)) }
         ensures err { OnErr result (self.new ≡ self.old) }
     {
-        self.rmap.unpin(frame)
+        let parts = &mut *self.parts;
+        parts.rmap.unpin(frame)
     }
 }
 
@@ -290,10 +312,11 @@ impl<A: Allocator + Copy> PageView for AddressSpaces<A> {
 
     /// Looks up the area over the page number once.
     fn seen(&self, pid: Pid, vpn: Vpn) -> Seen {
+        let parts = &*self.parts;
         let Some(page) = self.page_at(pid, vpn) else {
             return Seen::NoArea;
         };
-        match self.tasks.entry(pid, vpn) {
+        match parts.tasks.entry(pid, vpn) {
             None => Seen::Absent,
             Some(entry) => match frame_named(&entry) {
                 None => Seen::Zero,
@@ -303,7 +326,8 @@ impl<A: Allocator + Copy> PageView for AddressSpaces<A> {
     }
 
     fn placed(&self, page: Page) -> Seen {
-        match self.areas.page_frame(page) {
+        let parts = &*self.parts;
+        match parts.areas.page_frame(page) {
             None => Seen::Absent,
             Some(frame) => self.look_at(page, frame),
         }

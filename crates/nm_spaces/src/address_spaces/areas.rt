@@ -46,7 +46,8 @@ impl<A: Allocator + Copy> AddressSpaces<A> {
         // Nothing else changes
         ensures same { self.new ≡ with_mapped self.old (mapped_of self.new) }
     {
-        self.areas.insert(pid, addr, pages, shared)
+        let parts = &mut *self.parts;
+        parts.areas.insert(pid, addr, pages, shared)
     }
 
     /// Makes an area of the process over a range of a shared segment.
@@ -65,7 +66,8 @@ impl<A: Allocator + Copy> AddressSpaces<A> {
             stretch_refusal (mapped_of self.old) pid addr segment offset pages ≡ None }
         ensures same { self.new ≡ with_mapped self.old (mapped_of self.new) }
     {
-        self.areas.attach(pid, addr, segment, offset, pages)
+        let parts = &mut *self.parts;
+        parts.areas.attach(pid, addr, segment, offset, pages)
     }
 
     /// Sets the policy of the whole pages of a range of a process, and of no others.
@@ -87,7 +89,8 @@ impl<A: Allocator + Copy> AddressSpaces<A> {
             ⊎ HasSplit self.old.areas pid (addr / 4096 + pages_of len) }
         ensures same { self.new ≡ with_mapped self.old (mapped_of self.new) }
     {
-        self.areas.split_policy(pid, addr, len, policy)
+        let parts = &mut *self.parts;
+        parts.areas.split_policy(pid, addr, len, policy)
     }
 
     /// Whether an area of a process shows a page with a pin from one page number up to another. Walks once over the
@@ -96,11 +99,13 @@ impl<A: Allocator + Copy> AddressSpaces<A> {
         requires { first ≤ end }
         ensures { result ≡ shows_pinned self.now.areas self.now.pins pid first end }
     {
-        if !self.rmap.has_pins() {
+        let parts = &*self.parts;
+        if !parts.rmap.has_pins() {
             return false;
         }
-        self.areas
-            .shows_counted(pid, first, end, self.rmap.pin_counts())
+        parts
+            .areas
+            .shows_counted(pid, first, end, parts.rmap.pin_counts())
     }
 
     /// Whether the page that an area of a process shows at a page number has a pin.
@@ -112,11 +117,12 @@ impl<A: Allocator + Copy> AddressSpaces<A> {
             vpn < end →
             shows_pinned self.now.areas self.now.pins pid first end ≡ true }
     {
+        let parts = &*self.parts;
         let Some(page) = self.page_at(pid, vpn) else {
             return false;
         };
-        match self.areas.page_frame(page) {
-            Some(frame) => self.rmap.pins(frame) > 0,
+        match parts.areas.page_frame(page) {
+            Some(frame) => parts.rmap.pins(frame) > 0,
             None => false,
         }
     }
@@ -147,9 +153,10 @@ impl<A: Allocator + Copy> AddressSpaces<A> {
             ⊎ HasSplit self.old.areas pid range.first
             ⊎ HasSplit self.old.areas pid range.end) }
     {
+        let parts = &mut *self.parts;
         let PageRange { first, end } = range;
-        let freed = self.areas.remove(pid, range)?;
-        clear_between(&mut self.tasks, &mut self.rmap, pid, first, end);
+        let freed = parts.areas.remove(pid, range)?;
+        clear_between(&mut parts.tasks, &mut parts.rmap, pid, first, end);
         Ok(freed)
     }
 
@@ -159,7 +166,8 @@ impl<A: Allocator + Copy> AddressSpaces<A> {
         ensures { self.new
             ≡ record (self.old) { processes = without nat_cmp self.old.processes pid } }
     {
-        self.tasks.remove(pid);
+        let parts = &mut *self.parts;
+        parts.tasks.remove(pid);
     }
 }
 

@@ -27,8 +27,9 @@ impl<A: Allocator + Copy> AddressSpaces<A> {
             get nat_cmp self.old.processes pid ≡ Some p →
             self.new ≡ without_seen self.old pid p vpn }
     {
-        drop_mapper(&self.tasks, &mut self.rmap, pid, vpn);
-        self.tasks.clear(pid, vpn);
+        let parts = &mut *self.parts;
+        drop_mapper(&parts.tasks, &mut parts.rmap, pid, vpn);
+        parts.tasks.clear(pid, vpn);
     }
 
     /// Makes a process see the page of zeros at a page number where it sees something. Does not allocate.
@@ -39,8 +40,9 @@ impl<A: Allocator + Copy> AddressSpaces<A> {
             get nat_cmp self.old.processes pid ≡ Some p →
             self.new ≡ with_seen self.old pid p vpn ZeroPage }
     {
-        drop_mapper(&self.tasks, &mut self.rmap, pid, vpn);
-        self.tasks.replace(pid, vpn, Entry::Zero);
+        let parts = &mut *self.parts;
+        drop_mapper(&parts.tasks, &mut parts.rmap, pid, vpn);
+        parts.tasks.replace(pid, vpn, Entry::Zero);
     }
 
     /// Makes a process see the page of zeros, or nothing, at a page number where it sees something. Does not allocate.
@@ -67,7 +69,8 @@ impl<A: Allocator + Copy> AddressSpaces<A> {
             ⊥ }
         ensures { self.new ≡ without_page self.old page }
     {
-        self.areas.drop_frame(page);
+        let parts = &mut *self.parts;
+        parts.areas.drop_frame(page);
     }
 }
 

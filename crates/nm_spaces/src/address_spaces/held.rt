@@ -17,9 +17,8 @@ ghost use Rattle.nm_spaces.specs.definitions.Moves.{CanRemap, all_moved};
 ghost use Rattle.nm_spaces.specs.views.ProcessTable.{IsThere, all_replaced, names};
 ghost use Rattle.nm_spaces.specs.definitions.Tied.{has_spot, AreInOrder};
 
-use crate::address_spaces::AddressSpaces;
+use crate::address_spaces::{AddressSpaces, SpaceParts};
 use crate::process_table::ProcessTable;
-use nm_areas::Areas;
 use nm_rmap::ReverseMap;
 use nm_tables::Entry;
 use nm_types::{FrameId, Page, Pid, Taken, Vpn};
@@ -31,9 +30,7 @@ use std::marker::Model;
 /// Contracts see the page tables, and what the address spaces are once the pages have arrived.
 #[derive(Drop)]
 pub struct HeldSpaces<A: Allocator + Copy> {
-    tasks: ProcessTable<A>,
-    areas: Areas<A>,
-    rmap: ReverseMap<A>,
+    parts: Box<SpaceParts<A>, A>,
 }
 
 impl<A: Allocator + Copy> Model for HeldSpaces<A> {
@@ -43,9 +40,9 @@ impl<A: Allocator + Copy> Model for HeldSpaces<A> {
 
     ghost Value = { HeldView };
 
-    ghost view = { λ h. held_view h.tasks h.areas h.rmap };
+    ghost view = { λ h. held_view h.parts.value.tasks h.parts.value.areas h.parts.value.rmap };
 
-    ghost invariant = { λ h. IsTied (with_entries arrived h.tasks) h.areas h.rmap };
+    ghost invariant = { λ h. IsTied (with_entries arrived h.parts.value.tasks) h.parts.value.areas h.parts.value.rmap };
 }
 
 impl<A: Allocator + Copy> HeldSpaces<A> {
@@ -60,8 +57,9 @@ impl<A: Allocator + Copy> HeldSpaces<A> {
             entry_at result.tables pid v
             ≡ option_map (held_by (map (laid_for store) moves.now)) (entry_here spaces pid v) }
     {
-        let AddressSpaces { tasks, areas, rmap } = spaces;
-        let mut held = HeldSpaces { tasks, areas, rmap };
+        let mut held = HeldSpaces {
+            parts: spaces.parts,
+        };
         held.hold_pages(moves);
         held
     }
@@ -70,7 +68,8 @@ impl<A: Allocator + Copy> HeldSpaces<A> {
     pub fn place(&self, page: Page) -> Option<FrameId>
         ensures { result ≡ get page_cmp self.now.spaces.place page }
     {
-        self.areas.page_frame(page)
+        let parts = &*self.parts;
+        parts.areas.page_frame(page)
     }
 
     /// Sends pages on their way, one after another.
@@ -97,9 +96,14 @@ impl<A: Allocator + Copy> HeldSpaces<A> {
             entry_at self.new.tables pid v
             ≡ option_map (held_for from to) (entry_at self.old.tables pid v) }
     {
-        replace_each(&mut self.tasks, self.rmap.mappings(from), &Entry::Held(to));
-        self.rmap.carry(from, to);
-        self.areas.move_page(page, to);
+        let parts = &mut *self.parts;
+        replace_each(
+            &mut parts.tasks,
+            parts.rmap.mappings(from),
+            &Entry::Held(to),
+        );
+        parts.rmap.carry(from, to);
+        parts.areas.move_page(page, to);
     }
 
     /// Gives the address spaces back once all pages that are on their way, which are among these, have arrived: each held
@@ -111,13 +115,10 @@ impl<A: Allocator + Copy> HeldSpaces<A> {
             is_taken moves.now f ≡ true }
         ensures { result ≡ self.spaces }
     {
-        let HeldSpaces {
-            mut tasks,
-            areas,
-            rmap,
-        } = self;
-        arrive(&mut tasks, &rmap, moves);
-        AddressSpaces { tasks, areas, rmap }
+        let HeldSpaces { mut parts } = self;
+        let inner = &mut *parts;
+        arrive(&mut inner.tasks, &inner.rmap, moves);
+        AddressSpaces { parts }
     }
 }
 

@@ -25,7 +25,8 @@ impl<A: Allocator + Copy> AddressSpaces<A> {
         ensures none { IfNone result
             (between first end (sights self.now.processes pid) ≡ []) }
     {
-        let (vpn, entry) = self.tasks.first_from(pid, first)?;
+        let parts = &*self.parts;
+        let (vpn, entry) = parts.tasks.first_from(pid, first)?;
         if vpn.number() >= end.number() {
             return None;
         }
@@ -62,7 +63,8 @@ impl<A: Allocator + Copy> AddressSpaces<A> {
         ensures asked { OnErr result
             (0 < length (between first end (sights self.now.processes pid))) }
     {
-        let entries = self.tasks.entries_between(pid, first, end)?;
+        let parts = &*self.parts;
+        let entries = parts.tasks.entries_between(pid, first, end)?;
         let mut pages = Vec::new(alloc);
         let mut last = None;
         for (vpn, entry) in &entries {
@@ -119,7 +121,8 @@ impl<A: Allocator + Copy> AddressSpaces<A> {
             get page_cmp self.now.place page ≡ Some frame →
             result ≡ length (users self.now.processes page) }
     {
-        self.rmap.processes(frame)
+        let parts = &*self.parts;
+        parts.rmap.processes(frame)
     }
 
     /// The area of a process over a page number: the one found last, if it covers this number too.
@@ -134,15 +137,16 @@ impl<A: Allocator + Copy> AddressSpaces<A> {
         ensures here { IfSome result (λ a. (a.0 ≤ vpn) × (vpn < a.0 + a.1.pages)) }
         ensures over { IfSome result (IsOver self.now.areas pid) }
     {
+        let parts = &*self.parts;
         match last {
             Some((first, area)) => {
                 if is_over(*first, *area, vpn) {
                     Some((*first, *area))
                 } else {
-                    self.areas.find(pid, vpn)
+                    parts.areas.find(pid, vpn)
                 }
             }
-            None => self.areas.find(pid, vpn),
+            None => parts.areas.find(pid, vpn),
         }
     }
 }

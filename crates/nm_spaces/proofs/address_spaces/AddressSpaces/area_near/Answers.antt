@@ -2,23 +2,24 @@ use Rattle.std.proofs.Common.{subst}
 use Rattle.std.specs.Prelude.{IfSome}
 use Rattle.nm_spaces.specs.views.AddressSpaces.{AddressSpacesView}
 use Rattle.nm_model.specs.definitions.Seen.{IsOver}
+use Rattle.nm_spaces.proofs.Boxed.{seen}
 use Rattle.nm_spaces.proofs.Spaces.AreaLookups.{found_here, found_over}
 use Rattle.nm_spaces.proofs.address_spaces.AddressSpaces.area_near.Goals as goal
 
 pub returns-else-is_over-clause-over : goal.returns-else-is_over-clause-over
 returns-else-is_over-clause-over g c =
-    subst (λ (y : AddressSpacesView). IfSome c.find.result (IsOver y.areas c.args.pid)) c.self.view_is
-    (found_over c.self.inside.areas.areas c.args.pid c.args.vpn c.find.ensures.kept.indices c.find.result c.find.ensures.found c.find.ensures.over)
+    subst (λ (y : AddressSpacesView). IfSome c.find.result (IsOver y.areas c.args.pid)) (seen c.deref-parts.ensures c.self.view_is)
+    (found_over c.deref-parts.result.now.areas.areas c.args.pid c.args.vpn c.find.ensures.kept.indices c.find.result c.find.ensures.found c.find.ensures.over)
 
 pub returns-in-None-clause-over : goal.returns-in-None-clause-over
 returns-in-None-clause-over g c =
-    subst (λ (y : AddressSpacesView). IfSome c.find-in-None.result (IsOver y.areas c.args.pid)) c.self.view_is
-    (found_over c.self.inside.areas.areas c.args.pid c.args.vpn c.find-in-None.ensures.kept.indices c.find-in-None.result c.find-in-None.ensures.found c.find-in-None.ensures.over)
+    subst (λ (y : AddressSpacesView). IfSome c.find-in-None.result (IsOver y.areas c.args.pid)) (seen c.deref-parts.ensures c.self.view_is)
+    (found_over c.deref-parts.result.now.areas.areas c.args.pid c.args.vpn c.find-in-None.ensures.kept.indices c.find-in-None.result c.find-in-None.ensures.found c.find-in-None.ensures.over)
 
 pub returns-else-is_over-clause-here : goal.returns-else-is_over-clause-here
 returns-else-is_over-clause-here g c =
-    found_here c.self.inside.areas.areas c.args.pid c.args.vpn c.find.ensures.kept.indices c.find.result c.find.ensures.found
+    found_here c.deref-parts.result.now.areas.areas c.args.pid c.args.vpn c.find.ensures.kept.indices c.find.result c.find.ensures.found
 
 pub returns-in-None-clause-here : goal.returns-in-None-clause-here
 returns-in-None-clause-here g c =
-    found_here c.self.inside.areas.areas c.args.pid c.args.vpn c.find-in-None.ensures.kept.indices c.find-in-None.result c.find-in-None.ensures.found
+    found_here c.deref-parts.result.now.areas.areas c.args.pid c.args.vpn c.find-in-None.ensures.kept.indices c.find-in-None.result c.find-in-None.ensures.found

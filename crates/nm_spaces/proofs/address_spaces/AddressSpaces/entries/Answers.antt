@@ -6,14 +6,15 @@ use Rattle.nm_types.specs.State.{Process}
 use Rattle.nm_types.specs.declared.entry.Entry.{Entry}
 use Rattle.nm_types.proofs.Keys.{as_many-values}
 use Rattle.nm_model.specs.definitions.PageTables.{entry_of}
+use Rattle.nm_spaces.proofs.Boxed.{seen, tied}
 use Rattle.nm_spaces.proofs.ProcessTable.Changes.{if_ok, on_err}
 use Rattle.nm_spaces.proofs.Tied.Beginnings.{table_shown, info_shown}
 use Rattle.nm_spaces.proofs.address_spaces.AddressSpaces.entries.Goals as goal
 
 pub returns-clause-entries : goal.returns-clause-entries
 returns-clause-entries g c =
-    let x = c.self.inside in
-    if_ok c.entries.result (λ all is. is ∙ table_shown x.tasks x.areas x.rmap c.self.invariant c.args.self.now c.args.pid c.self.view_is) c.entries.ensures.entries
+    let x = c.deref-parts.result.now in
+    if_ok c.entries.result (λ all is. is ∙ table_shown x.tasks x.areas x.rmap (tied c.deref-parts.ensures c.self.invariant) c.args.self.now c.args.pid (seen c.deref-parts.ensures c.self.view_is)) c.entries.ensures.entries
 
 -- something is there where something is made of it
 mapped_some : {X Y : Type 0} (f : X → Y) (o : Option X) → IsSome o → IsSome (option_map f o)
@@ -26,16 +27,16 @@ some_mapped f None h = h
 
 pub returns-clause-memory : goal.returns-clause-memory
 returns-clause-memory g c =
-    let x = c.self.inside in
-    let there = info_shown c.args.self.now x.tasks x.areas x.rmap c.args.pid c.self.view_is in
+    let x = c.deref-parts.result.now in
+    let there = info_shown c.args.self.now x.tasks x.areas x.rmap c.args.pid (seen c.deref-parts.ensures c.self.view_is) in
     on_err c.entries.result (λ some. some_mapped _ (get nat_cmp c.args.self.now.processes c.args.pid) (subst IsSome there (mapped_some _ (get nat_cmp x.tasks c.args.pid) some))) c.entries.ensures.memory
 
 pub returns-clause-asked : goal.returns-clause-asked
 returns-clause-asked g c =
-    let x = c.self.inside in
+    let x = c.deref-parts.result.now in
     let y = c.args.self.now in
     let shown : Process → Map ℕ Entry = λ p. with_values (λ v sight. entry_of y.place sight) p.sees in
     on_err c.entries.result (λ some p found.
     subst (λ n. 0 < n) (as_many-values (λ v sight. entry_of y.place sight) p.sees)
-    (subst (λ (o : Option (Map ℕ Entry)). 0 < length (unwrap_or o [])) (table_shown x.tasks x.areas x.rmap c.self.invariant y c.args.pid c.self.view_is ∙ ap (option_map shown) found) some))
+    (subst (λ (o : Option (Map ℕ Entry)). 0 < length (unwrap_or o [])) (table_shown x.tasks x.areas x.rmap (tied c.deref-parts.ensures c.self.invariant) y c.args.pid (seen c.deref-parts.ensures c.self.view_is) ∙ ap (option_map shown) found) some))
     c.entries.ensures.asked

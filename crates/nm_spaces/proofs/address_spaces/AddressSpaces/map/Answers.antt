@@ -2,13 +2,14 @@ use Rattle.std.proofs.Common.{ap}
 use Rattle.nm_model.specs.definitions.Areas.{inserted, new_area}
 use Rattle.nm_model.specs.definitions.Areas.{Mapped}
 use Rattle.nm_model.specs.definitions.AreaRefusal.{insert_refusal}
+use Rattle.nm_spaces.proofs.Boxed.{seen, tied}
 use Rattle.nm_spaces.proofs.Tied.AreaChanges.{IsShownStill, still_same, still_tied, still_shows_at, still_with_new, insert_room, from_makes}
 use Rattle.nm_spaces.proofs.address_spaces.AddressSpaces.map.Given.{Over}
 use Rattle.nm_spaces.proofs.address_spaces.AddressSpaces.map.Goals as goal
 
-still : (g : Over) (c : goal.After-insert g) → IsShownStill c.self.inside.areas c.insert.new.self
+still : (g : Over) (c : goal.After-self-1 g) → IsShownStill c.deref_mut-parts.result.now.areas c.insert.new.self
 still g c =
-    let m = c.self.inside.areas in
+    let m = c.deref_mut-parts.result.now.areas in
     let n = c.insert.new.self in
     let x = c.args in
     from_makes c.insert.result m n (inserted m x.pid x.addr x.pages x.shared) (insert_refusal m x.pid x.addr x.pages)
@@ -16,7 +17,11 @@ still g c =
     (λ is. still_same m n is) c.insert.ensures.done c.insert.ensures.over
 
 pub invariant_of-self : goal.invariant_of-self
-invariant_of-self g c = still_tied c.self.inside.tasks c.self.inside.areas c.insert.new.self c.self.inside.rmap c.self.invariant (still g c)
+invariant_of-self g c =
+    let x = c.deref_mut-parts.result.now in
+    still_tied x.tasks x.areas c.insert.new.self x.rmap (tied c.deref_mut-parts.ensures.value c.self.invariant) (still g c)
 
 pub returns-clause-same : goal.returns-clause-same
-returns-clause-same g c = still_shows_at c.self.inside.tasks c.self.inside.areas c.insert.new.self c.self.inside.rmap c.self.invariant (still g c) c.args.self.now c.self.view_is
+returns-clause-same g c =
+    let x = c.deref_mut-parts.result.now in
+    still_shows_at x.tasks x.areas c.insert.new.self x.rmap (tied c.deref_mut-parts.ensures.value c.self.invariant) (still g c) c.args.self.now (seen c.deref_mut-parts.ensures.value c.self.view_is)

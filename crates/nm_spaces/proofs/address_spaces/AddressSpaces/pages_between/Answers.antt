@@ -5,6 +5,7 @@ use Rattle.nm_types.specs.Map.{get, page_cmp}
 use Rattle.nm_model.specs.definitions.Seen.{between, sights}
 use Rattle.std.specs.Prelude.{All, Some, IfSome}
 use Rattle.nm_model.specs.definitions.Seen.{IsOver, located}
+use Rattle.nm_spaces.proofs.Boxed.{seen, tied}
 use Rattle.nm_spaces.proofs.ProcessTable.NamedFrames.{names_it, sees_page_there, sees_zeros}
 use Rattle.nm_types.specs.declared.located.Located.{Located}
 use Rattle.nm_spaces.proofs.ProcessTable.Changes.{on_any}
@@ -14,33 +15,33 @@ use Rattle.nm_spaces.proofs.address_spaces.AddressSpaces.pages_between.Goals.{in
 
 pub seen_in-page-requires-clause-known : goal.seen_in-page-requires-clause-known
 seen_in-page-requires-clause-known g c =
-    let x = c.self.inside in
+    let x = c.deref-parts.result.now in
     let e = c.loop-vpn-item.result in
     let f = c.in-Some.frame in
     let range = c.deref-vpn-items.ensures.value ∙ c.in_ok-entries.ensures.entries in
-    let there = found_between c.args.self.now x.tasks x.areas x.rmap c.args.pid c.self.view_is c.self.invariant c.args.first c.args.end c.loop-vpn.vpn-index c.deref-vpn-items.result.now e range c.loop-vpn-test.true c.loop-vpn-item.is in
+    let there = found_between c.args.self.now x.tasks x.areas x.rmap c.args.pid (seen c.deref-parts.ensures c.self.view_is) (tied c.deref-parts.ensures c.self.invariant) c.args.first c.args.end c.loop-vpn.vpn-index c.deref-vpn-items.result.now e range c.loop-vpn-test.true c.loop-vpn-item.is in
     let named = names_it e.1 f (sym c.frame_named.ensures ∙ c.in-Some.is) in
-    subst (λ (n : ℕ). f < n) c.requires (frame_behind c.args.self.now x.tasks x.areas x.rmap c.args.pid c.self.view_is c.self.invariant e.0 f e.1 there named)
+    subst (λ (n : ℕ). f < n) c.requires (frame_behind c.args.self.now x.tasks x.areas x.rmap c.args.pid (seen c.deref-parts.ensures c.self.view_is) (tied c.deref-parts.ensures c.self.invariant) e.0 f e.1 there named)
 
 pub seen_in-page-requires-clause-seen : goal.seen_in-page-requires-clause-seen
 seen_in-page-requires-clause-seen g c =
-    let x = c.self.inside in
+    let x = c.deref-parts.result.now in
     let e = c.loop-vpn-item.result in
     let f = c.in-Some.frame in
     let range = c.deref-vpn-items.ensures.value ∙ c.in_ok-entries.ensures.entries in
-    let there = found_between c.args.self.now x.tasks x.areas x.rmap c.args.pid c.self.view_is c.self.invariant c.args.first c.args.end c.loop-vpn.vpn-index c.deref-vpn-items.result.now e range c.loop-vpn-test.true c.loop-vpn-item.is in
+    let there = found_between c.args.self.now x.tasks x.areas x.rmap c.args.pid (seen c.deref-parts.ensures c.self.view_is) (tied c.deref-parts.ensures c.self.invariant) c.args.first c.args.end c.loop-vpn.vpn-index c.deref-vpn-items.result.now e range c.loop-vpn-test.true c.loop-vpn-item.is in
     let named = names_it e.1 f (sym c.frame_named.ensures ∙ c.in-Some.is) in
-    page_behind c.args.self.now x.tasks x.areas x.rmap c.args.pid c.self.view_is c.self.invariant e.0 f e.1 there named
+    page_behind c.args.self.now x.tasks x.areas x.rmap c.args.pid (seen c.deref-parts.ensures c.self.view_is) (tied c.deref-parts.ensures c.self.invariant) e.0 f e.1 there named
 
 pub loop-vpn-preserved : goal.loop-vpn-preserved
 loop-vpn-preserved g c =
-    let x = c.self.inside in
+    let x = c.deref-parts.result.now in
     let y = c.args.self.now in
     let geometry = c.args.geometry.now in
     let es = c.deref-vpn-items.result.now in
     let e = c.loop-vpn-item.result in
     let range = c.deref-vpn-items.ensures.value ∙ c.in_ok-entries.ensures.entries in
-    let there = found_between y x.tasks x.areas x.rmap c.args.pid c.self.view_is c.self.invariant c.args.first c.args.end c.loop-vpn.vpn-index es e range c.loop-vpn-test.true c.loop-vpn-item.is in
+    let there = found_between y x.tasks x.areas x.rmap c.args.pid (seen c.deref-parts.ensures c.self.view_is) (tied c.deref-parts.ensures c.self.invariant) c.args.first c.args.end c.loop-vpn.vpn-index es e range c.loop-vpn-test.true c.loop-vpn-item.is in
     let rest : List Located = pages_in geometry y.place y.areas c.args.pid (drop (c.loop-vpn.vpn-index + 1) es) in
     elim c.match-frame_named.branch [
       | in_default w ↦ record {
@@ -55,7 +56,7 @@ loop-vpn-preserved g c =
           let named = names_it e.1 f (sym c.frame_named.ensures ∙ w.in-Some.is) in
           let here =
           ap (located geometry y.place e.0) (sees_page_there y.areas c.args.pid e.0 e.1 f (sym c.frame_named.ensures ∙ w.in-Some.is))
-          ∙ located_behind y x.tasks x.areas x.rmap c.args.pid c.self.view_is c.self.invariant e.0 f e.1 there named geometry
+          ∙ located_behind y x.tasks x.areas x.rmap c.args.pid (seen c.deref-parts.ensures c.self.view_is) (tied c.deref-parts.ensures c.self.invariant) e.0 f e.1 there named geometry
           ∙ w.seen_in-page.ensures.page in
           let items = ap (λ v. v.items) w.pages-is ∙ w.in_ok-push.ensures.items in
           record {
@@ -69,45 +70,45 @@ loop-vpn-preserved g c =
 
 pub returns-clause-pages : goal.returns-clause-pages
 returns-clause-pages g c =
-    let x = c.self.inside in
+    let x = c.deref-parts.result.now in
     let y = c.args.self.now in
     let es = c.deref-vpn-items.result.now in
     let range = c.deref-vpn-items.ensures.value ∙ c.in_ok-entries.ensures.entries in
     ended c.args.geometry.now y.place y.areas c.args.pid es c.loop-vpn.vpn-index c.loop-vpn.pages.items _ c.loop-vpn-test.false c.loop-vpn.invariant.pages
-    ∙ all_listed y x.tasks x.areas x.rmap c.args.pid c.self.view_is c.self.invariant c.args.geometry.now c.args.first c.args.end es range
+    ∙ all_listed y x.tasks x.areas x.rmap c.args.pid (seen c.deref-parts.ensures c.self.view_is) (tied c.deref-parts.ensures c.self.invariant) c.args.geometry.now c.args.first c.args.end es range
 
 pub returns-clause-placed : goal.returns-clause-placed
 returns-clause-placed g c =
-    let x = c.self.inside in
+    let x = c.deref-parts.result.now in
     let y = c.args.self.now in
     let es = c.deref-vpn-items.result.now in
     let range = c.deref-vpn-items.ensures.value ∙ c.in_ok-entries.ensures.entries in
     let is =
     ended c.args.geometry.now y.place y.areas c.args.pid es c.loop-vpn.vpn-index c.loop-vpn.pages.items _ c.loop-vpn-test.false c.loop-vpn.invariant.pages
-    ∙ all_listed y x.tasks x.areas x.rmap c.args.pid c.self.view_is c.self.invariant c.args.geometry.now c.args.first c.args.end es range in
+    ∙ all_listed y x.tasks x.areas x.rmap c.args.pid (seen c.deref-parts.ensures c.self.view_is) (tied c.deref-parts.ensures c.self.invariant) c.args.geometry.now c.args.first c.args.end es range in
     let P : Located → Type 0 = λ e. get page_cmp y.place e.page ≡ Some e.frame in
     subst (All P) (sym is) (λ k d low. all_at P _ k d (all_in_place c.args.geometry.now y.place (between c.args.first c.args.end (sights y.processes c.args.pid))) low)
 
 pub returns-clause-few : goal.returns-clause-few
 returns-clause-few g c =
-    let x = c.self.inside in
+    let x = c.deref-parts.result.now in
     let y = c.args.self.now in
     let es = c.deref-vpn-items.result.now in
     let range = c.deref-vpn-items.ensures.value ∙ c.in_ok-entries.ensures.entries in
     let is = ended c.args.geometry.now y.place y.areas c.args.pid es c.loop-vpn.vpn-index c.loop-vpn.pages.items _ c.loop-vpn-test.false c.loop-vpn.invariant.pages in
-    let few = few_listed y x.tasks x.areas x.rmap c.args.pid c.self.view_is c.self.invariant c.args.geometry.now c.args.first c.args.end es range in
+    let few = few_listed y x.tasks x.areas x.rmap c.args.pid (seen c.deref-parts.ensures c.self.view_is) (tied c.deref-parts.ensures c.self.invariant) c.args.geometry.now c.args.first c.args.end es range in
     omega (arith, ap length is, few)
 
 -- ---- memory is asked for only where there is something to list
 
 pub returns-in_err-entries-clause-asked : goal.returns-in_err-entries-clause-asked
 returns-in_err-entries-clause-asked g c =
-    let x = c.self.inside in
-    on_any c.from_residual.result (some_seen c.args.self.now x.tasks x.areas x.rmap c.args.pid c.self.view_is c.self.invariant c.args.first c.args.end c.in_err-entries.ensures.asked)
+    let x = c.deref-parts.result.now in
+    on_any c.from_residual.result (some_seen c.args.self.now x.tasks x.areas x.rmap c.args.pid (seen c.deref-parts.ensures c.self.view_is) (tied c.deref-parts.ensures c.self.invariant) c.args.first c.args.end c.in_err-entries.ensures.asked)
 
 pub returns-in_err-push-clause-asked : goal.returns-in_err-push-clause-asked
 returns-in_err-push-clause-asked g c =
-    let x = c.self.inside in
+    let x = c.deref-parts.result.now in
     let range = c.deref-vpn-items.ensures.value ∙ c.in_ok-entries.ensures.entries in
     let some : 0 < length c.deref-vpn-items.result.now = omega (arith, c.loop-vpn-test.true) in
-    on_any c.from_residual-in_err-push.result (some_seen c.args.self.now x.tasks x.areas x.rmap c.args.pid c.self.view_is c.self.invariant c.args.first c.args.end (subst (λ es. 0 < length es) range some))
+    on_any c.from_residual-in_err-push.result (some_seen c.args.self.now x.tasks x.areas x.rmap c.args.pid (seen c.deref-parts.ensures c.self.view_is) (tied c.deref-parts.ensures c.self.invariant) c.args.first c.args.end (subst (λ es. 0 < length es) range some))

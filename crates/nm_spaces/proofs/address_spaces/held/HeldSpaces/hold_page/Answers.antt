@@ -13,6 +13,7 @@ use Rattle.nm_spaces.specs.views.AddressSpaces.{spaces_view, with_moved}
 use Rattle.nm_spaces.specs.views.Held.{HeldView, held_for}
 use Rattle.nm_spaces.specs.views.ProcessTable.{IsThere, all_replaced}
 use Rattle.nm_spaces.specs.definitions.Tied.{IsTied}
+use Rattle.nm_spaces.proofs.Boxed.{held_seen, held_tied}
 use Rattle.nm_spaces.proofs.Held.HeldEntries.{named_there, hold_tied, hold_shows, hold_entries}
 use Rattle.nm_spaces.proofs.Moves.OnePage.{placed_in, spare_in, spare_without}
 use Rattle.nm_spaces.proofs.address_spaces.held.HeldSpaces.hold_page.Given.{Over}
@@ -20,57 +21,57 @@ use Rattle.nm_spaces.proofs.address_spaces.held.HeldSpaces.hold_page.Goals as go
 
 pub replace_each-requires : goal.replace_each-requires
 replace_each-requires g c =
-    let x = c.self.inside in
+    let x = c.deref_mut-parts.result.now in
     subst (AllByRecursion (IsThere x.tasks)) (sym c.mappings.ensures.all)
-    (named_there x.tasks (mappers_of x.rmap c.args.from) c.args.from (c.self.invariant.mappers c.args.from))
+    (named_there x.tasks (mappers_of x.rmap c.args.from) c.args.from ((held_tied c.deref_mut-parts.ensures.value c.self.invariant).mappers c.args.from))
 
 pub carry-requires-clause-unused : goal.carry-requires-clause-unused
 carry-requires-clause-unused g c =
-    let x = c.self.inside in
-    let is = ap (λ (h : HeldView). h.spaces) c.self.view_is in
+    let x = c.deref_mut-parts.result.now in
+    let is = ap (λ (h : HeldView). h.spaces) (held_seen c.deref_mut-parts.ensures.value c.self.view_is) in
     let spare = spare_in c.args.self.now.spaces x.tasks x.areas x.rmap c.args.to is c.requires.frame c.requires.spare in
     record {
-      mappers = spare_without (with_entries arrived x.tasks) x.areas x.rmap c.args.to c.self.invariant spare;
-      pins = c.self.invariant.pinned c.args.to spare.place;
+      mappers = spare_without (with_entries arrived x.tasks) x.areas x.rmap c.args.to (held_tied c.deref_mut-parts.ensures.value c.self.invariant) spare;
+      pins = (held_tied c.deref_mut-parts.ensures.value c.self.invariant).pinned c.args.to spare.place;
     }
 
-tasks_after : (g : Over) (c : goal.After-move_page g) → c.replace_each.new.tasks ≡ all_replaced c.self.inside.tasks (mappers_of c.self.inside.rmap c.args.from) (Held c.args.to)
-tasks_after g c = c.replace_each.ensures ∙ ap (λ l. all_replaced c.self.inside.tasks l (Held c.args.to)) c.mappings.ensures.all
+tasks_after : (g : Over) (c : goal.After-self-1 g) → c.replace_each.new.tasks ≡ all_replaced c.deref_mut-parts.result.now.tasks (mappers_of c.deref_mut-parts.result.now.rmap c.args.from) (Held c.args.to)
+tasks_after g c = c.replace_each.ensures ∙ ap (λ l. all_replaced c.deref_mut-parts.result.now.tasks l (Held c.args.to)) c.mappings.ensures.all
 
-areas_after : (g : Over) (c : goal.After-move_page g) → c.move_page.new.self ≡ with_frame c.self.inside.areas c.args.page c.args.to
+areas_after : (g : Over) (c : goal.After-self-1 g) → c.move_page.new.self ≡ with_frame c.deref_mut-parts.result.now.areas c.args.page c.args.to
 areas_after g c =
-    let x = c.self.inside in
-    let placed = placed_in c.args.self.now.spaces x.tasks x.areas x.rmap c.args.page c.args.from (ap (λ (h : HeldView). h.spaces) c.self.view_is) c.requires.placed in
+    let x = c.deref_mut-parts.result.now in
+    let placed = placed_in c.args.self.now.spaces x.tasks x.areas x.rmap c.args.page c.args.from (ap (λ (h : HeldView). h.spaces) (held_seen c.deref_mut-parts.ensures.value c.self.view_is)) c.requires.placed in
     c.move_page.ensures
-    ∙ ap (λ place. record (x.areas) { place = place }) (replace_is_set page_cmp_total exact_page x.areas.place c.args.page c.args.to c.self.invariant.places (subst IsSome (sym placed) refl))
+    ∙ ap (λ place. record (x.areas) { place = place }) (replace_is_set page_cmp_total exact_page x.areas.place c.args.page c.args.to (held_tied c.deref_mut-parts.ensures.value c.self.invariant).places (subst IsSome (sym placed) refl))
 
 pub invariant_of-self : goal.invariant_of-self
 invariant_of-self g c =
-    let x = c.self.inside in
-    let is = ap (λ (h : HeldView). h.spaces) c.self.view_is in
+    let x = c.deref_mut-parts.result.now in
+    let is = ap (λ (h : HeldView). h.spaces) (held_seen c.deref_mut-parts.ensures.value c.self.view_is) in
     let placed = placed_in c.args.self.now.spaces x.tasks x.areas x.rmap c.args.page c.args.from is c.requires.placed in
     let spare = spare_in c.args.self.now.spaces x.tasks x.areas x.rmap c.args.to is c.requires.frame c.requires.spare in
     subst (λ (r : Mappers). IsTied (with_entries arrived c.replace_each.new.tasks) c.move_page.new.self r) (sym c.carry.ensures)
     (subst (λ (m : Mapped). IsTied (with_entries arrived c.replace_each.new.tasks) m (carried x.rmap c.args.from c.args.to)) (sym (areas_after g c))
     (subst (λ (ts : Map ℕ Task). IsTied (with_entries arrived ts) (with_frame x.areas c.args.page c.args.to) (carried x.rmap c.args.from c.args.to)) (sym (tasks_after g c))
-    (hold_tied x.tasks x.areas x.rmap c.args.page c.args.from c.args.to c.self.invariant placed spare)))
+    (hold_tied x.tasks x.areas x.rmap c.args.page c.args.from c.args.to (held_tied c.deref_mut-parts.ensures.value c.self.invariant) placed spare)))
 
 pub returns-clause-spaces : goal.returns-clause-spaces
 returns-clause-spaces g c =
-    let x = c.self.inside in
-    let is = ap (λ (h : HeldView). h.spaces) c.self.view_is in
+    let x = c.deref_mut-parts.result.now in
+    let is = ap (λ (h : HeldView). h.spaces) (held_seen c.deref_mut-parts.ensures.value c.self.view_is) in
     let placed = placed_in c.args.self.now.spaces x.tasks x.areas x.rmap c.args.page c.args.from is c.requires.placed in
     let spare = spare_in c.args.self.now.spaces x.tasks x.areas x.rmap c.args.to is c.requires.frame c.requires.spare in
     (λ i. spaces_view (tasks_after g c i) (areas_after g c i) (c.carry.ensures i))
-    ∙ hold_shows x.tasks x.areas x.rmap c.args.page c.args.from c.args.to c.self.invariant placed spare
+    ∙ hold_shows x.tasks x.areas x.rmap c.args.page c.args.from c.args.to (held_tied c.deref_mut-parts.ensures.value c.self.invariant) placed spare
     ∙ ap (λ y. with_moved y c.args.page c.args.to) is
 
 pub returns-clause-entries : goal.returns-clause-entries
 returns-clause-entries g c pid v =
-    let x = c.self.inside in
-    let is = ap (λ (h : HeldView). h.spaces) c.self.view_is in
+    let x = c.deref_mut-parts.result.now in
+    let is = ap (λ (h : HeldView). h.spaces) (held_seen c.deref_mut-parts.ensures.value c.self.view_is) in
     let placed = placed_in c.args.self.now.spaces x.tasks x.areas x.rmap c.args.page c.args.from is c.requires.placed in
     let spare = spare_in c.args.self.now.spaces x.tasks x.areas x.rmap c.args.to is c.requires.frame c.requires.spare in
     ap (λ (ts : Map ℕ Task). entry_at ts pid v) (tasks_after g c)
-    ∙ hold_entries x.tasks x.areas x.rmap c.args.page c.args.from c.args.to c.self.invariant placed spare pid v
-    ∙ ap (λ (h : HeldView). option_map (held_for c.args.from c.args.to) (entry_at h.tables pid v)) c.self.view_is
+    ∙ hold_entries x.tasks x.areas x.rmap c.args.page c.args.from c.args.to (held_tied c.deref_mut-parts.ensures.value c.self.invariant) placed spare pid v
+    ∙ ap (λ (h : HeldView). option_map (held_for c.args.from c.args.to) (entry_at h.tables pid v)) (held_seen c.deref_mut-parts.ensures.value c.self.view_is)
