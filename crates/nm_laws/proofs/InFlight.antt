@@ -5,6 +5,7 @@ pub mod Deciding
 pub mod Elsewhere
 pub mod Ending
 pub mod Entering
+pub mod Entries
 pub mod Filling
 pub mod Held
 pub mod Jobs

@@ -1,6 +1,7 @@
 -- What holds for every interleaving of a run's events.
-use Rattle.std.specs.Prelude.{◌≡◌, ◌↔◌, ℕ, ◌<◌, Bool, List, [], ◌∷◌, length, Some, IsTrue}
+use Rattle.std.specs.Prelude.{◌≡◌, ◌↔◌, ℕ, ◌<◌, Bool, List, [], ◌∷◌, map, length, Some, IsTrue}
 use Rattle.std.specs.List.{AllByRecursion}
+use Rattle.std.specs.Option.{option_map}
 use Rattle.nm_types.specs.declared.page.Page.{Page}
 use Rattle.nm_types.specs.Layout.{frame_count}
 use Rattle.nm_types.specs.State.{State}
@@ -9,10 +10,12 @@ use Rattle.nm_model.specs.definitions.Frames.{IsHome}
 use Rattle.nm_types.specs.declared.request.Wanted.{Wanted}
 use Rattle.nm_model.specs.definitions.PageTables.{entry_at, sight_of, entry_of}
 use Rattle.nm_model.specs.definitions.Touch.{Access, Held, site_of_access, is_held, in_flight}
-use Rattle.nm_model.specs.definitions.Run.{Ran, run}
+use Rattle.nm_model.specs.definitions.Run.{Ran, each_request, run}
+use Rattle.nm_model.specs.definitions.Seen.{sight_at}
 use Rattle.nm_model.specs.definitions.Sound.{IsSound}
 use Rattle.nm_laws.specs.Laws.{moves_all}
-use Rattle.nm_model.specs.definitions.RunMachine.{RunMachine, Ready, Ended, state_of}
+use Rattle.nm_laws.specs.Midway.{entry_meanwhile}
+use Rattle.nm_model.specs.definitions.RunMachine.{RunMachine, Ready, Moving, Ended, state_of}
 use Rattle.nm_model.specs.definitions.Events.{Event, Begin, after, accesses_in, hands}
 
 -- no page is on its way: every buffer is home, and every entry names the frame of the page shown there
@@ -65,6 +68,15 @@ abbrev pub EveryBufferIsInOneHand : Type 0
 EveryBufferIsInOneHand =
     (m : RunMachine) (target : ℕ) (wanted : List Wanted) (events : List Event) (n : RunMachine) →
     Unfolds m target wanted events n → (f : ℕ) → f < frame_count m.layout → length (hands n f) ≡ 1
+
+-- after each event of a run that has begun and not ended, the entries of the pages that move are held, whoever maps them, and
+-- no other entry is
+abbrev pub EveryEntryOfAMovingPageIsHeld : Type 0
+EveryEntryOfAMovingPageIsHeld =
+    (m : RunMachine) (target : ℕ) (wanted : List Wanted) (events : List Event) (n : RunMachine) →
+    Unfolds m target wanted events n → n.phase ≡ Moving → (pid v : ℕ) →
+    let moved = map (λ t. t.page) (each_request (state_of m) target wanted).taken in
+    entry_at n.tasks pid v ≡ option_map (entry_meanwhile (state_of n).place moved) (sight_at (state_of n) pid v)
 
 -- an access of a run is held exactly if it is not refused first and the page there moves
 abbrev pub HeldIsExact : Type 0

@@ -1,11 +1,14 @@
 -- What holds of the run machine while a run is under way.
-use Rattle.std.specs.Prelude.{◌≡◌, ℕ, ◌<◌, List, Bool, true, false, Option, Some, None, map, length}
+use Rattle.std.specs.Prelude.{◌≡◌, ℕ, ◌<◌, List, Bool, true, false, Option, Some, None, map, length, if◌then◌else◌}
 use Rattle.std.specs.Option.{is_some}
 use Rattle.std.specs.List.{AllByRecursion, list_any}
 use Rattle.nm_types.specs.declared.entry.Entry.{Entry}
+use Rattle.nm_types.specs.declared.entry.Entry.TheVariants.{Zero, Frame, Held}
 use Rattle.nm_types.specs.declared.page.Page.{Page}
+use Rattle.nm_types.specs.declared.sight.Sight.{Sight}
+use Rattle.nm_types.specs.declared.sight.Sight.TheVariants.{ZeroPage, Sees}
 use Rattle.nm_types.specs.Layout.{frame_count}
-use Rattle.nm_types.specs.Map.{get, page_cmp, same_page}
+use Rattle.nm_types.specs.Map.{Map, get, page_cmp, same_page}
 use Rattle.nm_model.specs.definitions.Events.{hands, held_by, is_given}
 use Rattle.nm_model.specs.definitions.PageTables.{entry_at, sight_of, entry_of}
 use Rattle.nm_model.specs.definitions.RunMachine.{RunMachine, Job, Moving, goes_to, job_from, state_of}
@@ -32,8 +35,21 @@ is_source jobs (Some f) = is_some (job_from jobs f)
 abbrev pub CopiesPage : RunMachine → List Job → ℕ × ℕ → Type 0
 CopiesPage m jobs ends = (p : Page) × (get page_cmp m.place p ≡ Some ends.0) × (goes_to jobs ends.0 ≡ ends.1)
 
+-- the frame that a job's page leaves, and the one that it takes
 abbrev pub ends_of : Job → ℕ × ℕ
 ends_of job = (job.source.0, job.target.0)
+
+-- an entry that names a frame is held, on its way there
+abbrev pub on_its_way : Entry → Entry
+on_its_way Zero = Zero
+on_its_way (Frame f) = Held f
+on_its_way (Held f) = Held f
+
+-- the entry for what is seen while these pages are on their way to the frames that they are placed in
+abbrev pub entry_meanwhile : Map Page ℕ → List Page → Sight → Entry
+entry_meanwhile place moved ZeroPage = Zero
+entry_meanwhile place moved (Sees p) =
+    let e = entry_of place (Sees p) in if list_any (same_page p) moved then on_its_way e else e
 
 -- these pages are moving
 pub record IsMidway (m : RunMachine) (moved : List Page) : Type 0 where

@@ -1,7 +1,7 @@
 //! Laws of the definitions alone. Each function does nothing, and its contract is the law.
 
 ghost use Rattle.nm_laws.specs.Laws.{DecidingKeepsMemory, FreeingKeepsMemory, BatchKeepsMemory, RunKeepsMemory, RunsKeepMemory, ReadingKeepsMemory, WritingIsExact, PolicyKeepsMemory, LooksSuffice, LooksAreBounded, SoundIsAudited, PlanIsOneByOne, AccessIsSound, RunIsSound, BatchIsSound, NewIsSound, SpawnIsSound, MapIsSound, AttachIsSound, PinIsSound, UnpinIsSound, PolicyIsSound, UnmapIsSound, ExitIsSound};
-ghost use Rattle.nm_laws.specs.Interleavings.{EverySoundStateIsRead, EveryRunCanEnd, EveryOrderIsTheRun, EveryBufferIsInOneHand, HeldIsExact};
+ghost use Rattle.nm_laws.specs.Interleavings.{EverySoundStateIsRead, EveryRunCanEnd, EveryOrderIsTheRun, EveryBufferIsInOneHand, EveryEntryOfAMovingPageIsHeld, HeldIsExact};
 ghost use Rattle.nm_laws.specs.Phases.{TouchesComeFirst, MovesComeLater};
 ghost use Rattle.nm_model.specs.examples.BeforeCopy.{PagesAreReadyFirst};
 
@@ -60,12 +60,14 @@ pub fn calls_keep_soundness()
 {}
 
 /// Whatever order a run's events take between its beginning and its end, the run is one request after another, the
-/// accesses one after another, and then the frames left become free. Each buffer is in one place throughout.
+/// accesses one after another, and then the frames left become free. Each buffer is in one place throughout, and the
+/// entries of pages that move are held until the run ends, whoever maps them (Documentation/mm/page_migration.rst).
 pub fn interleavings()
     ensures states { EverySoundStateIsRead }
     ensures ends { EveryRunCanEnd }
     ensures orders { EveryOrderIsTheRun }
     ensures hands { EveryBufferIsInOneHand }
+    ensures entries { EveryEntryOfAMovingPageIsHeld }
     ensures held { HeldIsExact }
 {}
 

@@ -18,9 +18,11 @@ use Rattle.nm_model.specs.definitions.Frames.{Store, bytes_of}
 use Rattle.nm_types.specs.declared.request.Wanted.{Wanted}
 use Rattle.nm_types.specs.declared.taken.Taken.{Taken}
 use Rattle.nm_model.specs.definitions.PageTables.{entry_at, process_of, sight_of, entry_of}
+use Rattle.nm_model.specs.definitions.Seen.{sight_at}
 use Rattle.nm_model.specs.definitions.Run.{Progress, each_request, frames_left}
 use Rattle.nm_model.specs.definitions.Sound.{times, IsSound, IsSoundMidRun}
 use Rattle.nm_laws.specs.Laws.{moves_all}
+use Rattle.nm_laws.proofs.Seen.Shown.{sight_shown}
 use Rattle.nm_laws.proofs.Soundness.Frames.{here, times_cons}
 use Rattle.nm_types.proofs.Maps.{page_cmp_total, exact_page, agree}
 use Rattle.nm_laws.proofs.Soundness.Moved.{each_sound}
@@ -49,6 +51,10 @@ module _ (buf : Store) where
   targets_of : (taken : List Taken) → targets (jobs_of buf taken) ≡ map (λ t. t.to) taken
   targets_of [] = refl
   targets_of (t ∷ taken) = ap (λ xs. t.to ∷ xs) (targets_of taken)
+
+  ends_are : (taken : List Taken) → map ends_of (jobs_of buf taken) ≡ map (λ t. (t.from, t.to)) taken
+  ends_are [] = refl
+  ends_are (t ∷ taken) = ap (λ xs. (t.from, t.to) ∷ xs) (ends_are taken)
 
   count_of : (taken : List Taken) → length (jobs_of buf taken) ≡ length taken
   count_of [] = refl
@@ -232,6 +238,16 @@ module _ (m : RunMachine) (target : ℕ) (wanted : List Wanted) (rest : IsAtRest
       agree page_cmp_total exact_page (λ (q : Page) f. content (fold without_both m.buf jobs) jobs f) (λ (q : Page) f. content m.buf m.jobs f) m.place in_order content_stays in
       (λ i. record (state_of (laid p.taken statuses)) { processes = processes i; place = place i; bytes = bytes i }) ∙ sym d.state
 
+  -- an entry names the frame of the page that is seen there
+  entry_before : (pid v : ℕ) (o : Option Entry) → entry_at m.tasks pid v ≡ o → o ≡ option_map (entry_of (state_of m).place) (option_map (sight_of m.areas pid v) o)
+  entry_before pid v None e = refl
+  entry_before pid v (Some entry) e = ap Some (rest.settled.entries pid v entry e ∙ ap (λ ps. entry_of ps (sight_of m.areas pid v entry)) (sym place_is))
+
+  laid_entries_are : (pid v : ℕ) → entry_at (with_entries (held_by jobs) m.tasks) pid v ≡ option_map (held_by jobs) (option_map (entry_of (state_of m).place) (sight_at (state_of m) pid v))
+  laid_entries_are pid v =
+      changed_at (held_by jobs) m.tasks pid v
+      ∙ ap (option_map (held_by jobs)) (entry_before pid v (entry_at m.tasks pid v) refl ∙ ap (option_map (entry_of (state_of m).place)) (sym (sight_shown m.areas m.tasks pid v)))
+
   laid_entries : (pid v : ℕ) (e : Entry) → entry_at (with_entries (held_by jobs) m.tasks) pid v ≡ Some e → e ≡ held_by jobs (entry_of m.place (sight_of m.areas pid v e))
   laid_entries pid v e there =
       let was = unmap_some (held_by jobs) (entry_at m.tasks pid v) e (sym (changed_at (held_by jobs) m.tasks pid v) ∙ there) in
@@ -295,7 +311,9 @@ module _ (m : RunMachine) (target : ℕ) (wanted : List Wanted) (rest : IsAtRest
         };
         state = laid_state statuses;
         sources_are = sources_of m.buf p.taken;
+        ends = ends_are m.buf p.taken;
         count = count_of m.buf p.taken;
+        entries = laid_entries_are;
         statuses = same;
         answers = rest.unanswered;
         layout = refl;

@@ -12,12 +12,13 @@ use Rattle.nm_model.specs.definitions.Run.{each_request, with_all_free, with_cou
 use Rattle.nm_model.specs.definitions.RunMachine.{RunMachine, Job, Moving, Ended, state_of}
 use Rattle.nm_model.specs.definitions.Events.{Event, Begin, Draw, Give, Touch, End, after, accesses_in, drawn, given, ended, begun, hands, is_ready, is_moving, is_laid, is_given, is_with}
 use Rattle.nm_model.specs.definitions.Accesses.{accessed}
-use Rattle.nm_laws.specs.Interleavings.{IsSettled, EveryOrderIsTheRun, EveryBufferIsInOneHand}
+use Rattle.nm_laws.specs.Interleavings.{IsSettled, EveryOrderIsTheRun, EveryBufferIsInOneHand, EveryEntryOfAMovingPageIsHeld}
 use Rattle.nm_laws.proofs.InFlight.Jobs.{shape, sources, drawn_shape, drawn_copied, given_shape, given_copied, sources_same, length_same}
 use Rattle.nm_laws.proofs.InFlight.Midway.{IsMidway, same_state, same_midway}
 use Rattle.nm_laws.proofs.InFlight.Ending.{ended_is, ended_once, ended_settled}
 use Rattle.nm_laws.proofs.InFlight.Accessing.{accessed_is}
 use Rattle.nm_laws.proofs.InFlight.Beginning.{begun_is}
+use Rattle.nm_laws.proofs.InFlight.Entries.{entry_is}
 
 some_is : {V : Type 0} {v w : V} → Some v ≡ Some w → v ≡ w
 some_is e = cc
@@ -143,3 +144,23 @@ pub every_buffer_is_in_one_hand : EveryBufferIsInOneHand
 every_buffer_is_in_one_hand m target wanted events n h f below =
     let first = begun_is m target wanted h.all h.rest h.sound h.alike in
     once_after events (begun m target wanted) n (map (λ t. t.page) (each_request (state_of m) target wanted).taken) first.midway (allowed _ _ n h.leads).1 f (subst (λ g. f < frame_count g) (sym first.layout) below)
+
+-- a run that has not ended is under way
+midway_after : (events : List Event) (m n : RunMachine) (moved : List Page) → IsMidway m moved → after m events ≡ Some n → n.phase ≡ Moving → IsMidway n moved
+midway_after [] m n moved h leads on = subst (λ (k : RunMachine). IsMidway k moved) (some_is leads) h
+midway_after (Begin target wanted ∷ events) m n moved h leads on = absurd (refused _ _ n (ap is_ready h.moving) leads)
+midway_after (Draw w ∷ events) m n moved h leads on =
+    midway_after events (record m { jobs = drawn w m.jobs }) n moved (same_midway m (drawn w m.jobs) (drawn_shape w m.jobs) moved (drawn_copied w m.jobs h.copied) h) (allowed _ _ n leads).1 on
+midway_after (Give w t ∷ events) m n moved h leads on =
+    midway_after events (record m { jobs = given t m.jobs }) n moved (same_midway m (given t m.jobs) (given_shape t m.jobs) moved (given_copied t m.jobs h.copied) h) (allowed _ _ n leads).1 on
+midway_after (Touch a ∷ events) m n moved h leads on =
+    midway_after events (accessed m a) n moved (accessed_is m moved h a).midway (allowed _ _ n leads).1 on
+midway_after (End ∷ events) m n moved h leads on =
+    let is = after_end events (ended m) n refl refl (allowed _ _ n leads).1 in
+    absurd (moving_ended (sym on ∙ sym (ap (λ (k : RunMachine). k.phase) is.1)))
+
+pub every_entry_of_a_moving_page_is_held : EveryEntryOfAMovingPageIsHeld
+every_entry_of_a_moving_page_is_held m target wanted events n h on =
+    let first = begun_is m target wanted h.all h.rest h.sound h.alike in
+    let moved = map (λ t. t.page) (each_request (state_of m) target wanted).taken in
+    entry_is n moved (midway_after events (begun m target wanted) n moved first.midway (allowed _ _ n h.leads).1 on)
