@@ -44,7 +44,7 @@ module _ (m : RunMachine) (jobs : List Job) (same : map shape jobs ≡ map shape
   same_source None = refl
   same_source (Some f) = sym (some_same jobs m.jobs same f)
 
-  same_ends : map ends_of m.jobs ≡ map ends_of jobs
+  pub same_ends : map ends_of m.jobs ≡ map ends_of jobs
   same_ends = ends_of_shapes m.jobs ∙ ap (map (λ (x : Shape). (x.0.0, x.1))) (sym same) ∙ sym (ends_of_shapes jobs)
 
   same_copies : (es : List (ℕ × ℕ)) → AllByRecursion (CopiesPage m m.jobs) es → AllByRecursion (CopiesPage (record m { jobs = jobs }) jobs) es

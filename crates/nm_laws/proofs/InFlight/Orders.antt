@@ -14,7 +14,7 @@ use Rattle.nm_model.specs.definitions.Events.{Event, Begin, Draw, Give, Touch, E
 use Rattle.nm_model.specs.definitions.Accesses.{accessed}
 use Rattle.nm_laws.specs.Interleavings.{IsSettled, EveryOrderIsTheRun, EveryBufferIsInOneHand, EveryEntryOfAMovingPageIsHeld}
 use Rattle.nm_laws.proofs.InFlight.Jobs.{shape, sources, drawn_shape, drawn_copied, given_shape, given_copied, sources_same, length_same}
-use Rattle.nm_laws.proofs.InFlight.Midway.{IsMidway, same_state, same_midway}
+use Rattle.nm_laws.proofs.InFlight.Midway.{IsMidway, ends_of, same_state, same_ends, same_midway}
 use Rattle.nm_laws.proofs.InFlight.Ending.{ended_is, ended_once, ended_settled}
 use Rattle.nm_laws.proofs.InFlight.Accessing.{accessed_is}
 use Rattle.nm_laws.proofs.InFlight.Beginning.{begun_is}
@@ -145,17 +145,60 @@ every_buffer_is_in_one_hand m target wanted events n h f below =
     let first = begun_is m target wanted h.all h.rest h.sound h.alike in
     once_after events (begun m target wanted) n (map (λ t. t.page) (each_request (state_of m) target wanted).taken) first.midway (allowed _ _ n h.leads).1 f (subst (λ g. f < frame_count g) (sym first.layout) below)
 
--- a run that has not ended is under way
-midway_after : (events : List Event) (m n : RunMachine) (moved : List Page) → IsMidway m moved → after m events ≡ Some n → n.phase ≡ Moving → IsMidway n moved
-midway_after [] m n moved h leads on = subst (λ (k : RunMachine). IsMidway k moved) (some_is leads) h
-midway_after (Begin target wanted ∷ events) m n moved h leads on = absurd (refused _ _ n (ap is_ready h.moving) leads)
-midway_after (Draw w ∷ events) m n moved h leads on =
-    midway_after events (record m { jobs = drawn w m.jobs }) n moved (same_midway m (drawn w m.jobs) (drawn_shape w m.jobs) moved (drawn_copied w m.jobs h.copied) h) (allowed _ _ n leads).1 on
-midway_after (Give w t ∷ events) m n moved h leads on =
-    midway_after events (record m { jobs = given t m.jobs }) n moved (same_midway m (given t m.jobs) (given_shape t m.jobs) moved (given_copied t m.jobs h.copied) h) (allowed _ _ n leads).1 on
-midway_after (Touch a ∷ events) m n moved h leads on =
-    midway_after events (accessed m a) n moved (accessed_is m moved h a).midway (allowed _ _ n leads).1 on
-midway_after (End ∷ events) m n moved h leads on =
+-- what a run that is under way, and does not end, makes of a machine
+pub record Flies (m n : RunMachine) (moved : List Page) (d : AllAnswered) : Type 0 where
+  pub midway : IsMidway n moved
+  pub state : state_of n ≡ d.state
+  pub answers : n.answers ≡ m.answers ++ d.answers
+  pub ends : map ends_of n.jobs ≡ map ends_of m.jobs
+
+module _ (m n : RunMachine) (moved : List Page) (h : IsMidway m moved) where
+  -- other jobs of the same shape
+  flies_same : (jobs : List Job) (events : List Event) → map shape jobs ≡ map shape m.jobs
+      → Flies (record m { jobs = jobs }) n moved (all_in_flight (state_of (record m { jobs = jobs })) moved (accesses_in events))
+      → Flies m n moved (all_in_flight (state_of m) moved (accesses_in events))
+  flies_same jobs events same rest =
+      let d : State → AllAnswered = λ s. all_in_flight s moved (accesses_in events) in
+      let s = same_state m jobs same in
+      record {
+        midway = rest.midway;
+        state = rest.state ∙ ap (λ t. (d t).state) s;
+        answers = rest.answers ∙ ap (λ t. m.answers ++ (d t).answers) s;
+        ends = rest.ends ∙ sym (same_ends m jobs same);
+      }
+
+pub flies : (events : List Event) (m n : RunMachine) (moved : List Page) → IsMidway m moved → after m events ≡ Some n → n.phase ≡ Moving → Flies m n moved (all_in_flight (state_of m) moved (accesses_in events))
+flies [] m n moved h leads on =
+    let is = some_is leads in
+    record {
+      midway = subst (λ (k : RunMachine). IsMidway k moved) is h;
+      state = ap state_of (sym is);
+      answers = ap (λ (k : RunMachine). k.answers) (sym is) ∙ sym (append-nil m.answers);
+      ends = ap (λ (k : RunMachine). map ends_of k.jobs) (sym is);
+    }
+flies (Begin target wanted ∷ events) m n moved h leads on = absurd (refused _ _ n (ap is_ready h.moving) leads)
+flies (Draw w ∷ events) m n moved h leads on =
+    let jobs = drawn w m.jobs in
+    let same = drawn_shape w m.jobs in
+    flies_same m n moved h jobs events same
+    (flies events (record m { jobs = jobs }) n moved (same_midway m jobs same moved (drawn_copied w m.jobs h.copied) h) (allowed _ _ n leads).1 on)
+flies (Give w t ∷ events) m n moved h leads on =
+    let jobs = given t m.jobs in
+    let same = given_shape t m.jobs in
+    flies_same m n moved h jobs events same
+    (flies events (record m { jobs = jobs }) n moved (same_midway m jobs same moved (given_copied t m.jobs h.copied) h) (allowed _ _ n leads).1 on)
+flies (Touch a ∷ events) m n moved h leads on =
+    let made = accessed_is m moved h a in
+    let rest = flies events (accessed m a) n moved made.midway (allowed _ _ n leads).1 on in
+    let now = in_flight (state_of m) moved a in
+    let d : State → AllAnswered = λ s. all_in_flight s moved (accesses_in events) in
+    record {
+      midway = rest.midway;
+      state = rest.state ∙ ap (λ t. (d t).state) made.state;
+      answers = rest.answers ∙ (λ i. made.answers i ++ (d (made.state i)).answers) ∙ append_assoc m.answers (now.answer ∷ []) (d now.state).answers;
+      ends = rest.ends ∙ ap (map ends_of) made.jobs;
+    }
+flies (End ∷ events) m n moved h leads on =
     let is = after_end events (ended m) n refl refl (allowed _ _ n leads).1 in
     absurd (moving_ended (sym on ∙ sym (ap (λ (k : RunMachine). k.phase) is.1)))
 
@@ -163,4 +206,4 @@ pub every_entry_of_a_moving_page_is_held : EveryEntryOfAMovingPageIsHeld
 every_entry_of_a_moving_page_is_held m target wanted events n h on =
     let first = begun_is m target wanted h.all h.rest h.sound h.alike in
     let moved = map (λ t. t.page) (each_request (state_of m) target wanted).taken in
-    entry_is n moved (midway_after events (begun m target wanted) n moved first.midway (allowed _ _ n h.leads).1 on)
+    entry_is n moved (flies events (begun m target wanted) n moved first.midway (allowed _ _ n h.leads).1 on).midway
