@@ -1,5 +1,5 @@
-//! The memory of a machine: the frames of all nodes with their bytes, each node's free frames, and the copying of pages
-//! from frame to frame while accesses to others are made.
+//! The memory of a machine: the frames of all nodes with their bytes, each node's free frames, and the frames while the
+//! bytes of some are out to be copied.
 #![tactic(auto)]
 
 mod answers;

@@ -148,24 +148,3 @@ module _ {A : Type 0} where
             ∙ ap (λ a. told_first a (all_stored_after_copy place (store_after_copy place (refilled store jobs) d) dues)) now.told,
         rest.1,
       )
-
-  -- the bytes of the moves of a run, copied and back home once that is done: as if they had been copied first
-  pub record IsHomeAgain (place : Map Page ℕ) (dues : List PendingAccess) (taken : List Taken) (store now : Store) (jobs : List (CopyJob A)) : Type 0 where
-    pub can : CanRefill now jobs
-    pub is : refilled now jobs ≡ (all_stored_after_copy place (with_copies store taken) dues).store
-    pub told : (all_stored_after_copy place (emptied store taken) dues).answers ≡ (all_stored_after_copy place (with_copies store taken) dues).answers
-
-  pub home_again : (place : Map Page ℕ) (dues : List PendingAccess) (taken : List Taken) (k : ℕ) (store now : Store) (jobs : List (CopyJob A)) → CanCopy store taken → AllByRecursion (CanDo place (emptied store taken)) dues
-      → now ≡ (all_stored_after_copy place (emptied store taken) dues).store → jobs ≡ map copied (jobs_of k store taken) → IsHomeAgain place dues taken store now jobs
-  home_again place dues taken k store now jobs can doable there are =
-      let out = emptied store taken in
-      let given : List (CopyJob A) = map copied (jobs_of k store taken) in
-      let after = all_after dues place given out (can_refill A taken k store can) doable in
-      let same = ap (λ (x : Store). all_stored_after_copy place x dues) (refilled_is A taken k store can) in
-      record {
-        can = subst (λ (x : Store). CanRefill x jobs) (sym there) (subst (λ (js : List (CopyJob A)). CanRefill (all_stored_after_copy place out dues).store js) (sym are) after.1);
-        is =
-            ap (λ (x : Store). refilled x jobs) there ∙ ap (λ (js : List (CopyJob A)). refilled (all_stored_after_copy place out dues).store js) are
-            ∙ ap (λ (x : StoreAfterCopy). x.store) (after.0 ∙ same);
-        told = ap (λ (x : StoreAfterCopy). x.answers) (after.0 ∙ same);
-      }

@@ -181,11 +181,6 @@ tickets_from A (x ∷ taken) k store zero job at =
     omega (arith, ap (λ (j : CopyJob A). j.ticket) is)
 tickets_from A (x ∷ taken) k store (suc t) job at = omega (arith, tickets_from A taken (k + 1) (without_both store x) t job at)
 
--- there is a job for each move
-pub as_many_jobs : (A : Type 0) (taken : List Taken) (k : ℕ) (store : Store) → length (jobs_of {A = A} k store taken) ≡ length taken
-as_many_jobs A [] k store = refl
-as_many_jobs A (x ∷ taken) k store = ap suc (as_many_jobs A taken (k + 1) (without_both store x))
-
 -- every frame is home after copying as before
 pub copies_home : (taken : List Taken) (store : Store) (q : ℕ) → IsHome store q → IsHome (with_copies store taken) q
 copies_home [] store q home = home
