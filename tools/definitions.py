@@ -16,10 +16,10 @@ import counting
 ROOT = os.path.dirname(os.path.dirname(os.path.abspath(__file__)))
 LIST = os.path.join(ROOT, "docs/DEFINITIONS_ALL.md")
 PAGE = os.path.join(ROOT, "docs/DEFINITIONS.md")
-# The contents of a module with arguments are indented, where a field of a record and a lemma look alike: only its abbreviations
-# and what does not unfold by itself are listed, as all definitions there are one of the two. In a block of definitions that
-# name one another every public name is a definition.
-DEFINES = re.compile(r"^(?:(?:abbrev|unfoldable|opaque) |\s+(?:abbrev|unfoldable|opaque) )?pub (?:(?:record|data) )?([^\s({:]+)")
+# The contents of a module with arguments are indented, where a field of a record and a lemma look alike: only its abbreviations,
+# what does not unfold by itself, records and data types are listed, as all definitions there are one of these. In a block of
+# definitions that name one another every public name is a definition.
+DEFINES = re.compile(r"^(?:\s*(?:abbrev|unfoldable|opaque) |\s+(?=pub (?:record|data) ))?pub (?:(?:record|data) )?([^\s({:]+)")
 MUTUAL = re.compile(r"^(?:(?:abbrev|unfoldable|opaque) )?mutual$")
 MEMBER = re.compile(r"^ +pub ([^\s({:]+) :")
 HEAD = """# All definitions
