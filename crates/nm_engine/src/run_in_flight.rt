@@ -6,11 +6,11 @@ ghost use Rattle.nm_frames.specs.Job.{copied};
 ghost use Rattle.nm_frames.specs.declared.job.CopyJob.{CopyJob as Job};
 ghost use Rattle.nm_types.specs.Map.{get, page_cmp};
 ghost use Rattle.nm_model.specs.definitions.Accesses.{accessed};
-ghost use Rattle.nm_model.specs.definitions.BeforeCopy.{all_after_copy, before_copy};
-ghost use Rattle.nm_model.specs.definitions.Events.{ended, is_given};
+ghost use Rattle.nm_model.specs.definitions.BeforeCopy.{after_copy, all_after_copy, answer_after_copy};
+ghost use Rattle.nm_model.specs.definitions.Events.{Event, accesses_in, after, ended, is_given};
 ghost use Rattle.nm_model.specs.definitions.Run.{failures, frames_left, with_all_free, with_counts};
-ghost use Rattle.nm_model.specs.definitions.RunMachine.{RunMachine, state_of};
-ghost use Rattle.nm_model.specs.definitions.Touch.{Access};
+ghost use Rattle.nm_model.specs.definitions.RunMachine.{RunMachine, Moving, state_of};
+ghost use Rattle.nm_model.specs.definitions.Touch.{Access, all_in_flight, in_flight};
 ghost use Rattle.nm_memory.specs.definitions.AfterCopy.{CanDo, all_stored_after_copy, answer_from_store, frame_at, store_after_copy};
 ghost use Rattle.nm_memory.specs.views.Accesses.{answer_shown, pending_shown, HasRoom};
 ghost use Rattle.nm_engine.specs.views.Flights.{AreOutIn, IsMoment, state_meanwhile, with_store};
@@ -65,12 +65,15 @@ impl<'m, A: Allocator + Copy> RunInFlight<'m, A> {
             ≡ answer_from_store self.old.spaces.place self.old.frames.frames
             (pending_shown due.entry) }
 
-        // The run machine that has made the same access
+        // The run machine that has made an access which does, and answers, the same
         ensures event { (m : RunMachine) (a : Access) (jobs : List (Job A)) →
             AreOutIn self.old jobs →
             IsMoment m self.old jobs →
-            before_copy (state_of m) (map (λ t. t.page) self.old.moves) a
-            ≡ record { state = state_of m; due = pending_shown due.entry } →
+            in_flight (state_of m) (map (λ t. t.page) self.old.moves) a
+            ≡ record {
+              state = after_copy (state_of m) (pending_shown due.entry);
+              answer = answer_after_copy (state_of m) (pending_shown due.entry)
+            } →
             IsMoment (accessed m a) self.new jobs
             × ((accessed m a).answers ≡ m.answers ++ answer_shown result ∷ []) }
     {
@@ -164,13 +167,26 @@ impl<'m, A: Allocator + Copy + Send + Sync> RunInFlight<'m, A> {
         requires space { vec_len dues ≤ vec_capacity answers }
 
         // Afterwards
+        ensures run { result.0
+            ≡ with_store self.entry
+            (all_stored_after_copy self.entry.spaces.place self.entry.frames.frames
+            (map pending_shown dues.entry.items)).store }
         ensures jobs { result.1.items ≡ map copied jobs.items }
         ensures out { AreOutIn result.0 result.1.items }
-        ensures moves { result.0.moves ≡ self.entry.moves }
         ensures state { state_meanwhile result.0 result.1.items
             ≡ (all_after_copy (state_meanwhile self.entry jobs.items) (map pending_shown dues.entry.items)).state }
         ensures answers { map answer_shown result.2.items
             ≡ (all_after_copy (state_meanwhile self.entry jobs.items) (map pending_shown dues.entry.items)).answers }
+
+        // The run machine in which jobs are drawn and given back, and accesses made which do and answer the same
+        ensures event { (m n : RunMachine) (events : List Event) →
+            IsMoment m self.entry jobs.items →
+            after m events ≡ Some n →
+            n.phase ≡ Moving →
+            all_in_flight (state_of m) (map (λ t. t.page) self.entry.moves) (accesses_in events)
+            ≡ all_after_copy (state_of m) (map pending_shown dues.entry.items) →
+            IsMoment n result.0 result.1.items
+            × (n.answers ≡ m.answers ++ map answer_shown result.2.items) }
     {
         let gate = crew.gate();
         let alloc = self.alloc;

@@ -139,13 +139,6 @@ module _ (y : AddressSpacesView) (k : FramesView) (online : List ℕ) (moved fai
   abbrev pub frames_then : FramesView
   frames_then = record k { frames = with_copies k.frames taken; vacated = frames_left taken }
 
-  -- .. as the calls leave the frames, one after another
-  pub copied_frames : (v w : FramesView) (z : AddressSpacesView) → v ≡ record k { vacated = frames_left taken } → z ≡ spaces_then → w ≡ record v { frames = (all_stored_after_copy z.place (with_copies v.frames taken) dues).store; room = w.room }
-      → w ≡ record k { frames = (all_stored_after_copy spaces_then.place (with_copies k.frames taken) dues).store; vacated = frames_left taken; room = w.room }
-  copied_frames v w z vacated remapped copied =
-      copied ∙ ap (λ (x : FramesView). record x { frames = (all_stored_after_copy z.place (with_copies x.frames taken) dues).store; room = w.room }) vacated
-      ∙ ap (λ (x : AddressSpacesView). record k { frames = (all_stored_after_copy x.place (with_copies k.frames taken) dues).store; vacated = frames_left taken; room = w.room }) remapped
-
   abbrev pub state_given : State
   state_given = shown_by y given online moved failed
 
@@ -264,9 +257,6 @@ module _ (y : AddressSpacesView) (k : FramesView) (online : List ℕ) (moved fai
 
     pub finished_shows : (z : FramesView) → z ≡ record k { frames = finished.store; vacated = frames_left taken; room = z.room } → shown_by spaces_then z online moved failed ≡ (all_after_copy (with_moves state_given target taken) dues).state
     finished_shows z is = ap (λ (x : FramesView). shown_by spaces_then x online moved failed) is ∙ ap (λ (x : AllAnswered). x.state) both
-
-    pub finished_told : finished.answers ≡ (all_after_copy (with_moves state_given target taken) dues).answers
-    finished_told = ap (λ (x : AllAnswered). x.answers) both
 
     pub finished_kept : (z : FramesView) → z ≡ record k { frames = finished.store; vacated = frames_left taken; room = z.room } → IsKept (shown_by spaces_then z online moved failed) z.vacated spaces_then.frames
     finished_kept z is =

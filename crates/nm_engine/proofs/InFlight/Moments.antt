@@ -1,75 +1,111 @@
 -- The run machine while pages are on their way: what its events make of it is what the engine's run shows.
-use Rattle.std.proofs.Common.{◌≡◌, ℕ, ℤ, Bool, List, [], ◌∷◌, ◌++◌, true, map, length, sym, ap, subst, ◌∙◌}
+use Rattle.std.proofs.Common.{◌≡◌, ℕ, ℤ, Bool, List, [], ◌∷◌, ◌++◌, true, map, length, refl, sym, ap, subst, ◌∙◌}
+use Rattle.std.specs.Prelude.{Option, Some}
+use Rattle.std.specs.Option.{option_map}
 use Rattle.std.specs.List.{AllByRecursion, list_all}
 use Rattle.std.proofs.lemmas.List.{length-map}
 use Rattle.nm_types.specs.State.{State}
+use Rattle.nm_types.specs.declared.entry.Entry.{Entry}
 use Rattle.nm_types.specs.declared.page.Page.{Page}
 use Rattle.nm_types.specs.declared.request.Wanted.{Wanted}
 use Rattle.nm_types.specs.declared.taken.Taken.{Taken}
 use Rattle.nm_frames.specs.declared.job.CopyJob.{CopyJob}
 use Rattle.nm_model.specs.definitions.Accesses.{accessed}
-use Rattle.nm_model.specs.definitions.BeforeCopy.{PendingAccess, before_copy}
+use Rattle.nm_model.specs.definitions.BeforeCopy.{PendingAccess, after_copy, all_after_copy, answer_after_copy}
 use Rattle.nm_model.specs.definitions.Decide.{Planned}
-use Rattle.nm_model.specs.definitions.Events.{begun, ended, is_given}
+use Rattle.nm_model.specs.definitions.Events.{Event, accesses_in, after, begun, ended, held_by, is_given, laid_for}
+use Rattle.nm_model.specs.definitions.Frames.{Store}
+use Rattle.nm_model.specs.definitions.PageTables.{entry_at, entry_of}
 use Rattle.nm_model.specs.definitions.Run.{each_request, failures, frames_left, with_all_free, with_counts}
-use Rattle.nm_model.specs.definitions.RunMachine.{RunMachine, Job, state_of}
+use Rattle.nm_model.specs.definitions.RunMachine.{RunMachine, Job, Moving, state_of}
+use Rattle.nm_model.specs.definitions.Seen.{sight_at}
 use Rattle.nm_model.specs.definitions.Sound.{IsSound}
-use Rattle.nm_model.specs.definitions.Touch.{Access, AccessAnswer, Answered}
+use Rattle.nm_model.specs.definitions.Touch.{Access, AccessAnswer, AllAnswered, Answered, all_in_flight, in_flight}
 use Rattle.nm_laws.specs.Interleavings.{IsAtRest}
 use Rattle.nm_laws.specs.Laws.{moves_all, with_moves}
 use Rattle.nm_laws.specs.Moves.{IsPlanOf}
-use Rattle.nm_laws.proofs.Early.Later.{at_once, flight_at_once}
 use Rattle.nm_laws.proofs.InFlight.Accessing.{accessed_is}
 use Rattle.nm_laws.proofs.InFlight.Beginning.{begun_is}
 use Rattle.nm_laws.proofs.InFlight.Ending.{ended_is}
-use Rattle.nm_laws.specs.Midway.{IsMidway, sources}
-use Rattle.nm_memory.specs.definitions.AfterCopy.{CanDo, answer_from_store, store_after_copy}
+use Rattle.nm_laws.proofs.InFlight.Entries.{entry_is}
+use Rattle.nm_laws.proofs.InFlight.Orders.{flies}
+use Rattle.nm_laws.specs.Midway.{IsMidway, ends_of, entry_meanwhile, sources}
+use Rattle.nm_memory.specs.definitions.AfterCopy.{CanDo, all_stored_after_copy, answer_from_store, store_after_copy}
 use Rattle.nm_engine.specs.views.Flights.{Flight, AreOutIn, IsMoment, state_meanwhile, with_store}
 use Rattle.nm_engine.proofs.InFlight.Flights.{answers_then, state_then}
 
 abbrev pages_of : List Taken → List Page
 pages_of moves = map (λ t. t.page) moves
 
+-- the frames that pages leave are the first ends of their jobs
+first_ends : (jobs : List Job) → sources jobs ≡ map (λ (e : ℕ × ℕ). e.0) (map ends_of jobs)
+first_ends [] = refl
+first_ends (job ∷ jobs) = ap (λ fs. job.source.0 ∷ fs) (first_ends jobs)
+
+left_first : (moves : List Taken) → map (λ (e : ℕ × ℕ). e.0) (map (λ (t : Taken). (t.from, t.to)) moves) ≡ frames_left moves
+left_first [] = refl
+left_first (t ∷ moves) = ap (λ fs. t.from ∷ fs) (left_first moves)
+
 module _ {A : Type 0} (m : RunMachine) (x : Flight) (jobs : List (CopyJob A)) where
   -- a run begins: its plan's moves are those that are on their way
-  pub begins : (target : ℕ) (wanted : List Wanted) (all : Bool) (p : Planned) → IsAtRest m → IsSound (state_of m) → AllByRecursion (λ w. moves_all w ≡ all) wanted → IsPlanOf (state_of m) target wanted p → p.taken ≡ x.moves
+  pub begins : (target : ℕ) (wanted : List Wanted) (all : Bool) (p : Planned)
+      → ((store : Store) (pid v : ℕ) → entry_at x.tables pid v ≡ option_map (held_by (map (laid_for store) x.moves)) (option_map (entry_of (state_of m).place) (sight_at (state_of m) pid v)))
+      → IsAtRest m → IsSound (state_of m) → AllByRecursion (λ w. moves_all w ≡ all) wanted → IsPlanOf (state_of m) target wanted p → p.taken ≡ x.moves
       → state_meanwhile x jobs ≡ with_moves (state_of m) target x.moves → IsMoment (begun m target wanted) x jobs
-  begins target wanted all p rest sound alike plan taken shows =
+  begins target wanted all p entered rest sound alike plan taken shows =
       let b = begun_is m target wanted all rest sound alike in
       let moves : (each_request (state_of m) target wanted).taken ≡ x.moves = plan.agrees.taken ∙ taken in
       record {
         midway = subst (λ (ts : List Taken). IsMidway (begun m target wanted) (pages_of ts)) moves b.midway;
         state = b.state ∙ plan.agrees.state ∙ ap (with_moves (state_of m) target) taken ∙ sym shows;
-        sources = b.sources_are ∙ ap frames_left moves;
+        entries = λ pid v. b.entries pid v ∙ ap (λ (ts : List Taken). option_map (held_by (map (laid_for m.buf) ts)) (option_map (entry_of (state_of m).place) (sight_at (state_of m) pid v))) moves ∙ sym (entered m.buf pid v);
+        ends = b.ends ∙ ap (map (λ (t : Taken). (t.from, t.to))) moves;
       }
 
-  -- an access whose touch is made: its answer is added
-  pub makes : (a : Access) (d : PendingAccess) → AreOutIn x jobs → IsMoment m x jobs → CanDo x.spaces.place x.frames.frames d → before_copy (state_of m) (pages_of x.moves) a ≡ record { state = state_of m; due = d }
-      → IsMoment (accessed m a) (with_store x (store_after_copy x.spaces.place x.frames.frames d)) jobs × ((accessed m a).answers ≡ m.answers ++ answer_from_store x.spaces.place x.frames.frames d ∷ [])
-  makes a d out now can touched =
+  -- events of which none ends the run change bytes alone
+  stays : (n : RunMachine) (store : Store) (given : List (CopyJob A)) → IsMoment m x jobs → IsMidway n (pages_of x.moves) → state_of n ≡ state_meanwhile (with_store x store) given → map ends_of n.jobs ≡ map ends_of m.jobs → IsMoment n (with_store x store) given
+  stays n store given now midway state ends =
+      let entry : State → ℕ → ℕ → Option Entry = λ s pid v. option_map (entry_meanwhile s.place (pages_of x.moves)) (sight_at s pid v) in
+      record {
+        midway = midway;
+        state = state;
+        entries = λ pid v.
+            entry_is n (pages_of x.moves) midway pid v ∙ ap (λ (s : State). entry s pid v) state ∙ ap (λ (s : State). entry s pid v) (sym now.state)
+            ∙ sym (entry_is m (pages_of x.moves) now.midway pid v) ∙ now.entries pid v;
+        ends = ends ∙ now.ends;
+      }
+
+  -- an access that does what is left to do, and whatever the code returns for it
+  pub makes : (a : Access) (d : PendingAccess) (y : Flight) (answer : AccessAnswer) → y ≡ with_store x (store_after_copy x.spaces.place x.frames.frames d) → answer ≡ answer_from_store x.spaces.place x.frames.frames d
+      → AreOutIn x jobs → IsMoment m x jobs → CanDo x.spaces.place x.frames.frames d → in_flight (state_of m) (pages_of x.moves) a ≡ record { state = after_copy (state_of m) d; answer = answer_after_copy (state_of m) d }
+      → IsMoment (accessed m a) y jobs × ((accessed m a).answers ≡ m.answers ++ answer ∷ [])
+  makes a d y answer is told out now can done =
       let made = accessed_is m (pages_of x.moves) now.midway a in
-      let at = flight_at_once (state_of m) (sources m.jobs) (pages_of x.moves) a now.midway.sound ∙ ap at_once touched in
-      let read = ap (λ (s : State). at_once (record { state = s; due = d })) now.state in (
-        record {
-          midway = made.midway;
-          state = made.state ∙ ap (λ (y : Answered). y.state) (at ∙ read) ∙ sym (state_then x jobs (d ∷ []) out (can, tt));
-          sources = ap sources made.jobs ∙ now.sources;
-        },
-        made.answers ∙ ap (λ (y : Answered). m.answers ++ y.answer ∷ []) (at ∙ read) ∙ ap (λ answers. m.answers ++ answers) (sym (answers_then x jobs (d ∷ []) out (can, tt))),
+      let same : in_flight (state_of m) (pages_of x.moves) a ≡ record { state = after_copy (state_meanwhile x jobs) d; answer = answer_after_copy (state_meanwhile x jobs) d } = done ∙ ap (λ (s : State). record { state = after_copy s d; answer = answer_after_copy s d }) now.state in
+      let state = made.state ∙ ap (λ (z : Answered). z.state) same ∙ sym (state_then x jobs (d ∷ []) out (can, tt)) in (
+        subst (λ (z : Flight). IsMoment (accessed m a) z jobs) (sym is) (stays (accessed m a) (store_after_copy x.spaces.place x.frames.frames d) jobs now made.midway state (ap (map ends_of) made.jobs)),
+        made.answers ∙ ap (λ (z : Answered). m.answers ++ z.answer ∷ []) same ∙ ap (λ answers. m.answers ++ answers) (sym (answers_then x jobs (d ∷ []) out (can, tt))) ∙ ap (λ z. m.answers ++ z ∷ []) (sym told),
       )
 
-  -- .. whatever the code returns for it
-  pub makes_so : (a : Access) (d : PendingAccess) (y : Flight) (answer : AccessAnswer) → y ≡ with_store x (store_after_copy x.spaces.place x.frames.frames d) → answer ≡ answer_from_store x.spaces.place x.frames.frames d
-      → AreOutIn x jobs → IsMoment m x jobs → CanDo x.spaces.place x.frames.frames d → before_copy (state_of m) (pages_of x.moves) a ≡ record { state = state_of m; due = d }
-      → IsMoment (accessed m a) y jobs × ((accessed m a).answers ≡ m.answers ++ answer ∷ [])
-  makes_so a d y answer is told out now can touched =
-      let made = makes a d out now can touched in
-      (subst (λ (z : Flight). IsMoment (accessed m a) z jobs) (sym is) made.0, made.1 ∙ ap (λ z. m.answers ++ z ∷ []) (sym told))
+  -- jobs are drawn and given back, and accesses are made
+  pub flies_so : (n : RunMachine) (events : List Event) (dues : List PendingAccess) (y : Flight) (given : List (CopyJob A)) (answers : List AccessAnswer) → y ≡ with_store x (all_stored_after_copy x.spaces.place x.frames.frames dues).store
+      → state_meanwhile y given ≡ (all_after_copy (state_meanwhile x jobs) dues).state → answers ≡ (all_after_copy (state_meanwhile x jobs) dues).answers
+      → IsMoment m x jobs → after m events ≡ Some n → n.phase ≡ Moving → all_in_flight (state_of m) (pages_of x.moves) (accesses_in events) ≡ all_after_copy (state_of m) dues
+      → IsMoment n y given × (n.answers ≡ m.answers ++ answers)
+  flies_so n events dues y given answers is shows told now leads on done =
+      let store = (all_stored_after_copy x.spaces.place x.frames.frames dues).store in
+      let flown = flies events m n (pages_of x.moves) now.midway leads on in
+      let same = done ∙ ap (λ (s : State). all_after_copy s dues) now.state in
+      let state = flown.state ∙ ap (λ (z : AllAnswered). z.state) same ∙ sym shows ∙ ap (λ (z : Flight). state_meanwhile z given) is in (
+        subst (λ (z : Flight). IsMoment n z given) (sym is) (stays n store given now flown.midway state flown.ends),
+        flown.answers ∙ ap (λ (z : AllAnswered). m.answers ++ z.answers) same ∙ ap (λ zs. m.answers ++ zs) (sym told),
+      )
 
   -- the run ends
   pub ends : (statuses : List ℤ) → IsMoment m x jobs → list_all (λ (job : Job). is_given job.stage) m.jobs ≡ true → m.statuses ≡ statuses
       → state_of (ended m) ≡ with_counts (with_all_free (state_meanwhile x jobs) (frames_left x.moves)) (length x.moves) (failures statuses)
   ends statuses now all told =
-      let count : length m.jobs ≡ length x.moves = sym (length-map m.jobs (λ (job : Job). job.source.0)) ∙ ap length now.sources ∙ length-map x.moves (λ (t : Taken). t.from) in
+      let left = first_ends m.jobs ∙ ap (map (λ (e : ℕ × ℕ). e.0)) now.ends ∙ left_first x.moves in
+      let count : length m.jobs ≡ length x.moves = sym (length-map m.jobs (λ (job : Job). job.source.0)) ∙ ap length left ∙ length-map x.moves (λ (t : Taken). t.from) in
       ended_is m (pages_of x.moves) now.midway all
-      ∙ (λ i. with_counts (with_all_free (now.state i) (now.sources i)) (count i) (failures (told i)))
+      ∙ (λ i. with_counts (with_all_free (now.state i) (left i)) (count i) (failures (told i)))

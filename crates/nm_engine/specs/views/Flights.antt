@@ -15,7 +15,7 @@ use Rattle.nm_model.specs.definitions.PageTables.{Task, entry_at}
 use Rattle.nm_model.specs.definitions.Run.{frames_left}
 use Rattle.nm_model.specs.definitions.RunMachine.{RunMachine, state_of}
 use Rattle.nm_model.specs.definitions.Sound.{IsSound}
-use Rattle.nm_laws.specs.Midway.{IsMidway, sources}
+use Rattle.nm_laws.specs.Midway.{IsMidway, ends_of}
 use Rattle.nm_laws.specs.Moves.{CanMove}
 use Rattle.nm_memory.specs.views.Copies.{refilled, CanRefill}
 use Rattle.nm_memory.specs.views.Frames.{FramesView, HasAllFrames}
@@ -31,6 +31,7 @@ pub record IsReadyFor (x : MidRun) (target : ℕ) (moves : List Taken) : Type 0 
   pub sound : IsSound (with_fronts x.state target (frames_taken moves))
   pub can : CanMove (with_fronts x.state target (frames_taken moves)) target moves
 
+-- a run whose pages are on their way
 pub record Flight : Type 0 where
   -- each process with its page table, by pid, in which the entries of pages on their way are held
   pub tables : Map ℕ Task
@@ -78,8 +79,10 @@ module _ {A : Type 0} where
     pub kept : IsKept (state_meanwhile x jobs) x.frames.vacated x.spaces.frames
     pub populated : AllByRecursion (IsPopulated (refilled x.frames.frames (map copied jobs))) x.frames.vacated
 
-  -- a run machine whose run is under way, of these moves, and which is read as the same state
+  -- a run machine whose run is under way, of these moves: it is read as the same state, and each process has the same entry
+  -- at each page number
   pub record IsMoment (m : RunMachine) (x : Flight) (jobs : List (CopyJob A)) : Type 0 where
     pub midway : IsMidway m (map (λ t. t.page) x.moves)
     pub state : state_of m ≡ state_meanwhile x jobs
-    pub sources : sources m.jobs ≡ frames_left x.moves
+    pub entries : (pid v : ℕ) → entry_at m.tasks pid v ≡ entry_at x.tables pid v
+    pub ends : map ends_of m.jobs ≡ map (λ t. (t.from, t.to)) x.moves

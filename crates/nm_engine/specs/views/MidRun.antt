@@ -15,7 +15,7 @@ pub record IsKept (s : State) (left : List ℕ) (frames : ℕ) : Type 0 where
   pub sound : IsSoundMidRun s left
   pub as_many : frames ≡ frame_count s.layout
 
--- .. and no run has frames
+-- the state is sound, the reverse map has as many frames as the nodes, and no frame belongs to a run
 pub record IsBetweenRuns (s : State) (left : List ℕ) (frames : ℕ) : Type 0 where
   pub kept : IsKept s left frames
   pub none : left ≡ []

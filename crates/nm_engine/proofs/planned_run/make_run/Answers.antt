@@ -19,7 +19,7 @@ use Rattle.nm_model.specs.definitions.Sound.{IsSound}
 use Rattle.nm_model.specs.definitions.Touch.{Access, AllAnswered}
 use Rattle.nm_model.specs.views.Asked.{access_shown}
 use Rattle.nm_memory.specs.views.Accesses.{answer_shown, pending_shown}
-use Rattle.nm_engine.specs.views.Flights.{IsReadyFor, state_meanwhile}
+use Rattle.nm_engine.specs.views.Flights.{Flight, IsReadyFor, state_meanwhile}
 use Rattle.nm_engine.specs.views.MidRun.{MidRun}
 use Rattle.nm_engine.proofs.InFlight.Flights.{copied_twice}
 use Rattle.nm_engine.proofs.planned_run.make_run.Goals as goal
@@ -144,7 +144,7 @@ returns-in-Ok-clause-state g c =
     ∙ run_state r t ws c.args.planned.plan moves accesses (all_after_copy (with_moves (given_back r t moves accesses) t moves) early.dues) ready.0 c.moves-moves.ensures ready.1.flight now (frames_left flown.moves) c.statuses.result.now
     (c.copy_beside-run.ensures.state ∙ ap (λ (x : State). (all_after_copy x dues).state) (c.begin-run.ensures.state t (ready_for c.prepare.new.self r c.args.machine t moves accesses at c.requires.target c.in-Ok.ensures.left c.in-Ok.ensures.state ready.1.back ready.1.can))
     ∙ ap (λ (x : State). (made dues x).state) c.in-Ok.ensures.state ∙ ap (λ (ds : List PendingAccess). (made ds early.state).state) c.in-Ok.ensures.dues)
-    (ap frames_left (c.copy_beside-run.ensures.moves ∙ c.begin-run.ensures.moves)) c.statuses.ensures
+    (ap (λ (x : Flight). frames_left x.moves) c.copy_beside-run.ensures.run ∙ ap frames_left c.begin-run.ensures.moves) c.statuses.ensures
     ∙ ap (λ (s : State). (run s t ws accesses).state) at
 
 -- memory that is asked for moves, or for accesses, is asked for none where nothing is requested

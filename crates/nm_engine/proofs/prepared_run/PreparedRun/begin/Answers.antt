@@ -177,5 +177,7 @@ returns-clause-due g c d pending =
 pub returns-clause-event : goal.returns-clause-event
 returns-clause-event g c m target wanted all p rest alike ready at plan taken =
     let moves = c.args.moves.now in
-    begins {A = g.row.A.Denot} m _ c.take_out-frames.result.1.items target wanted all p rest (subst IsSound (sym at) ready.sound) alike plan taken
+    begins {A = g.row.A.Denot} m _ c.take_out-frames.result.1.items target wanted all p
+    (λ store pid v. returns-clause-entries g c store pid v ∙ ap (λ (s : State). option_map (held_by (map (laid_for store) moves)) (entry_here (spaces_of s) pid v)) (sym at))
+    rest (subst IsSound (sym at) ready.sound) alike plan taken
     (returns-clause-state g c target ready ∙ ap (λ (s : State). with_moves s target moves) (sym at))

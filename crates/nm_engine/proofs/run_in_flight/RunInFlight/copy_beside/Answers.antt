@@ -1,10 +1,11 @@
-use Rattle.std.proofs.Common.{List, map, sym, ap, subst, ◌∙◌}
+use Rattle.std.proofs.Common.{List, map, sym, subst, ◌∙◌}
 use Rattle.nm_frames.specs.declared.job.CopyJob.{CopyJob}
 use Rattle.nm_frames.specs.Job.{copied}
 use Rattle.nm_memory.specs.definitions.AfterCopy.{all_stored_after_copy}
 use Rattle.nm_memory.specs.views.Accesses.{pending_shown}
 use Rattle.nm_engine.specs.views.Flights.{Flight, AreOutIn, state_meanwhile, with_store}
 use Rattle.nm_engine.proofs.InFlight.Flights.{answers_then, state_then, out_then, out_done, state_done}
+use Rattle.nm_engine.proofs.InFlight.Moments.{flies_so}
 use Rattle.nm_engine.proofs.run_in_flight.RunInFlight.copy_beside.Goals as goal
 
 pub copy_while-jobs-requires-clause-work : goal.copy_while-jobs-requires-clause-work
@@ -33,5 +34,10 @@ returns-clause-answers g c =
     let dues = map pending_shown c.args.dues.items in
     c.copy_while-jobs.ensures.work.1 ∙ answers_then c.args.self jobs dues c.requires.out c.requires.due
 
-pub returns-clause-moves : goal.returns-clause-moves
-returns-clause-moves g c = ap (λ (y : Flight). y.moves) c.copy_while-jobs.ensures.work.0
+pub returns-clause-run : goal.returns-clause-run
+returns-clause-run g c = c.copy_while-jobs.ensures.work.0
+
+pub returns-clause-event : goal.returns-clause-event
+returns-clause-event g c m n events now leads on done =
+    flies_so m c.args.self c.args.jobs.items n events (map pending_shown c.args.dues.items) c.copy_while-jobs.result.1.0 c.copy_while-jobs.result.0.items _ c.copy_while-jobs.ensures.work.0
+    (returns-clause-state g c) (returns-clause-answers g c) now leads on done
