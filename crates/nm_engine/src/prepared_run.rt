@@ -1,15 +1,33 @@
-//! Runs that are prepared.
+//! Runs that are prepared, and how they begin.
 
-ghost use Rattle.std.specs.Prelude.{◌≡◌, []};
+ghost use Rattle.std.specs.Prelude.{◌≡◌, ◌≤◌, [], ℕ, Bool, List, Some, map, length, slice_get, option_map};
+ghost use Rattle.std.specs.List.{AllByRecursion};
+ghost use Rattle.nm_types.specs.declared.request.Wanted.{Wanted};
+ghost use Rattle.nm_frames.specs.declared.job.CopyJob.{CopyJob as Job};
+ghost use Rattle.nm_laws.specs.Interleavings.{IsAtRest};
+ghost use Rattle.nm_laws.specs.Laws.{moves_all, with_moves};
+ghost use Rattle.nm_laws.specs.Moves.{IsPlanOf};
+ghost use Rattle.nm_model.specs.definitions.BeforeCopy.{PendingAccess as Pending, with_fronts, frames_taken, IsPending};
+ghost use Rattle.nm_model.specs.definitions.Decide.{Planned};
+ghost use Rattle.nm_model.specs.definitions.Events.{begun, held_by, laid_for};
+ghost use Rattle.nm_model.specs.definitions.Frames.{Store};
+ghost use Rattle.nm_model.specs.definitions.PageTables.{entry_at};
+ghost use Rattle.nm_model.specs.definitions.RunMachine.{RunMachine, state_of};
+ghost use Rattle.nm_spaces.specs.definitions.Moves.{all_moved};
+ghost use Rattle.nm_spaces.specs.views.Held.{entry_here};
+ghost use Rattle.nm_memory.specs.definitions.AfterCopy.{CanDo};
+ghost use Rattle.nm_engine.specs.views.Flights.{AreOutIn, IsMoment, IsReadyFor, state_meanwhile};
+ghost use Rattle.nm_engine.specs.views.Spaces.{spaces_of};
 
 mod prepare;
-mod run;
 pub(crate) mod undo;
 
 use crate::machine::{Machine, Totals};
+use crate::run_in_flight::RunInFlight;
+use nm_frames::CopyJob;
 use nm_memory::Frames;
-use nm_spaces::AddressSpaces;
-use nm_types::{NodeMask, Pid, Vpn};
+use nm_spaces::{AddressSpaces, HeldSpaces};
+use nm_types::{NodeMask, Pid, Taken, Vpn};
 use std::alloc::Allocator;
 use std::marker::Model;
 
@@ -69,5 +87,58 @@ impl<A: Allocator + Copy + Send + Sync> PreparedRun<A> {
             last_pin: self.last_pin,
             alloc: self.alloc,
         }
+    }
+
+    /// Begins the run of these moves, whose frames are taken: every entry that names a frame that a page leaves is held,
+    /// on its way to the frame that the page takes, and the bytes of both frames go out, as the jobs of the crew. Does
+    /// not allocate.
+    pub(crate) fn begin(self, moves: &[Taken]) -> (RunInFlight<'_, A>, Vec<CopyJob<A>, A>)
+        requires ready { (target : ℕ) × IsReadyFor self target moves.now }
+        requires few { length moves.now ≤ self.room }
+
+        // The run
+        ensures entries { (store : Store) (pid v : ℕ) →
+            entry_at result.0.tables pid v
+            ≡ option_map (held_by (map (laid_for store) moves.now))
+            (entry_here (spaces_of self.state) pid v) }
+        ensures spaces { result.0.spaces ≡ all_moved (spaces_of self.state) moves.now }
+        ensures moves { result.0.moves ≡ moves.now }
+        ensures state { (target : ℕ) →
+            IsReadyFor self target moves.now →
+            state_meanwhile result.0 result.1.items
+            ≡ with_moves (with_fronts self.state target (frames_taken moves.now)) target moves.now }
+
+        // The run machine that has begun the same run
+        ensures event { (m : RunMachine) (target : ℕ) (wanted : List Wanted) (all : Bool) (p : Planned) →
+            IsAtRest m →
+            AllByRecursion (λ w. moves_all w ≡ all) wanted →
+            IsReadyFor self target moves.now →
+            state_of m ≡ with_fronts self.state target (frames_taken moves.now) →
+            IsPlanOf (state_of m) target wanted p →
+            p.taken ≡ moves.now →
+            IsMoment (begun m target wanted) result.0 result.1.items }
+
+        // Its jobs
+        ensures out { AreOutIn result.0 result.1.items }
+        ensures tickets { (t : ℕ) (job : Job _) → slice_get result.1.items t ≡ Some job → job.ticket ≡ t }
+
+        // What is left to do for accesses can be done meanwhile
+        ensures due { (d : Pending) →
+            IsPending (map (λ t. t.page) moves.now) self.state d →
+            CanDo result.0.spaces.place result.0.frames.frames d }
+    {
+        let mut frames = self.frames;
+        frames.vacate_each(moves);
+        let (frames, jobs) = frames.take_out(moves);
+        let run = RunInFlight {
+            spaces: HeldSpaces::hold(self.spaces, moves),
+            frames,
+            online: self.online,
+            totals: self.totals,
+            last_pin: self.last_pin,
+            alloc: self.alloc,
+            moves,
+        };
+        (run, jobs)
     }
 }

@@ -16,12 +16,11 @@ ghost use Rattle.nm_memory.specs.views.Accesses.{answer_shown, pending_shown, Ha
 ghost use Rattle.nm_engine.specs.views.Flights.{AreOutIn, IsMoment, state_meanwhile, with_store};
 
 use crate::machine::{Machine, Totals};
-use crate::prepared_run::PreparedRun;
 use nm_crew::{Crew, Gate};
 use nm_frames::CopyJob;
 use nm_memory::{AccessAnswer, FramesInFlight, PendingAccess};
 use nm_spaces::HeldSpaces;
-use nm_types::{FrameId, NodeMask, Page, Pid, Taken, Vpn};
+use nm_types::{Errno, FrameId, NodeMask, Page, Pid, Taken, Vpn};
 use std::alloc::Allocator;
 use std::marker::Model;
 use std::sync::Wait;
@@ -230,26 +229,31 @@ impl<'m, A: Allocator + Copy + Send + Sync> RunInFlight<'m, A> {
             m.statuses ≡ statuses.now →
             state_of (ended m) ≡ result.0 }
     {
-        let mut run = self.arrive(jobs);
-        let failed = run.end_run(statuses);
-        (run.into_machine(), failed)
-    }
-
-    /// Lets the pages arrive: the bytes of the jobs, which are done, are home again, and each held entry names the frame
-    /// that its page was on its way to. Does not allocate.
-    fn arrive(self, jobs: Vec<CopyJob<A>, A>) -> PreparedRun<A>
-        requires out { AreOutIn self jobs.items }
-        requires done { map copied jobs.items ≡ jobs.items }
-        ensures state { result.state ≡ state_meanwhile self.entry jobs.items }
-        ensures left { result.left ≡ frames_left self.entry.moves }
-    {
-        PreparedRun {
-            spaces: self.spaces.settle(self.moves),
-            frames: self.frames.put_back(jobs),
+        let spaces = self.spaces.settle(self.moves);
+        let mut frames = self.frames.put_back(jobs);
+        let failed = failures(statuses);
+        let moved = frames.free_vacated();
+        let machine = Machine {
+            spaces,
+            frames,
             online: self.online,
-            totals: self.totals,
+            totals: self.totals.after(moved as u64, failed as u64),
             last_pin: self.last_pin,
             alloc: self.alloc,
-        }
+        };
+        (machine, failed)
     }
+}
+
+/// How many of these statuses are of failed requests: the page has a pin (EBUSY), or the target has no free frame
+/// (ENOMEM). This is what `pgmigrate_fail` of `/proc/vmstat` counts.
+fn failures(statuses: &[i32]) -> usize
+    ensures { result ≡ failures statuses.now }
+{
+    let pinned = -Errno::Ebusy.number();
+    let full = -Errno::Enomem.number();
+    statuses
+        .iter()
+        .filter(|status| **status == pinned || **status == full)
+        .count()
 }

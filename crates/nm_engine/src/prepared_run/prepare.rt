@@ -7,7 +7,7 @@ ghost use Rattle.nm_types.specs.declared.page.Page.{Page};
 ghost use Rattle.nm_types.specs.Layout.{node_count};
 ghost use Rattle.nm_types.specs.Map.{same_page};
 ghost use Rattle.nm_laws.specs.Moves.{CanMove};
-ghost use Rattle.nm_model.specs.definitions.Sound.{IsSound, IsSoundMidRun};
+ghost use Rattle.nm_model.specs.definitions.Sound.{IsSound};
 ghost use Rattle.nm_model.specs.definitions.Touch.{Read, Write};
 ghost use Rattle.nm_engine.specs.views.MidRun.{with_state};
 ghost use Rattle.nm_model.specs.definitions.BeforeCopy.{before_copy, all_before_copy, without_fronts, frames_taken};
@@ -62,7 +62,6 @@ impl<A: Allocator + Copy> PreparedRun<A> {
         ensures err { OnErr result (self.new ≡ record (self.old) { room = self.new.room }) }
         ensures asked { OnErr result (0 < length moves.now + length accesses.now) }
     {
-        self.reserve(moves.len())?;
         self.take_frames(target, moves)?;
         match self.touch_each(moves, accesses) {
             Ok(dues) => Ok(dues),
@@ -73,21 +72,11 @@ impl<A: Allocator + Copy> PreparedRun<A> {
         }
     }
 
-    /// Reserves room for `count` frames that a run's pages may leave.
-    fn reserve(&mut self, count: usize) -> Result<(), AllocError>
-        ensures room { OnOk result (length self.new.left + count ≤ self.new.room) }
-        ensures same { self.new ≡ record (self.old) { room = self.new.room } }
-        ensures sound { IsSoundMidRun self.old.state self.old.left }
-        ensures asked { OnErr result (0 < length self.old.left + count) }
-    {
-        self.frames.reserve(count)
-    }
-
     /// Takes the frames of moves to a node: they leave the node's list and belong to the run until its pages are in
-    /// them. Each gets its bytes in memory. An error means that the host is out of memory, and that nothing has changed.
+    /// them. Each gets its bytes in memory, and room is reserved for the frames that the pages leave. An error means that
+    /// the host is out of memory, and that nothing has changed but that room.
     fn take_frames(&mut self, target: NodeId, moves: &[Taken]) -> Result<(), AllocError>
         requires target { target < node_count self.old.state.layout }
-        requires room { length moves.now ≤ self.old.room }
         requires none { self.old.left ≡ [] }
         requires moves { CanMove self.old.state target moves.now }
 
@@ -95,15 +84,16 @@ impl<A: Allocator + Copy> PreparedRun<A> {
         ensures state { OnOk result
             (self.new.state ≡ without_fronts self.old.state target (length moves.now)) }
         ensures left { OnOk result (self.new.left ≡ frames_taken moves.now) }
-        ensures room { OnOk result (self.new.room ≡ self.old.room) }
+        ensures room { OnOk result (length moves.now ≤ self.new.room) }
 
         // In any case
         ensures sound { IsSound self.old.state }
 
         // Without memory
-        ensures err { OnErr result (self.new ≡ self.old) }
+        ensures err { OnErr result (self.new ≡ record (self.old) { room = self.new.room }) }
         ensures asked { OnErr result (0 < length moves.now) }
     {
+        self.frames.reserve(moves.len())?;
         self.frames.populate_each(self.alloc, moves)?;
         self.frames.take_for_run(target, moves.len());
         Ok(())

@@ -1,11 +1,12 @@
-use Rattle.std.proofs.Common.{ℕ, List, ◌<◌, ◌++◌, ap, take, drop, sym, subst, ◌∙◌, arith, length}
+use Rattle.std.proofs.Common.{◌≡◌, ℕ, List, ◌<◌, ◌++◌, ap, take, drop, sym, subst, ◌∙◌, arith, length}
 use Rattle.std.specs.Prelude.{slice_set}
 use Rattle.std.specs.List.{AllByRecursion}
 use Rattle.nm_frames.specs.Populated.{IsPopulated}
 use Rattle.nm_laws.proofs.Early.Phases.{tos_are}
 use Rattle.nm_types.specs.Layout.{node_count}
 use Rattle.nm_memory.specs.views.Frames.{FramesView, free_on}
-use Rattle.nm_engine.specs.views.MidRun.{MidRun}
+use Rattle.nm_spaces.specs.views.AddressSpaces.{AddressSpacesView}
+use Rattle.nm_engine.specs.views.MidRun.{MidRun, IsKept}
 use Rattle.nm_laws.specs.Moves.{CanMove}
 use Rattle.nm_areas.proofs.Counted.{err_always}
 use Rattle.nm_model.specs.definitions.BeforeCopy.{without_fronts}
@@ -16,12 +17,38 @@ use Rattle.nm_engine.proofs.Shown.Moves.{tos_below}
 use Rattle.nm_engine.proofs.Shown.PopulatedFrames.{same_shown, kept_again, view_again}
 use Rattle.nm_engine.proofs.prepared_run.PreparedRun.take_frames.Goals as goal
 
+-- the value of these parts
+abbrev value_of : AddressSpacesView → FramesView → List ℕ → ℕ → ℕ → MidRun
+value_of y k online moved failed = record { state = shown_by y k online moved failed; left = k.vacated; room = k.room }
+
+-- more room changes nothing else
+module _ (y : AddressSpacesView) (k r : FramesView) (online : List ℕ) (moved failed : ℕ) (same : r ≡ record k { room = r.room }) where
+  roomy_kept : IsKept (shown_by y k online moved failed) k.vacated y.frames → IsKept (shown_by y r online moved failed) r.vacated y.frames
+  roomy_kept kept = subst (λ (x : FramesView). IsKept (shown_by y x online moved failed) x.vacated y.frames) (sym same) kept
+
+  roomy_view : (x : MidRun) → value_of y k online moved failed ≡ x → value_of y r online moved failed ≡ record x { room = r.room }
+  roomy_view x view = ap (λ (z : FramesView). value_of y z online moved failed) same ∙ ap (λ (z : MidRun). record z { room = r.room }) view
+
+pub invariant_of-self : goal.invariant_of-self
+invariant_of-self g c =
+    let i = c.self.inside in
+    roomy_kept i.spaces i.frames c.reserve.new.self i.online i.totals.moved i.totals.failed c.in_err-reserve.ensures.same c.self.invariant
+
+pub returns-in_err-reserve-clause-err : goal.returns-in_err-reserve-clause-err
+returns-in_err-reserve-clause-err g c =
+    let i = c.self.inside in
+    err_always c.from_residual.result (roomy_view i.spaces i.frames c.reserve.new.self i.online i.totals.moved i.totals.failed c.in_err-reserve.ensures.same c.args.self.now c.self.view_is)
+
 pub populate_each-requires : goal.populate_each-requires
 populate_each-requires g c =
     let i = c.self.inside in
-    let same = ap (λ (x : MidRun). node_count x.state.layout) c.self.view_is in
-    tos_below c.args.moves.now _ c.args.target i.frames.vacated (omega (arith, same, c.self.invariant.sound.frames.lists, c.requires.target)) c.self.invariant.sound.frames
-    (subst (λ (x : MidRun). CanMove x.state c.args.target c.args.moves.now) (sym c.self.view_is) c.requires.moves)
+    let r : FramesView = c.reserve.new.self in
+    let room = c.in_ok-reserve.ensures.same in
+    let kept = roomy_kept i.spaces i.frames r i.online i.totals.moved i.totals.failed room c.self.invariant in
+    let view = roomy_view i.spaces i.frames r i.online i.totals.moved i.totals.failed room c.args.self.now c.self.view_is in
+    let same = ap (λ (x : MidRun). node_count x.state.layout) view in
+    tos_below c.args.moves.now _ c.args.target r.vacated (omega (arith, same, kept.sound.frames.lists, c.requires.target)) kept.sound.frames
+    (subst (λ (x : MidRun). CanMove x.state c.args.target c.args.moves.now) (sym view) c.requires.moves)
 
 -- the first frames of a node are taken, and these belong to the run
 abbrev left_with : FramesView → ℕ → ℕ → List ℕ → FramesView
@@ -30,21 +57,36 @@ left_with k node n frames = record k { free = slice_set k.free node (drop n (fre
 pub take_for_run-requires-clause-populated : goal.take_for_run-requires-clause-populated
 take_for_run-requires-clause-populated g c =
     let i = c.self.inside in
+    let r : FramesView = c.reserve.new.self in
     let k : FramesView = c.populate_each.new.self in
-    let kept = kept_again i.spaces i.frames k i.online i.totals.moved i.totals.failed c.in_ok-populate_each.ensures.same c.in_ok-populate_each.ensures.kept c.self.invariant in
-    let view = view_again i.spaces i.frames k i.online i.totals.moved i.totals.failed c.in_ok-populate_each.ensures.same c.in_ok-populate_each.ensures.kept c.args.self.now c.self.invariant c.self.view_is in
+    let room = c.in_ok-reserve.ensures.same in
+    let there = c.in_ok-populate_each.ensures in
+    let roomy = roomy_kept i.spaces i.frames r i.online i.totals.moved i.totals.failed room c.self.invariant in
+    let kept = kept_again i.spaces r k i.online i.totals.moved i.totals.failed there.same there.kept roomy in
+    let view = view_again i.spaces r k i.online i.totals.moved i.totals.failed there.same there.kept _ roomy (roomy_view i.spaces i.frames r i.online i.totals.moved i.totals.failed room c.args.self.now c.self.view_is) in
     let same = ap (λ (x : MidRun). node_count x.state.layout) view in
     let below : c.args.target < length k.free = omega (arith, same, kept.sound.frames.lists, c.requires.target) in
     let can = subst (λ (x : MidRun). CanMove x.state c.args.target c.args.moves.now) (sym view) c.requires.moves in
     let front = tos_are c.args.moves.now (shown_by i.spaces k i.online i.totals.moved i.totals.failed) c.args.target below can in
-    subst (AllByRecursion (IsPopulated k.frames)) front c.in_ok-populate_each.ensures.populated
+    subst (AllByRecursion (IsPopulated k.frames)) front there.populated
+
+pub invariant_of-self-in_err-populate_each : goal.invariant_of-self-in_err-populate_each
+invariant_of-self-in_err-populate_each g c =
+    let i = c.self.inside in
+    let r : FramesView = c.reserve.new.self in
+    kept_again i.spaces r c.populate_each.new.self i.online i.totals.moved i.totals.failed c.in_err-populate_each.ensures.same c.in_err-populate_each.ensures.kept
+    (roomy_kept i.spaces i.frames r i.online i.totals.moved i.totals.failed c.in_ok-reserve.ensures.same c.self.invariant)
 
 pub invariant_of-self-2 : goal.invariant_of-self-2
 invariant_of-self-2 g c =
     let i = c.self.inside in
+    let r : FramesView = c.reserve.new.self in
     let k : FramesView = c.populate_each.new.self in
-    let kept = kept_again i.spaces i.frames k i.online i.totals.moved i.totals.failed c.in_ok-populate_each.ensures.same c.in_ok-populate_each.ensures.kept c.self.invariant in
-    let view = view_again i.spaces i.frames k i.online i.totals.moved i.totals.failed c.in_ok-populate_each.ensures.same c.in_ok-populate_each.ensures.kept c.args.self.now c.self.invariant c.self.view_is in
+    let room = c.in_ok-reserve.ensures.same in
+    let there = c.in_ok-populate_each.ensures in
+    let roomy = roomy_kept i.spaces i.frames r i.online i.totals.moved i.totals.failed room c.self.invariant in
+    let kept = kept_again i.spaces r k i.online i.totals.moved i.totals.failed there.same there.kept roomy in
+    let view = view_again i.spaces r k i.online i.totals.moved i.totals.failed there.same there.kept _ roomy (roomy_view i.spaces i.frames r i.online i.totals.moved i.totals.failed room c.args.self.now c.self.view_is) in
     let same = ap (λ (x : MidRun). node_count x.state.layout) view in
     let below : c.args.target < length k.free = omega (arith, same, kept.sound.frames.lists, c.requires.target) in
     let can = subst (λ (x : MidRun). CanMove x.state c.args.target c.args.moves.now) (sym view) c.requires.moves in
@@ -53,29 +95,39 @@ invariant_of-self-2 g c =
     (ap (λ (x : MidRun). x.left) view ∙ c.requires.none) below can
     (c.take_for_run.ensures.taken ∙ ap (left_with k c.args.target (length c.args.moves.now)) (sym front))
 
-pub invariant_of-self : goal.invariant_of-self
-invariant_of-self g c =
-    let i = c.self.inside in
-    kept_again i.spaces i.frames c.populate_each.new.self i.online i.totals.moved i.totals.failed c.in_err-populate_each.ensures.same c.in_err-populate_each.ensures.kept c.self.invariant
-
 pub returns-in_err-populate_each-clause-err : goal.returns-in_err-populate_each-clause-err
 returns-in_err-populate_each-clause-err g c =
     let i = c.self.inside in
-    err_always c.from_residual.result (view_again i.spaces i.frames c.populate_each.new.self i.online i.totals.moved i.totals.failed c.in_err-populate_each.ensures.same c.in_err-populate_each.ensures.kept c.args.self.now c.self.invariant c.self.view_is)
+    let r : FramesView = c.reserve.new.self in
+    let k : FramesView = c.populate_each.new.self in
+    let there = c.in_err-populate_each.ensures in
+    let room = c.in_ok-reserve.ensures.same in
+    let roomy = roomy_kept i.spaces i.frames r i.online i.totals.moved i.totals.failed room c.self.invariant in
+    let view = view_again i.spaces r k i.online i.totals.moved i.totals.failed there.same there.kept _ roomy (roomy_view i.spaces i.frames r i.online i.totals.moved i.totals.failed room c.args.self.now c.self.view_is) in
+    let kept_room : k.room ≡ r.room = ap (λ (x : FramesView). x.room) there.same in
+    err_always c.from_residual-in_err-populate_each.result (view ∙ ap (λ n. record (c.args.self.now) { room = n }) (sym kept_room))
 
 pub returns-clause-state : goal.returns-clause-state
 returns-clause-state g c =
     let i = c.self.inside in
+    let r : FramesView = c.reserve.new.self in
+    let room = c.in_ok-reserve.ensures.same in
+    let roomy = roomy_kept i.spaces i.frames r i.online i.totals.moved i.totals.failed room c.self.invariant in
     ap (λ (x : FramesView). shown_by i.spaces x i.online i.totals.moved i.totals.failed) c.take_for_run.ensures.taken
     ∙ ap (λ (s : State). without_fronts s c.args.target (length c.args.moves.now))
-    (same_shown i.spaces i.frames c.populate_each.new.self i.online i.totals.moved i.totals.failed c.in_ok-populate_each.ensures.same c.in_ok-populate_each.ensures.kept i.frames.vacated c.self.invariant.sound ∙ ap (λ (x : MidRun). x.state) c.self.view_is)
+    (same_shown i.spaces r c.populate_each.new.self i.online i.totals.moved i.totals.failed c.in_ok-populate_each.ensures.same c.in_ok-populate_each.ensures.kept r.vacated roomy.sound
+    ∙ ap (λ (x : MidRun). x.state) (roomy_view i.spaces i.frames r i.online i.totals.moved i.totals.failed room c.args.self.now c.self.view_is))
 
 pub returns-clause-left : goal.returns-clause-left
 returns-clause-left g c =
     let i = c.self.inside in
+    let r : FramesView = c.reserve.new.self in
     let k : FramesView = c.populate_each.new.self in
-    let kept = kept_again i.spaces i.frames k i.online i.totals.moved i.totals.failed c.in_ok-populate_each.ensures.same c.in_ok-populate_each.ensures.kept c.self.invariant in
-    let view = view_again i.spaces i.frames k i.online i.totals.moved i.totals.failed c.in_ok-populate_each.ensures.same c.in_ok-populate_each.ensures.kept c.args.self.now c.self.invariant c.self.view_is in
+    let room = c.in_ok-reserve.ensures.same in
+    let there = c.in_ok-populate_each.ensures in
+    let roomy = roomy_kept i.spaces i.frames r i.online i.totals.moved i.totals.failed room c.self.invariant in
+    let kept = kept_again i.spaces r k i.online i.totals.moved i.totals.failed there.same there.kept roomy in
+    let view = view_again i.spaces r k i.online i.totals.moved i.totals.failed there.same there.kept _ roomy (roomy_view i.spaces i.frames r i.online i.totals.moved i.totals.failed room c.args.self.now c.self.view_is) in
     let same = ap (λ (x : MidRun). node_count x.state.layout) view in
     let below : c.args.target < length k.free = omega (arith, same, kept.sound.frames.lists, c.requires.target) in
     let can = subst (λ (x : MidRun). CanMove x.state c.args.target c.args.moves.now) (sym view) c.requires.moves in
