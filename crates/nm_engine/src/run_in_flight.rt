@@ -71,7 +71,7 @@ impl<'m, A: Allocator + Copy> RunInFlight<'m, A> {
             in_flight (state_of m) (map (λ t. t.page) self.old.moves) a
             ≡ record {
               state = after_copy (state_of m) (pending_shown due.entry);
-              answer = answer_after_copy (state_of m) (pending_shown due.entry)
+              answer = answer_after_copy (state_of m) (pending_shown due.entry);
             } →
             IsMoment (accessed m a) self.new jobs
             × ((accessed m a).answers ≡ m.answers ++ answer_shown result ∷ []) }
