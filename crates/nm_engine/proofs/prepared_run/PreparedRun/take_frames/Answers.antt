@@ -4,14 +4,15 @@ use Rattle.std.specs.List.{AllByRecursion}
 use Rattle.nm_frames.specs.Populated.{IsPopulated}
 use Rattle.nm_laws.proofs.Early.Phases.{tos_are}
 use Rattle.nm_types.specs.Layout.{node_count}
-use Rattle.nm_memory.specs.views.Frames.{FramesView, free_on}
+use Rattle.nm_memory.specs.views.Frames.{FramesView, KeepsBytes, free_on}
 use Rattle.nm_spaces.specs.views.AddressSpaces.{AddressSpacesView}
 use Rattle.nm_engine.specs.views.MidRun.{MidRun, IsKept}
 use Rattle.nm_laws.specs.Moves.{CanMove}
 use Rattle.nm_areas.proofs.Counted.{err_always}
-use Rattle.nm_model.specs.definitions.BeforeCopy.{without_fronts}
+use Rattle.nm_model.specs.definitions.BeforeCopy.{frames_taken, without_fronts}
 use Rattle.nm_engine.specs.views.Shown.{shown_by}
 use Rattle.nm_types.specs.State.{State}
+use Rattle.nm_types.specs.declared.taken.Taken.{Taken}
 use Rattle.nm_engine.proofs.InFlight.TakenFrames.{taken_kept}
 use Rattle.nm_engine.proofs.Shown.Moves.{tos_below}
 use Rattle.nm_engine.proofs.Shown.PopulatedFrames.{same_shown, kept_again, view_again}
@@ -28,6 +29,26 @@ module _ (y : AddressSpacesView) (k r : FramesView) (online : List ℕ) (moved f
 
   roomy_view : (x : MidRun) → value_of y k online moved failed ≡ x → value_of y r online moved failed ≡ record x { room = r.room }
   roomy_view x view = ap (λ (z : FramesView). value_of y z online moved failed) same ∙ ap (λ (z : MidRun). record z { room = r.room }) view
+
+-- the parts of a machine that has more room and whose frames have their bytes: it can still make these moves, which take
+-- the first frames of the node
+record IsReady (y : AddressSpacesView) (w : FramesView) (online : List ℕ) (moved failed : ℕ) (x : MidRun) (target : ℕ) (moves : List Taken) : Type 0 where
+  kept : IsKept (shown_by y w online moved failed) w.vacated y.frames
+  view : value_of y w online moved failed ≡ x
+  below : target < length w.free
+  can : CanMove (shown_by y w online moved failed) target moves
+  front : frames_taken moves ≡ take (length moves) (free_on w target)
+
+populated : (y : AddressSpacesView) (k r w : FramesView) (online : List ℕ) (moved failed : ℕ) (x : MidRun) (target : ℕ) (moves : List Taken) → r ≡ record k { room = r.room } → w ≡ record r { frames = w.frames } → KeepsBytes r.frames w.frames
+    → IsKept (shown_by y k online moved failed) k.vacated y.frames → value_of y k online moved failed ≡ x → target < node_count x.state.layout → CanMove x.state target moves → IsReady y w online moved failed (record x { room = r.room }) target moves
+populated y k r w online moved failed x target moves room same keeps kept view inside can =
+    let roomy = roomy_kept y k r online moved failed room kept in
+    let kept_then = kept_again y r w online moved failed same keeps roomy in
+    let view_then = view_again y r w online moved failed same keeps _ roomy (roomy_view y k r online moved failed room x view) in
+    let nodes = ap (λ (z : MidRun). node_count z.state.layout) view_then in
+    let below : target < length w.free = omega (arith, nodes, kept_then.sound.frames.lists, inside) in
+    let can_then = subst (λ (z : MidRun). CanMove z.state target moves) (sym view_then) can in
+    record { kept = kept_then; view = view_then; below = below; can = can_then; front = tos_are moves (shown_by y w online moved failed) target below can_then }
 
 pub invariant_of-self : goal.invariant_of-self
 invariant_of-self g c =
@@ -57,18 +78,11 @@ left_with k node n frames = record k { free = slice_set k.free node (drop n (fre
 pub take_for_run-requires-clause-populated : goal.take_for_run-requires-clause-populated
 take_for_run-requires-clause-populated g c =
     let i = c.self.inside in
-    let r : FramesView = c.reserve.new.self in
     let k : FramesView = c.populate_each.new.self in
-    let room = c.in_ok-reserve.ensures.same in
     let there = c.in_ok-populate_each.ensures in
-    let roomy = roomy_kept i.spaces i.frames r i.online i.totals.moved i.totals.failed room c.self.invariant in
-    let kept = kept_again i.spaces r k i.online i.totals.moved i.totals.failed there.same there.kept roomy in
-    let view = view_again i.spaces r k i.online i.totals.moved i.totals.failed there.same there.kept _ roomy (roomy_view i.spaces i.frames r i.online i.totals.moved i.totals.failed room c.args.self.now c.self.view_is) in
-    let same = ap (λ (x : MidRun). node_count x.state.layout) view in
-    let below : c.args.target < length k.free = omega (arith, same, kept.sound.frames.lists, c.requires.target) in
-    let can = subst (λ (x : MidRun). CanMove x.state c.args.target c.args.moves.now) (sym view) c.requires.moves in
-    let front = tos_are c.args.moves.now (shown_by i.spaces k i.online i.totals.moved i.totals.failed) c.args.target below can in
-    subst (AllByRecursion (IsPopulated k.frames)) front there.populated
+    let is = populated i.spaces i.frames c.reserve.new.self k i.online i.totals.moved i.totals.failed c.args.self.now c.args.target c.args.moves.now
+    c.in_ok-reserve.ensures.same there.same there.kept c.self.invariant c.self.view_is c.requires.target c.requires.moves in
+    subst (AllByRecursion (IsPopulated k.frames)) is.front there.populated
 
 pub invariant_of-self-in_err-populate_each : goal.invariant_of-self-in_err-populate_each
 invariant_of-self-in_err-populate_each g c =
@@ -80,20 +94,13 @@ invariant_of-self-in_err-populate_each g c =
 pub invariant_of-self-2 : goal.invariant_of-self-2
 invariant_of-self-2 g c =
     let i = c.self.inside in
-    let r : FramesView = c.reserve.new.self in
     let k : FramesView = c.populate_each.new.self in
-    let room = c.in_ok-reserve.ensures.same in
     let there = c.in_ok-populate_each.ensures in
-    let roomy = roomy_kept i.spaces i.frames r i.online i.totals.moved i.totals.failed room c.self.invariant in
-    let kept = kept_again i.spaces r k i.online i.totals.moved i.totals.failed there.same there.kept roomy in
-    let view = view_again i.spaces r k i.online i.totals.moved i.totals.failed there.same there.kept _ roomy (roomy_view i.spaces i.frames r i.online i.totals.moved i.totals.failed room c.args.self.now c.self.view_is) in
-    let same = ap (λ (x : MidRun). node_count x.state.layout) view in
-    let below : c.args.target < length k.free = omega (arith, same, kept.sound.frames.lists, c.requires.target) in
-    let can = subst (λ (x : MidRun). CanMove x.state c.args.target c.args.moves.now) (sym view) c.requires.moves in
-    let front = tos_are c.args.moves.now (shown_by i.spaces k i.online i.totals.moved i.totals.failed) c.args.target below can in
-    taken_kept i.spaces k c.take_for_run.new.self i.online i.totals.moved i.totals.failed c.args.target c.args.moves.now kept
-    (ap (λ (x : MidRun). x.left) view ∙ c.requires.none) below can
-    (c.take_for_run.ensures.taken ∙ ap (left_with k c.args.target (length c.args.moves.now)) (sym front))
+    let is = populated i.spaces i.frames c.reserve.new.self k i.online i.totals.moved i.totals.failed c.args.self.now c.args.target c.args.moves.now
+    c.in_ok-reserve.ensures.same there.same there.kept c.self.invariant c.self.view_is c.requires.target c.requires.moves in
+    taken_kept i.spaces k c.take_for_run.new.self i.online i.totals.moved i.totals.failed c.args.target c.args.moves.now is.kept
+    (ap (λ (x : MidRun). x.left) is.view ∙ c.requires.none) is.below is.can
+    (c.take_for_run.ensures.taken ∙ ap (left_with k c.args.target (length c.args.moves.now)) (sym is.front))
 
 pub returns-in_err-populate_each-clause-err : goal.returns-in_err-populate_each-clause-err
 returns-in_err-populate_each-clause-err g c =
@@ -121,16 +128,9 @@ returns-clause-state g c =
 pub returns-clause-left : goal.returns-clause-left
 returns-clause-left g c =
     let i = c.self.inside in
-    let r : FramesView = c.reserve.new.self in
     let k : FramesView = c.populate_each.new.self in
-    let room = c.in_ok-reserve.ensures.same in
     let there = c.in_ok-populate_each.ensures in
-    let roomy = roomy_kept i.spaces i.frames r i.online i.totals.moved i.totals.failed room c.self.invariant in
-    let kept = kept_again i.spaces r k i.online i.totals.moved i.totals.failed there.same there.kept roomy in
-    let view = view_again i.spaces r k i.online i.totals.moved i.totals.failed there.same there.kept _ roomy (roomy_view i.spaces i.frames r i.online i.totals.moved i.totals.failed room c.args.self.now c.self.view_is) in
-    let same = ap (λ (x : MidRun). node_count x.state.layout) view in
-    let below : c.args.target < length k.free = omega (arith, same, kept.sound.frames.lists, c.requires.target) in
-    let can = subst (λ (x : MidRun). CanMove x.state c.args.target c.args.moves.now) (sym view) c.requires.moves in
-    let front = tos_are c.args.moves.now (shown_by i.spaces k i.online i.totals.moved i.totals.failed) c.args.target below can in
+    let is = populated i.spaces i.frames c.reserve.new.self k i.online i.totals.moved i.totals.failed c.args.self.now c.args.target c.args.moves.now
+    c.in_ok-reserve.ensures.same there.same there.kept c.self.invariant c.self.view_is c.requires.target c.requires.moves in
     ap (λ (x : FramesView). x.vacated) c.take_for_run.ensures.taken
-    ∙ ap (λ xs. xs ++ take (length c.args.moves.now) (free_on k c.args.target)) (ap (λ (x : MidRun). x.left) view ∙ c.requires.none) ∙ sym front
+    ∙ ap (λ xs. xs ++ take (length c.args.moves.now) (free_on k c.args.target)) (ap (λ (x : MidRun). x.left) is.view ∙ c.requires.none) ∙ sym is.front
