@@ -2,15 +2,17 @@
 //! board, so a faster worker copies more, and every job comes back copied, in order, however many workers there are.
 #![tactic(auto)]
 
+mod alone;
+mod copying;
 mod crew;
-mod crews;
 mod gate;
+mod hired;
 mod room;
-mod starts;
-#[cfg(test)]
-mod tests;
+mod span;
 mod worker;
 
-pub use crew::copy_while;
-pub use crews::Crew;
+pub use alone::Alone;
+pub use crew::Crew;
 pub use gate::{Gate, OpenGate};
+pub use hired::Hired;
+pub use span::Span;

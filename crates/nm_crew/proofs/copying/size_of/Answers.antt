@@ -1,6 +1,6 @@
 use Rattle.std.proofs.Common.{refl}
 use Rattle.nm_crew.proofs.Sizes.{size_step}
-use Rattle.nm_crew.proofs.crew.size_of.Goals as goal
+use Rattle.nm_crew.proofs.copying.size_of.Goals as goal
 
 pub loop-job-init : goal.loop-job-init
 loop-job-init g c = refl

@@ -1,6 +1,6 @@
 use Rattle.std.proofs.Common.{◌≡◌, ◌+◌, vec_len}
 use Rattle.nm_crew.specs.Hands.{IsOver}
-use Rattle.nm_crew.proofs.crew.gather.Given as goal
+use Rattle.nm_crew.proofs.copying.gather.Given as goal
 
 abbrev pub invariant-loop-worker : goal.invariant-loop-worker
 invariant-loop-worker g l = IsOver l.board l.own.shares l.own × (l.own.shares + vec_len l.workers ≡ l.fn.own.shares + vec_len l.fn.workers)

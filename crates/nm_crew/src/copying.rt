@@ -1,0 +1,246 @@
+//! Copying by a crew of workers.
+
+ghost use Rattle.std.specs.Prelude.{◌≡◌, ◌⊎◌, ◌+◌, ◌<◌, ◌≤◌, ℕ, length, map, vec_len};
+ghost use Rattle.std.specs.Thread.{IsSync, IsSend};
+ghost use Rattle.nm_frames.specs.Job.{copied};
+ghost use Rattle.nm_board.specs.Tickets.{InTicketOrder};
+ghost use Rattle.nm_board.specs.Shown.{all_shares};
+ghost use Rattle.nm_crew.specs.Named.{named};
+ghost use Rattle.nm_crew.specs.Hands.{IsReady, IsOver};
+ghost use Rattle.nm_crew.specs.Others.{others_of, IsSizeOfAll};
+
+use crate::crew::Crew;
+use crate::gate::Gate;
+use crate::room::Room;
+use crate::worker::{Worker, work_off};
+use nm_board::{Board, Hand};
+use nm_frames::CopyJob;
+use std::alloc::Allocator;
+use std::marker::{Brand, PhantomData};
+use std::thread::Scope;
+
+/// Copies the jobs by a crew, and calls `work` meanwhile.
+pub(crate) fn copy_while<A: Allocator + Copy + Send + Sync, C: Crew, T, W: FnOnce() -> T>(
+    crew: &C,
+    alloc: A,
+    jobs: Vec<CopyJob<A>, A>,
+    work: W,
+) -> (Vec<CopyJob<A>, A>, T)
+    requires tickets { InTicketOrder jobs.items }
+    requires work { W.pre work }
+    ensures jobs { result.0.items ≡ map copied jobs.items }
+    ensures work { W.post work result.1 }
+{
+    let gate = crew.gate();
+    let others = others(jobs.as_slice(), gate.worth_from(), crew.workers());
+    if others == 0 {
+        return copy_alone(jobs, gate, work);
+    }
+    match Board::lay(alloc, jobs) {
+        Ok((board, hand)) => {
+            copy_by::<A, Brand, C, T, W>(crew, alloc, board, hand, others, work)
+        }
+        Err(jobs) => copy_alone(jobs, gate, work),
+    }
+}
+
+/// How many workers to use besides the caller to copy these jobs: none if they have fewer bytes to copy than make it worth
+/// it, and never more than there are jobs.
+fn others<A: Allocator + Copy>(jobs: &[CopyJob<A>], worth_from: usize, workers: usize) -> usize
+    requires { 0 < workers }
+    ensures { (size : ℕ) × IsSizeOfAll jobs.now size
+        × (result ≡ others_of size worth_from (length jobs.now) workers) }
+{
+    if size_of(jobs) < worth_from {
+        0
+    } else {
+        (workers - 1).min(jobs.len())
+    }
+}
+
+/// How many bytes there are to copy, at most the greatest `usize`.
+fn size_of<A: Allocator + Copy>(jobs: &[CopyJob<A>]) -> usize
+    ensures { IsSizeOfAll jobs.now result }
+{
+    let mut size = 0usize;
+    for job in jobs {
+        size = size.saturating_add(job.size());
+    }
+    size
+}
+
+/// Calls `work` and copies the jobs, all on the calling thread.
+fn copy_alone<A: Allocator + Copy, G: Gate, T, W: FnOnce() -> T>(
+    mut jobs: Vec<CopyJob<A>, A>,
+    gate: &G,
+    work: W,
+) -> (Vec<CopyJob<A>, A>, T)
+    requires { W.pre work }
+    ensures jobs { result.0.items ≡ map copied jobs.items }
+    ensures work { W.post work result.1 }
+{
+    let answer = work();
+    copy_each(jobs.as_mut_slice(), gate);
+    (jobs, answer)
+}
+
+/// Copies each job in turn.
+fn copy_each<A: Allocator + Copy, G: Gate>(jobs: &mut [CopyJob<A>], gate: &G)
+    ensures { jobs.new ≡ map copied jobs.old }
+{
+    for job in jobs {
+        gate.pass(0, job.ticket);
+        job.copy();
+    }
+}
+
+/// Copies a board's jobs with up to `others` workers besides the caller.
+fn copy_by<
+    A: Allocator + Copy + Send + Sync,
+    B: Room + Send + Sync,
+    C: Crew,
+    T,
+    W: FnOnce() -> T,
+>(
+    crew: &C,
+    alloc: A,
+    board: Board<A>,
+    mut own: Hand<A>,
+    others: usize,
+    work: W,
+) -> (Vec<CopyJob<A>, A>, T)
+    requires room { named board ≡ B.board }
+    requires own { own ≡ all_shares board }
+    requires others { others < 64 }
+    requires work { W.pre work }
+    ensures jobs { result.0.items ≡ map copied board.jobs }
+    ensures work { W.post work result.1 }
+{
+    let workers = hire::<A, B>(alloc, &board, &mut own, others);
+    let (mut own, answer, workers) = work_beside(crew, &board, workers, own, work);
+    gather(&board, &mut own, workers);
+    match board.clear(own) {
+        Ok(jobs) => (jobs, answer),
+        Err(_) => unreachable!(),
+    }
+}
+
+/// Makes `others` workers, each with one share of the hand, or none if there is no memory for their list.
+fn hire<A: Allocator + Copy, B: Room>(
+    alloc: A,
+    board: &Board<A>,
+    own: &mut Hand<A>,
+    others: usize,
+) -> Vec<Worker<A, B>, A>
+    requires room { named board.now ≡ B.board }
+    requires ready { IsReady board.now own.old }
+    requires others { others < own.old.shares }
+    ensures ready { IsReady board.now own.new }
+    ensures shares { own.new.shares + vec_len result ≡ own.old.shares }
+    ensures all { (vec_len result ≡ others) ⊎ (vec_len result ≡ 0) }
+{
+    let mut workers = Vec::new(alloc);
+    if workers.reserve(others).is_err() {
+        return workers;
+    }
+    for _ in 0..others {
+        let worker = hired(board, own);
+        workers.push_reserved(worker);
+    }
+    workers
+}
+
+/// Makes a worker with one share of the hand.
+fn hired<A: Allocator + Copy, B: Room>(board: &Board<A>, own: &mut Hand<A>) -> Worker<A, B>
+    requires room { named board.now ≡ B.board }
+    requires ready { IsReady board.now own.old }
+    requires shares { 1 < own.old.shares }
+    ensures ready { IsReady board.now own.new }
+    ensures shares { own.new.shares + 1 ≡ own.old.shares }
+{
+    Worker {
+        hand: own.split(board, 1),
+        room: PhantomData,
+    }
+}
+
+/// Lends each worker to a thread of its own, calls `work`, works as worker 0, and waits for the threads.
+fn work_beside<
+    'x,
+    A: Allocator + Copy + Send + Sync,
+    B: Room + Send + Sync,
+    C: Crew,
+    T,
+    W: FnOnce() -> T,
+>(
+    crew: &'x C,
+    board: &'x Board<A>,
+    mut workers: Vec<Worker<A, B>, A>,
+    own: Hand<A>,
+    work: W,
+) -> (Hand<A>, T, Vec<Worker<A, B>, A>)
+    requires room { named board.now ≡ B.board }
+    requires ready { IsReady board.now own }
+    requires work { W.pre work }
+    ensures over { IsOver board.now own.shares result.0 }
+    ensures work { W.post work result.1 }
+    ensures workers { vec_len result.2 ≡ vec_len workers }
+{
+    let all = workers.as_mut_slice();
+    let gate = crew.gate();
+    let (own, answer) = crew.scoped::<&(), _, _>(
+        |scope| -> (Hand<A>, T)
+            requires { (named board.now ≡ B.board) × IsReady board.now own × W.pre work
+                × IsSync C.Gate.row × IsSync B.row × IsSend B.row × IsSync A.row × IsSend A.row }
+            ensures { IsOver board.entry.now own.shares result.0 × W.post work result.1 }
+        {
+            start_each(crew, scope, all, board, gate);
+            let answer = work();
+            let mut own = own;
+            work_off(board, &mut own, gate, 0);
+            (own, answer)
+        },
+    );
+    (own, answer, workers)
+}
+
+/// Starts a thread for each worker, if there is a scope for them. If the host does not start one, the others do its work.
+fn start_each<'s, E, A: Allocator + Copy + Send + Sync, B: Room + Send + Sync, C: Crew>(
+    crew: &C,
+    scope: Option<&Scope<'s, E>>,
+    workers: &'s mut [Worker<A, B>],
+    board: &'s Board<A>,
+    gate: &'s C::Gate,
+)
+    requires { named board.now ≡ B.board }
+{
+    let Some(scope) = scope else {
+        return;
+    };
+    for (index, worker) in workers.iter_mut().enumerate() {
+        let number = index + 1;
+        let started = crew.builder(number).spawn_scoped(
+            scope,
+            move ||
+                requires { named board.now ≡ B.board }
+            { worker.run(board, gate, number) },
+        );
+        drop(started);
+    }
+}
+
+/// Joins all workers' hands into one.
+fn gather<A: Allocator + Copy, B: Room>(
+    board: &Board<A>,
+    own: &mut Hand<A>,
+    mut workers: Vec<Worker<A, B>, A>,
+)
+    requires room { named board.now ≡ B.board }
+    requires over { IsOver board.now own.old.shares own.old }
+    ensures { IsOver board.now (own.old.shares + vec_len workers) own.new }
+{
+    while let Some(worker) = workers.pop() {
+        let Worker { hand, .. } = worker;
+        own.join(board, hand);
+    }
+}
