@@ -20,14 +20,12 @@ ghost use Rattle.nm_memory.specs.views.Accesses.{answer_shown};
 use crate::answer::Moved;
 use crate::call_error::CallError;
 use crate::permission::Permit;
-use nm_crew::{Crew, Gate};
+use nm_crew::Crew;
 use nm_engine::{AccessAnswer, Machine};
 use nm_runs::{Run, check_batch, cut_pages};
 use nm_steps::{Batch, InFlight, MoveRequest};
 use nm_types::{Access, Errno, NodeMask};
 use std::alloc::{AllocError, Allocator};
-use std::sync::Wait;
-use std::thread::Threads;
 use std::vec;
 
 /// Whether the pages of a process that may use the allowed nodes may go to these nodes. If not, returns the refusal of
@@ -59,12 +57,8 @@ pub fn run_count(nodes: &[u32], limit: usize) -> usize
 /// for them. The accesses are made meanwhile, each in the run with its number. Allocates before the first run starts,
 /// except for what a run itself needs. An error means that the host is out of memory, and says after how many runs; no
 /// runs and no accesses take none.
-pub(crate) fn move_runs<
-    R: Threads + Wait + Sync,
-    A: Allocator + Copy + Send + Sync,
-    G: Gate + Sync,
->(
-    crew: &Crew<R, G>,
+pub(crate) fn move_runs<A: Allocator + Copy + Send + Sync, C: Crew>(
+    crew: &C,
     alloc: A,
     machine: &mut Machine<A>,
     runs: &[Run<A>],
@@ -107,12 +101,8 @@ pub(crate) fn move_runs<
 /// in each run. The runs and lists are made before the first run starts, so that memory for them cannot be refused
 /// halfway. An error means that the host is out of memory, and says after how many runs; a batch of no pages and no
 /// accesses takes none.
-pub(crate) fn move_batch<
-    R: Threads + Wait + Sync,
-    A: Allocator + Copy + Send + Sync,
-    G: Gate + Sync,
->(
-    crew: &Crew<R, G>,
+pub(crate) fn move_batch<A: Allocator + Copy + Send + Sync, C: Crew>(
+    crew: &C,
     alloc: A,
     machine: &mut Machine<A>,
     permit: &Permit,

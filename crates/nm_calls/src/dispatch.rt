@@ -14,12 +14,10 @@ ghost use Rattle.nm_calls.specs.views.Answers.{answer_of};
 use crate::answer::{Answer, Moved};
 use crate::call_error::CallError;
 use crate::system::System;
-use nm_crew::Gate;
+use nm_crew::Crew;
 use nm_steps::{Attachment, Call, MbindRequest, NewProcess, Question};
 use nm_types::NodeId;
 use std::alloc::Allocator;
-use std::sync::Wait;
-use std::thread::Threads;
 
 /// Makes a process.
 fn spawn<A: Allocator + Copy + Send + Sync>(
@@ -46,11 +44,10 @@ fn attach<A: Allocator + Copy + Send + Sync>(
 }
 
 /// Sets the policy of a range.
-fn mbind<R: Threads + Wait + Sync, A: Allocator + Copy + Send + Sync, G: Gate + Sync>(
-    rt: &R,
+fn mbind<A: Allocator + Copy + Send + Sync, C: Crew>(
+    crew: &C,
     system: &mut System<A>,
     request: &MbindRequest,
-    gate: &G,
 ) -> Result<Answer<A>, CallError>
     ensures done { Does answer_of result system.old system.new
         (calls.Mbind request.now.caller request.now.addr request.now.len request.now.mode request.now.nodes request.now.flags) }
@@ -58,23 +55,22 @@ fn mbind<R: Threads + Wait + Sync, A: Allocator + Copy + Send + Sync, G: Gate + 
         result ≡ Err (HostMemory runs policy_set) →
         MayAllocate system.old.state (calls.Mbind request.now.caller request.now.addr request.now.len request.now.mode request.now.nodes request.now.flags) }
 {
-    system.mbind(rt, request, gate)?;
+    system.mbind(crew, request)?;
     Ok(Answer::Failed(0))
 }
 
 /// Takes a node offline.
-fn offline<R: Threads + Wait + Sync, A: Allocator + Copy + Send + Sync, G: Gate + Sync>(
-    rt: &R,
+fn offline<A: Allocator + Copy + Send + Sync, C: Crew>(
+    crew: &C,
     system: &mut System<A>,
     node: NodeId,
-    gate: &G,
 ) -> Result<Answer<A>, CallError>
     ensures done { Does answer_of result system.old system.new (calls.Offline node) }
     ensures asked { (runs : ℕ) (policy_set : Bool) →
         result ≡ Err (HostMemory runs policy_set) →
         is_in system.old.state.online node ≡ true }
 {
-    system.offline(rt, node, gate)?;
+    system.offline(crew, node)?;
     Ok(Answer::Done)
 }
 
@@ -110,14 +106,9 @@ fn query<A: Allocator + Copy + Send + Sync>(
 
 impl<A: Allocator + Copy + Send + Sync> System<A> {
     /// Makes a call that is given as a value. It returns the same errors as the method of the same name, and leaves the
-    /// same state if the host is out of memory. The workers of a call that moves pages call the gate. Allocates only
+    /// same state if the host is out of memory. The crew makes the moves of a call that moves pages. Allocates only
     /// where `MayAllocate` holds: there is something to unmap, move, set or list, say.
-    pub fn call<R: Threads + Wait + Sync, G: Gate + Sync>(
-        &mut self,
-        rt: &R,
-        call: &Call<A>,
-        gate: &G,
-    ) -> Result<Answer<A>, CallError>
+    pub fn call<C: Crew>(&mut self, crew: &C, call: &Call<A>) -> Result<Answer<A>, CallError>
         ensures done { Does answer_of result self.old self.new (call_of call.now) }
         ensures asked { (runs : ℕ) (policy_set : Bool) →
             result ≡ Err (HostMemory runs policy_set) →
@@ -148,12 +139,10 @@ impl<A: Allocator + Copy + Send + Sync> System<A> {
                 self.write(*pid, *addr, bytes.as_slice())?;
                 Ok(Answer::Done)
             }
-            Call::MovePages(request) => Ok(Answer::Statuses(self.move_pages(rt, request, gate)?)),
-            Call::MigratePages(request) => Ok(Answer::Failed(self.migrate_pages(
-                rt, request, gate,
-            )?)),
-            Call::Mbind(request) => mbind(rt, self, request, gate),
-            Call::Offline { node } => offline(rt, self, *node, gate),
+            Call::MovePages(request) => Ok(Answer::Statuses(self.move_pages(crew, request)?)),
+            Call::MigratePages(request) => Ok(Answer::Failed(self.migrate_pages(crew, request)?)),
+            Call::Mbind(request) => mbind(crew, self, request),
+            Call::Offline { node } => offline(crew, self, *node),
             Call::Online { node } => online(self, *node),
             Call::Query(question) => Ok(Answer::Statuses(query(self, question)?)),
             Call::FreeList { node } => Ok(Answer::Frames(self.free_list(*node)?)),

@@ -16,15 +16,13 @@ use crate::batch::move_runs;
 use crate::call_error::CallError;
 use crate::listing::migrate_list;
 use crate::permission::{acted_on, names_missing_node, owner_of, usable};
-use nm_crew::{Crew, Gate};
+use nm_crew::Crew;
 use nm_engine::Machine;
 use nm_policy::pairs;
 use nm_runs::cut_within;
 use nm_steps::{InFlight, MigrateRequest};
 use nm_types::{Errno, NodeMask, Pid, ProcessInfo};
 use std::alloc::Allocator;
-use std::sync::Wait;
-use std::thread::Threads;
 
 /// What a caller may move.
 #[derive(Clone, Copy)]
@@ -106,8 +104,8 @@ pub(crate) fn migration_of<A: Allocator + Copy + Send + Sync>(
 /// pages and all runs are made before the first run starts. An error means that the host is out of memory, and says
 /// after how many runs.
 #[tactic(auto, using(crate::proofs::Trails::first_state))]
-pub(crate) fn migrate<R: Threads + Wait + Sync, A: Allocator + Copy + Send + Sync, G: Gate + Sync>(
-    crew: &Crew<R, G>,
+pub(crate) fn migrate<A: Allocator + Copy + Send + Sync, C: Crew>(
+    crew: &C,
     alloc: A,
     machine: &mut Machine<A>,
     what: Migration,

@@ -12,14 +12,12 @@ ghost use Rattle.nm_calls.specs.definitions.Offline.{offline_refusal, offline_ru
 
 use crate::call_error::CallError;
 use crate::passes::make_passes;
-use nm_crew::{Crew, Gate};
+use nm_crew::Crew;
 use nm_engine::Machine;
 use nm_policy::zonelist;
 use nm_runs::Wanted;
 use nm_types::{Errno, NodeId, NodeMask, Page};
 use std::alloc::{AllocError, Allocator};
-use std::sync::Wait;
-use std::thread::Threads;
 
 /// The other online nodes.
 fn others<A: Allocator + Copy + Send + Sync>(machine: &Machine<A>, node: NodeId) -> NodeMask
@@ -107,8 +105,8 @@ fn some_on<A: Allocator + Copy + Send + Sync>(
 /// Moves the pages of an online node to the others, in passes by their distance from it, and takes the node offline.
 /// All pages are listed before the first moves. EBUSY if a page is still on the node: the node is online, and the moves
 /// remain. If the host runs out of memory, the first runs remain, and the node is online.
-pub(crate) fn empty<R: Threads + Wait + Sync, A: Allocator + Copy + Send + Sync, G: Gate + Sync>(
-    crew: &Crew<R, G>,
+pub(crate) fn empty<A: Allocator + Copy + Send + Sync, C: Crew>(
+    crew: &C,
     alloc: A,
     machine: &mut Machine<A>,
     node: NodeId,

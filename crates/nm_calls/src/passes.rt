@@ -20,24 +20,18 @@ ghost use Rattle.nm_calls.specs.views.Runs.{Batches, MakesRuns, later, IsCounted
 
 use crate::batch::move_runs;
 use crate::call_error::CallError;
-use nm_crew::{Crew, Gate};
+use nm_crew::Crew;
 use nm_engine::Machine;
 use nm_runs::{Run, Wanted, cut_to};
 use nm_steps::InFlight;
 use nm_types::{Errno, NodeId, NodeMask, PageView, Seen};
 use std::alloc::Allocator;
-use std::sync::Wait;
-use std::thread::Threads;
 
 /// Makes runs, one after another, and returns the status of each request, in order. `count` is how many requests they
 /// have. Allocates before the first run starts, except for what a run itself needs. An error means that the host is out
 /// of memory; no runs take none.
-pub(crate) fn make_runs<
-    R: Threads + Wait + Sync,
-    A: Allocator + Copy + Send + Sync,
-    G: Gate + Sync,
->(
-    crew: &Crew<R, G>,
+pub(crate) fn make_runs<A: Allocator + Copy + Send + Sync, C: Crew>(
+    crew: &C,
     alloc: A,
     machine: &mut Machine<A>,
     runs: &[Run<A>],
@@ -92,8 +86,8 @@ fn put_without_frame<A: Allocator + Copy>(
 
 /// Makes a pass: all requests go to one node. Allocates before its first run starts, except for what a run itself
 /// needs.
-fn make_pass<R: Threads + Wait + Sync, A: Allocator + Copy + Send + Sync, G: Gate + Sync>(
-    crew: &Crew<R, G>,
+fn make_pass<A: Allocator + Copy + Send + Sync, C: Crew>(
+    crew: &C,
     alloc: A,
     machine: &mut Machine<A>,
     node: NodeId,
@@ -208,8 +202,8 @@ struct Next<A: Allocator + Copy> {
 }
 
 /// Makes the next pass. If the node has no free frame, nothing that an earlier pass left is looked at: all of it fails.
-fn next_pass<R: Threads + Wait + Sync, A: Allocator + Copy + Send + Sync, G: Gate + Sync>(
-    crew: &Crew<R, G>,
+fn next_pass<A: Allocator + Copy + Send + Sync, C: Crew>(
+    crew: &C,
     alloc: A,
     machine: &mut Machine<A>,
     node: NodeId,
@@ -270,12 +264,8 @@ pub(crate) fn later(error: CallError, made: usize, policy_set: bool) -> CallErro
 
 /// Makes a pass over each node in turn, until every request has found a free frame or failed for another reason.
 /// `policy_set` says whether the call has set a policy, and is passed on in an error.
-pub(crate) fn make_passes<
-    R: Threads + Wait + Sync,
-    A: Allocator + Copy + Send + Sync,
-    G: Gate + Sync,
->(
-    crew: &Crew<R, G>,
+pub(crate) fn make_passes<A: Allocator + Copy + Send + Sync, C: Crew>(
+    crew: &C,
     alloc: A,
     machine: &mut Machine<A>,
     nodes: &[NodeId],

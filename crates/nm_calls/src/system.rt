@@ -35,7 +35,7 @@ use crate::migrate::{migrate, migration_of};
 use crate::offline::{check_offline, empty};
 use crate::permission::permit_of;
 use crate::status::statuses_of;
-use nm_crew::{Crew, Gate};
+use nm_crew::{Crew, Gate, Hired};
 use nm_engine::{Machine, Totals};
 use nm_spaces::frame_named;
 use nm_steps::{
@@ -71,6 +71,9 @@ fn mapped_of<A: Allocator + Copy>(
 /// A machine of nodes, processes and pages, the most entries that a run may have, and the number of workers that copy.
 /// Contracts see its state, which is sound, and that limit: the number of workers changes nothing that a call does or
 /// returns.
+///
+/// A call that moves pages takes the crew that looks at them and copies them: that of the system's own workers
+/// (`System::crew`), or any other.
 ///
 /// A call with four arguments or more takes them as one value, such as an `MbindRequest`: a struct with public fields,
 /// which `Call` has too.
@@ -124,6 +127,16 @@ impl<A: Allocator + Copy + Send + Sync> System<A> {
             workers,
             alloc,
         })
+    }
+
+    /// The crew of its workers: the caller, threads of this runtime, and a gate for calls that move pages. A call makes
+    /// the same moves with any other crew, such as `Alone`, which needs no runtime.
+    pub fn crew<'c, R: Threads + Wait, G: Gate + Sync>(
+        &self,
+        rt: &'c R,
+        gate: &'c G,
+    ) -> Hired<'c, R, G> {
+        Hired::new(rt, self.workers, gate)
     }
 
     /// The allocator of its lists.
@@ -293,11 +306,10 @@ impl<A: Allocator + Copy + Send + Sync> System<A> {
     /// privilege); then for the first entry that is refused ENODEV (a node that does not exist or is offline) or else
     /// EACCES (a node that the process may not use, whoever calls). After `HostMemory { runs, .. }` the first `runs`
     /// runs remain.
-    pub fn move_pages<R: Threads + Wait + Sync, G: Gate + Sync>(
+    pub fn move_pages<C: Crew>(
         &mut self,
-        rt: &R,
+        crew: &C,
         request: &MoveRequest<A>,
-        gate: &G,
     ) -> Result<Moved<A>, CallError>
         ensures done { Does
             (λ moved. Statuses moved.failed moved.statuses.items
@@ -312,15 +324,7 @@ impl<A: Allocator + Copy + Send + Sync> System<A> {
         let nodes = batch.nodes.as_slice();
         check_targets(&self.machine, permit.allowed, nodes)?;
         let limit = self.run_limit;
-        let crew = Crew::new(rt, self.workers, gate);
-        move_batch(
-            &crew,
-            self.alloc,
-            &mut self.machine,
-            &permit,
-            request,
-            limit,
-        )
+        move_batch(crew, self.alloc, &mut self.machine, &permit, request, limit)
     }
 
     /// Moves the pages that a process sees on the nodes of `old` to those nodes of `new` that are online and that it
@@ -335,20 +339,18 @@ impl<A: Allocator + Copy + Send + Sync> System<A> {
     /// have); ESRCH (no such process); EPERM (a process of another user, without privilege); EPERM (a node of `new`
     /// that the process may not use, without privilege); EINVAL (no node of `new` that is online and that the process
     /// may use). After `HostMemory { runs, .. }` the first `runs` runs remain.
-    pub fn migrate_pages<R: Threads + Wait + Sync, G: Gate + Sync>(
+    pub fn migrate_pages<C: Crew>(
         &mut self,
-        rt: &R,
+        crew: &C,
         request: &MigrateRequest,
-        gate: &G,
     ) -> Result<usize, CallError>
         ensures { Does Failed result self.old self.new
             (MigratePages request.now.caller request.now.pid request.now.old request.now.new) }
     {
         let what = migration_of(&self.machine, request)?;
         let limit = self.run_limit;
-        let crew = Crew::new(rt, self.workers, gate);
         let moved = migrate(
-            &crew,
+            crew,
             self.alloc,
             &mut self.machine,
             what,
@@ -377,12 +379,7 @@ impl<A: Allocator + Copy + Send + Sync> System<A> {
     /// With MPOL_MF_STRICT and a flag to move, EIO is also returned if a listed page is not where the policy wants it
     /// after the moves: policy and moves remain. After `HostMemory { runs, policy_set }` the first `runs` runs remain,
     /// and the policy is set if `policy_set` says so. Allocates only if a flag to move is given, or an area is split.
-    pub fn mbind<R: Threads + Wait + Sync, G: Gate + Sync>(
-        &mut self,
-        rt: &R,
-        request: &MbindRequest,
-        gate: &G,
-    ) -> Result<(), CallError>
+    pub fn mbind<C: Crew>(&mut self, crew: &C, request: &MbindRequest) -> Result<(), CallError>
         ensures done { Does (λ done. Failed 0) result self.old self.new
             (Mbind request.now.caller request.now.addr request.now.len request.now.mode request.now.nodes request.now.flags) }
         ensures asked { (runs : ℕ) (policy_set : Bool) →
@@ -394,9 +391,8 @@ impl<A: Allocator + Copy + Send + Sync> System<A> {
             return Ok(());
         }
         let limit = self.run_limit;
-        let crew = Crew::new(rt, self.workers, gate);
         bind(
-            &crew,
+            crew,
             self.alloc,
             &mut self.machine,
             &binding,
@@ -415,12 +411,7 @@ impl<A: Allocator + Copy + Send + Sync> System<A> {
     /// Errors, in order: EINVAL (no such node); EBUSY (no other node is online). EBUSY is also returned if a page of
     /// the node stays: the moves remain, and the node is online. After `HostMemory { runs, .. }` the first `runs` runs
     /// remain, and the node is online.
-    pub fn offline<R: Threads + Wait + Sync, G: Gate + Sync>(
-        &mut self,
-        rt: &R,
-        node: NodeId,
-        gate: &G,
-    ) -> Result<(), CallError>
+    pub fn offline<C: Crew>(&mut self, crew: &C, node: NodeId) -> Result<(), CallError>
         ensures done { Does (λ done. Done) result self.old self.new (Offline node) }
         ensures asked { (runs : ℕ) (policy_set : Bool) →
             result ≡ Err (HostMemory runs policy_set) →
@@ -431,8 +422,7 @@ impl<A: Allocator + Copy + Send + Sync> System<A> {
             return Ok(());
         }
         let limit = self.run_limit;
-        let crew = Crew::new(rt, self.workers, gate);
-        empty(&crew, self.alloc, &mut self.machine, node, limit)
+        empty(crew, self.alloc, &mut self.machine, node, limit)
     }
 
     /// Brings a node online: its free frames may be taken again, and pages may go there. Does not allocate. A node that

@@ -12,14 +12,12 @@ ghost use Rattle.nm_calls.specs.views.Turns.{same_node};
 
 use crate::call_error::CallError;
 use crate::passes::make_runs;
-use nm_crew::{Crew, Gate};
+use nm_crew::Crew;
 use nm_engine::Machine;
 use nm_policy::Sent;
 use nm_runs::{Run, Wanted};
 use nm_types::Pid;
 use std::alloc::{AllocError, Allocator};
-use std::sync::Wait;
-use std::thread::Threads;
 
 /// How many pages at the front go to the same node as the first.
 fn same_node(sent: &[Sent]) -> usize
@@ -106,12 +104,8 @@ fn cut_sent<A: Allocator + Copy>(
 
 /// Moves pages of a process, each to a node of its own, in runs of at most `limit` pages, and returns the status of
 /// each page, in order. An error means that the host is out of memory; no pages take none.
-pub(crate) fn make_turns<
-    R: Threads + Wait + Sync,
-    A: Allocator + Copy + Send + Sync,
-    G: Gate + Sync,
->(
-    crew: &Crew<R, G>,
+pub(crate) fn make_turns<A: Allocator + Copy + Send + Sync, C: Crew>(
+    crew: &C,
     alloc: A,
     machine: &mut Machine<A>,
     pid: Pid,

@@ -105,7 +105,8 @@ fn make<'a>(
     text: &mut String,
 ) -> Result<(), AllocError> {
     text.push_str("| ")?;
-    match system.call(rt, call, &Through) {
+    let crew = system.crew(rt, &Through);
+    match system.call(&crew, call) {
         Ok(answer) => put_answer(text, &answer),
         Err(error) => write!(text, "{error:?} "),
     }

@@ -95,13 +95,7 @@ fn copy_each<A: Allocator + Copy, G: Gate>(jobs: &mut [CopyJob<A>], gate: &G)
 }
 
 /// Copies a board's jobs with up to `others` workers besides the caller.
-fn copy_by<
-    A: Allocator + Copy + Send + Sync,
-    B: Room + Send + Sync,
-    C: Crew,
-    T,
-    W: FnOnce() -> T,
->(
+fn copy_by<A: Allocator + Copy + Send + Sync, B: Room + Send + Sync, C: Crew, T, W: FnOnce() -> T>(
     crew: &C,
     alloc: A,
     board: Board<A>,

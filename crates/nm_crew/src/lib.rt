@@ -9,6 +9,8 @@ mod gate;
 mod hired;
 mod room;
 mod span;
+#[cfg(test)]
+mod tests;
 mod worker;
 
 pub use alone::Alone;

@@ -30,7 +30,7 @@ use crate::planned_run::{PlannedRun, make_run};
 use crate::resolved_address::ResolvedAddress;
 use crate::touch::push_zeros;
 use core::mem::replace_with;
-use nm_crew::{Crew, Gate};
+use nm_crew::Crew;
 use nm_memory::Frames;
 use nm_plan::{Plan, plan};
 use nm_runs::Run;
@@ -38,8 +38,6 @@ use nm_spaces::AddressSpaces;
 use nm_types::{Access, Geometry, MachineError, NodeId, NodeMask, Pid, Vpn};
 use std::alloc::{AllocError, Allocator};
 use std::marker::Model;
-use std::sync::Wait;
-use std::thread::Threads;
 
 /// How many pages have moved, and how many requests have failed because of a pin or for lack of a free frame. Each
 /// total stays at 2^64 - 1 once it is there.
@@ -202,9 +200,9 @@ impl<A: Allocator + Copy + Send + Sync> Machine<A> {
     ///
     /// The crew copies the pages, and each worker calls the gate before each copy. Neither the number of workers nor
     /// whether the host starts them makes a difference to any of this. Waits for their threads to end.
-    pub fn run_flight<R: Threads + Wait + Sync, G: Gate + Sync>(
+    pub fn run_flight<C: Crew>(
         &mut self,
-        crew: &Crew<R, G>,
+        crew: &C,
         requests: &Run<A>,
         accesses: &[&Access<A>],
     ) -> Result<RunAnswer<A>, AllocError>
@@ -253,11 +251,7 @@ impl<A: Allocator + Copy + Send + Sync> Machine<A> {
     }
 
     /// The plan of a run, from the classes of its requests at its start.
-    fn plan<R: Threads + Wait + Sync, G: Gate + Sync>(
-        &self,
-        crew: &Crew<R, G>,
-        requests: &Run<A>,
-    ) -> Result<Plan<A>, AllocError>
+    fn plan<C: Crew>(&self, crew: &C, requests: &Run<A>) -> Result<Plan<A>, AllocError>
         requires target { requests.now.target < node_count self.now.layout }
         requires alike { HasOneAll requests.now.wanted.items }
         ensures plan { IfOk result

@@ -11,19 +11,17 @@ ghost use Rattle.nm_memory.specs.views.Accesses.{answer_shown};
 use crate::answers::RunAnswer;
 use crate::machine::Machine;
 use crate::prepared_run::PreparedRun;
-use nm_crew::{Crew, Gate};
+use nm_crew::Crew;
 use nm_memory::AccessAnswer;
 use nm_plan::Plan;
 use nm_runs::Run;
 use nm_types::Access;
 use std::alloc::{AllocError, Allocator};
-use std::sync::Wait;
-use std::thread::Threads;
 
 /// A run with its plan, the accesses that come while its pages are on their way, and an empty list with room for their
 /// answers.
-pub(crate) struct PlannedRun<'r, A: Allocator + Copy, R: Threads + Wait + Sync, G: Gate + Sync> {
-    pub(crate) crew: &'r Crew<'r, R, G>,
+pub(crate) struct PlannedRun<'r, A: Allocator + Copy, C: Crew> {
+    pub(crate) crew: &'r C,
     pub(crate) requests: &'r Run<A>,
     pub(crate) plan: Plan<A>,
     pub(crate) accesses: &'r [&'r Access<A>],
@@ -32,15 +30,14 @@ pub(crate) struct PlannedRun<'r, A: Allocator + Copy, R: Threads + Wait + Sync, 
 
 /// Makes a planned run. Returns the machine after it, with what the run answers; an error means that the host is out of
 /// memory, and that the machine is as it was.
-pub(crate) fn make_run<A, R, G>(
+pub(crate) fn make_run<A, C>(
     machine: Machine<A>,
-    planned: PlannedRun<'_, A, R, G>,
+    planned: PlannedRun<'_, A, C>,
 ) -> (Machine<A>, Result<RunAnswer<A>, AllocError>)
 where
     A: Allocator + Copy + Send + Sync,
-    R: Threads + Wait + Sync,
-    G: Gate + Sync,
-    requires bounds { IsSend A.row × IsSync A.row × IsSync R.row × IsSync G.row × Frees A.Allocator A.dealloc_token }
+    C: Crew,
+    requires bounds { IsSend A.row × IsSync A.row × Frees A.Allocator A.dealloc_token }
     requires target { planned.requests.now.target < node_count machine.layout }
     requires plan { IsPlanOf machine planned.requests.now.target planned.requests.now.wanted.items planned.plan }
     requires unanswered { planned.answers.items ≡ [] }

@@ -23,8 +23,6 @@ use nm_spaces::HeldSpaces;
 use nm_types::{Errno, FrameId, NodeMask, Page, Pid, Taken, Vpn};
 use std::alloc::Allocator;
 use std::marker::Model;
-use std::sync::Wait;
-use std::thread::Threads;
 
 /// A run whose pages are on their way to other frames, with the whole machine. Whoever maps such a page, its entry is
 /// held, as it is in the kernel (Documentation/mm/page_migration.rst); the bytes of both frames of each move are out, in
@@ -145,9 +143,9 @@ impl<'m, A: Allocator + Copy> RunInFlight<'m, A> {
 impl<'m, A: Allocator + Copy + Send + Sync> RunInFlight<'m, A> {
     /// Has a crew make the copies of the run, and meanwhile does what is left to do for accesses. The answers go into a
     /// list that has room for them. Returns the run, the jobs, done, and the answers.
-    pub(crate) fn copy_beside<R: Threads + Wait + Sync, G: Gate + Sync>(
+    pub(crate) fn copy_beside<C: Crew>(
         self,
-        crew: &Crew<R, G>,
+        crew: &C,
         jobs: Vec<CopyJob<A>, A>,
         dues: Vec<PendingAccess<'_, A>, A>,
         answers: Vec<AccessAnswer<A>, A>,

@@ -8,7 +8,7 @@ ghost use Rattle.nm_trace.specs.Telling.{is_write_fault};
 
 use crate::text::{push_refusal, push_text};
 use nm_calls::{Call, CallError, System};
-use nm_crew::Gate;
+use nm_crew::{Crew, Gate};
 use nm_steps::{Trace, TraceError};
 use nm_streams::{Block, TellingWriter};
 use std::alloc::{AllocError, Allocator};
@@ -28,17 +28,11 @@ pub struct Summary {
 
 /// Makes the call of step k, and puts its lines, even if it is refused. An error means that the host was out of memory
 /// for the call: then nothing was put.
-pub(crate) fn make_step<
-    R: Threads + Wait + Sync,
-    A: Allocator + Copy + Send + Sync,
-    W: TellingWriter,
-    G: Gate + Sync,
->(
-    rt: &R,
+pub(crate) fn make_step<A: Allocator + Copy + Send + Sync, C: Crew, W: TellingWriter>(
+    crew: &C,
     system: &mut System<A>,
     k: usize,
     call: &Call<A>,
-    gate: &G,
     block: &mut Block<A>,
     writer: &mut W,
 ) -> Result<(), AllocError>
@@ -46,7 +40,7 @@ pub(crate) fn make_step<
         (call_of call.now) writer.old block.old writer.new block.new }
     ensures asked { OnErr result (MayAllocate system.old.state (call_of call.now)) }
 {
-    match system.call(rt, call, gate) {
+    match system.call(crew, call) {
         Ok(answer) => {
             push_text(block, writer, k, call, &answer);
             Ok(())
@@ -60,18 +54,12 @@ pub(crate) fn make_step<
 }
 
 /// Makes calls, from step 0 on, and writes their lines a block at a time.
-pub(crate) fn play_calls<
-    R: Threads + Wait + Sync,
-    A: Allocator + Copy + Send + Sync,
-    W: TellingWriter,
-    G: Gate + Sync,
->(
-    rt: &R,
+pub(crate) fn play_calls<A: Allocator + Copy + Send + Sync, C: Crew, W: TellingWriter>(
+    crew: &C,
     alloc: A,
     system: &mut System<A>,
     calls: &[Call<A>],
     writer: &mut W,
-    gate: &G,
 ) -> Result<Summary, TraceError>
     ensures plays { Plays system.old (map call_of calls.now) system.new (W.contents writer.old)
         (W.contents writer.new) result }
@@ -79,7 +67,7 @@ pub(crate) fn play_calls<
 {
     let mut block = Block::new(alloc, BLOCK_BYTES);
     for (k, call) in calls.iter().enumerate() {
-        let Ok(()) = make_step(rt, system, k, call, gate, &mut block, writer) else {
+        let Ok(()) = make_step(crew, system, k, call, &mut block, writer) else {
             let Ok(()) = block.finish(writer) else {
                 return Err(TraceError::WriteFault);
             };
@@ -119,5 +107,6 @@ pub fn play<
         (W.contents writer.old) (W.contents writer.new) result }
     ensures told { W.has_failed writer.new ≡ (is_write_fault result || W.has_failed writer.old) }
 {
-    play_calls(rt, alloc, system, trace.calls.as_slice(), writer, gate)
+    let crew = system.crew(rt, gate);
+    play_calls(&crew, alloc, system, trace.calls.as_slice(), writer)
 }

@@ -98,7 +98,8 @@ fn run_bytes<
     let Ok(mut system) = System::with_run_limit(alloc, geometry, workers, run_limit) else {
         return Err(TraceError::HostMemory(0));
     };
-    let summary = play_calls(rt, alloc, &mut system, calls.as_slice(), writer, gate)?;
+    let crew = system.crew(rt, gate);
+    let summary = play_calls(&crew, alloc, &mut system, calls.as_slice(), writer)?;
     Ok(Played { summary, system })
 }
 

@@ -120,12 +120,12 @@ impl<A: Allocator + Copy + Send + Sync> Session<A> {
         }
         let mut block = Block::new(self.alloc, usize::MAX);
         let mut closed = Closed::new();
+        let crew = self.system.crew(rt, gate);
         let Ok(()) = make_step(
-            rt,
+            &crew,
             &mut self.system,
             step,
             &call,
-            gate,
             &mut block,
             &mut closed,
         ) else {
