@@ -7,6 +7,7 @@ use std::marker::PhantomData;
 use std::thread::Scope;
 
 /// The caller alone, and the gate that it passes. It needs no runtime.
+#[derive(Drop)]
 pub struct Alone<'a, G: Gate + Sync> {
     gate: &'a G,
 }

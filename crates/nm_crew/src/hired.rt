@@ -12,6 +12,7 @@ use std::thread::{Scope, Threads};
 
 /// The caller and threads of a runtime, 1 to 64 workers in total, and the gate that they pass. Contracts see the number
 /// of workers.
+#[derive(Drop)]
 pub struct Hired<'a, R: Threads + Wait, G: Gate + Sync> {
     rt: &'a R,
     workers: usize,

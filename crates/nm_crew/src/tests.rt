@@ -155,6 +155,7 @@ impl Gate for Meeting {
 const NONE: usize = 64;
 
 /// Workers of a runtime, of whom the host refuses the thread of one, or all threads if that is worker 0.
+#[derive(Drop)]
 struct Refused<'a, R: Threads + Wait, G: Gate + Sync> {
     crew: Hired<'a, R, G>,
     worker: usize,
