@@ -8,7 +8,7 @@
 ghost use Rattle.std.specs.Prelude.{◌≡◌, ◌<◌, ◌^◌, IfOk};
 
 use nm_engine::Machine;
-use nm_runs::{Class, Run, Wanted, classify_here};
+use nm_runs::{Class, Run, Wanted, classify};
 use nm_types::{FrameId, Geometry, MachineError, NodeId, NodeMask, Page, Pid, Vpn};
 use std::alloc::{AllocError, Global};
 use std::test::Fail;
@@ -143,7 +143,8 @@ fn has_classes(
 ) -> Result<bool, AllocError>
     requires { requests.now.target < 2 ^ 31 }
 {
-    let classes = classify_here(alloc, machine.geometry(), machine.spaces(), requests)?;
+    let (target, wanted) = (requests.target, requests.wanted.as_slice());
+    let classes = classify(alloc, machine.geometry(), machine.spaces(), target, wanted)?;
     Ok(classes.as_slice() == want)
 }
 

@@ -5,11 +5,11 @@ ghost use Rattle.nm_frames.specs.Job.{copied};
 ghost use Rattle.nm_board.specs.Tickets.{InTicketOrder};
 ghost use Rattle.nm_runs.specs.Shown.{class_shown, ShowsItsFrames};
 
-use crate::copying;
 use crate::gate::Gate;
 use crate::span::Span;
+use crate::{copying, looking};
 use nm_frames::CopyJob;
-use nm_runs::{Class, Run, classify, classify_here};
+use nm_runs::{Class, Run};
 use nm_types::{Geometry, PageView};
 use std::alloc::{AllocError, Allocator};
 use std::thread::{Builder, Scope};
@@ -83,6 +83,6 @@ pub trait Crew {
             (V.placed_at view.now) run.now.target) run.now.wanted.items) }
         ensures asked { OnErr result (0 < length run.now.wanted.items) }
     {
-        classify_here(alloc, geometry, view, run)
+        looking::classify(self, alloc, geometry, view, run)
     }
 }

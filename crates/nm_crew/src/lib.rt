@@ -7,6 +7,8 @@ mod copying;
 mod crew;
 mod gate;
 mod hired;
+mod look;
+mod looking;
 mod room;
 mod span;
 #[cfg(test)]

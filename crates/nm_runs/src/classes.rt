@@ -6,14 +6,9 @@ ghost use Rattle.nm_model.specs.definitions.Status.{class_of_look};
 ghost use Rattle.nm_types.specs.declared.request.Class.{Class};
 ghost use Rattle.nm_runs.specs.Shown.{class_shown, HasFrameBelow, ShowsItsFrames};
 
-use crate::{Class, Run, Wanted};
+use crate::{Class, Wanted};
 use nm_types::{Errno, Geometry, NodeId, PageView, Seen};
-use rayon::prelude::*;
 use std::alloc::{AllocError, Allocator};
-use std::thread::Threads;
-
-/// The fewest requests that a thread looks at: for fewer, starting a thread takes as long as looking.
-const PIECE: usize = 16_384;
 
 /// What to do with a request for what is seen here. A page that several processes see moves only if `all` is set.
 fn class_of_look<A: Allocator + Copy>(
@@ -108,71 +103,31 @@ fn classified<A: Allocator + Copy, V: PageView>(
     }
 }
 
-/// What to do with each request of a run, in order, from a look at what it names. The view must show frames of this
-/// machine only. Looks on the calling thread. An error means that the host is out of memory; a run without requests takes
-/// none. The target's number is also used as a status, so it must be below 2^31.
-pub fn classify_here<A: Allocator + Copy, V: PageView>(
+/// What to do with each request, in order, from a look at what it names. The view must show frames of this machine only.
+/// An error means that the host is out of memory; no requests take none. The target's number is also used as a status, so
+/// it must be below 2^31.
+pub fn classify<A: Allocator + Copy, V: PageView>(
     alloc: A,
     geometry: &Geometry<A>,
     view: &V,
-    run: &Run<A>,
+    target: NodeId,
+    wanted: &[Wanted],
 ) -> Result<Vec<Class, A>, AllocError>
-    requires target { run.now.target < 2 ^ 31 }
+    requires target { target < 2 ^ 31 }
     requires frames { ShowsItsFrames geometry.now (V.seen_at view.now) (V.placed_at view.now) }
     ensures classes { IfOk result
         (λ classes. classes.items
         ≡ map
-        (class_shown geometry.now (V.seen_at view.now)
-        (V.placed_at view.now) run.now.target) run.now.wanted.items) }
-    ensures asked { OnErr result (0 < length run.now.wanted.items) }
+        (class_shown geometry.now (V.seen_at view.now) (V.placed_at view.now) target)
+        wanted.now) }
+    ensures asked { OnErr result (0 < length wanted.now) }
 {
-    let mut classes = Vec::with_capacity(alloc, run.wanted.len())?;
+    let mut classes = Vec::with_capacity(alloc, wanted.len())?;
     let mut last = None;
-    for wanted in &run.wanted {
-        let found = classified(geometry, view, run.target, wanted, &last);
+    for request in wanted {
+        let found = classified(geometry, view, target, request, &last);
         classes.push_reserved(found.1);
         last = Some(found);
     }
     Ok(classes)
-}
-
-/// What to do with each request of a run, in order, from a look at what it names. The view must show frames of this
-/// machine only. From 32,768 requests on, several threads look, each at 16,384 or more; in a trace, no run has more than
-/// 16,384. An error means that the host is out of memory; a run without requests takes none. The target's number is also
-/// used as a status, so it must be below 2^31.
-pub fn classify<R: Threads + Sync, A: Allocator + Copy + Send + Sync, V: PageView + Sync>(
-    rt: &R,
-    alloc: A,
-    geometry: &Geometry<A>,
-    view: &V,
-    run: &Run<A>,
-) -> Result<Vec<Class, A>, AllocError>
-    requires target { run.now.target < 2 ^ 31 }
-    requires frames { ShowsItsFrames geometry.now (V.seen_at view.now) (V.placed_at view.now) }
-    ensures classes { IfOk result
-        (λ classes. classes.items
-        ≡ map
-        (class_shown geometry.now (V.seen_at view.now)
-        (V.placed_at view.now) run.now.target) run.now.wanted.items) }
-    ensures asked { OnErr result (0 < length run.now.wanted.items) }
-{
-    if run.wanted.len() < 2 * PIECE {
-        return classify_here(alloc, geometry, view, run);
-    }
-    let target = run.target;
-    run.wanted
-        .as_slice()
-        .par_iter()
-        .with_min_len(PIECE)
-        .map(
-            |wanted: &Wanted| -> Class
-                requires target { target < 2 ^ 31 }
-                requires frames { ShowsItsFrames geometry.now (V.seen_at view.now)
-                    (V.placed_at view.now) }
-                ensures { result
-                    ≡ class_shown geometry.entry.now (V.seen_at view.entry.now)
-                    (V.placed_at view.entry.now) target wanted.now }
-            { class_of(geometry, view, target, *wanted) },
-        )
-        .collect(rt, alloc)
 }

@@ -9,7 +9,7 @@ pub mod laws;
 mod tests;
 
 pub use check::check_batch;
-pub use classes::{classify, classify_here};
+pub use classes::classify;
 pub use cutting::{cut, cut_pages, cut_to, cut_within, run_count};
 use nm_types::NodeId;
 pub use nm_types::{Class, Request, Wanted};

@@ -9,7 +9,6 @@ use nm_types::{Errno, FrameId, Geometry, NodeId, NodeMask, Page, PageView, Pid, 
 use std::alloc::{AllocError, Global};
 use std::process::Abort;
 use std::test::Fail;
-use std::thread::Threads;
 
 /// A set of nodes below 64.
 fn set_of(rt: &impl Abort, numbers: &[u32]) -> NodeMask {
@@ -255,22 +254,16 @@ impl PageView for Row {
     }
 }
 
-/// Requests for the second node, for these page numbers of a process.
-fn run_at(alloc: Global, numbers: &[u64], all: bool) -> Result<Run<Global>, AllocError>
-    ensures { IfOk result (λ run. run.target ≡ 1) }
-{
-    let wanted = numbers
+/// Requests for these page numbers of a process.
+fn wanted_at(alloc: Global, numbers: &[u64], all: bool) -> Result<Vec<Wanted>, AllocError> {
+    numbers
         .iter()
         .map(|number| Wanted::At {
             pid: Pid::new(1),
             vpn: Vpn::new(*number),
             all,
         })
-        .collect(alloc)?;
-    Ok(Run {
-        target: NodeId::new(1),
-        wanted,
-    })
+        .collect(alloc)
 }
 
 /// Two nodes of four frames.
@@ -283,7 +276,6 @@ fn two_nodes(alloc: Global) -> Result<Geometry<Global>, Fail>
 
 /// Whether requests for the second node, for these page numbers of a process, have these classes.
 fn are_classes(
-    rt: &(impl Threads + Sync),
     geometry: &Geometry<Global>,
     alloc: Global,
     numbers: &[u64],
@@ -292,8 +284,8 @@ fn are_classes(
 ) -> Result<bool, AllocError>
     requires { frame_count geometry.now ≡ 8 }
 {
-    let run = run_at(alloc, numbers, all)?;
-    let classes = classify(rt, alloc, geometry, &Row, &run)?;
+    let wanted = wanted_at(alloc, numbers, all)?;
+    let classes = classify(alloc, geometry, &Row, NodeId::new(1), wanted.as_slice())?;
     Ok(classes.as_slice() == want)
 }
 
@@ -330,7 +322,6 @@ fn classes_by_a_view(rt: HostRuntime) -> Result<(), Fail> {
     let unasked = classes_unasked();
     assert!(rt;
         are_classes(
-            &rt,
             &geometry,
             rt.alloc(),
             NUMBERS.as_slice(),
@@ -339,44 +330,6 @@ fn classes_by_a_view(rt: HostRuntime) -> Result<(), Fail> {
         )?
     );
     let asked = [Class::Status(-16), moves(4, 2), Class::Status(1)];
-    assert!(rt;
-        are_classes(
-            &rt,
-            &geometry,
-            rt.alloc(),
-            &[18, 20, 21],
-            true,
-            asked.as_slice()
-        )?
-    );
-    Ok(())
-}
-
-/// These items, so many times over.
-fn repeated<T: Copy>(alloc: Global, items: &[T], times: usize) -> Result<Vec<T>, AllocError> {
-    let mut all = Vec::new(alloc);
-    for _ in 0..times {
-        all.extend_from_slice(items)?;
-    }
-    Ok(all)
-}
-
-/// A run that is long enough for several threads: each request has its class, at its place.
-#[test]
-fn classes_of_a_run_on_threads(rt: HostRuntime) -> Result<(), Fail> {
-    let geometry = two_nodes(rt.alloc())?;
-    let numbers = repeated(rt.alloc(), NUMBERS.as_slice(), 4_096)?;
-    let classes = repeated(rt.alloc(), classes_unasked().as_slice(), 4_096)?;
-    assert!(rt; numbers.len() == 32_768);
-    assert!(rt;
-        are_classes(
-            &rt,
-            &geometry,
-            rt.alloc(),
-            numbers.as_slice(),
-            false,
-            classes.as_slice()
-        )?
-    );
+    assert!(rt; are_classes(&geometry, rt.alloc(), &[18, 20, 21], true, asked.as_slice())?);
     Ok(())
 }
