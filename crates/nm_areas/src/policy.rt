@@ -3,7 +3,7 @@
 ghost use Rattle.std.specs.List.{AllByRecursion, flat_map};
 ghost use Rattle.std.specs.List.Sorted.{IsStrictlySortedBy};
 ghost use Rattle.std.specs.Map.{keys_of};
-ghost use Rattle.std.specs.Prelude.{None, OnErr, OnOk, Some, false, true, ℕ, ◌+◌, ◌-◌, ◌/◌, ◌<◌, ◌≡◌, ◌≤◌, ◌⊎◌, IfErr, IfOk};
+ghost use Rattle.std.specs.Prelude.{None, OnErr, OnOk, Some, false, true, ℕ, ◌*◌, ◌+◌, ◌-◌, ◌/◌, ◌<◌, ◌≡◌, ◌≤◌, ◌⊎◌, IfErr, IfOk};
 ghost use Rattle.nm_types.specs.Does.{Makes};
 ghost use Rattle.nm_areas.specs.Splits.{HasSplit};
 ghost use Rattle.nm_model.specs.definitions.Areas.{with_policy};
@@ -30,6 +30,8 @@ impl<A: Allocator + Copy> Areas<A> {
         ensures ok { OnOk result (range_refusal self.now pid addr len ≡ None) }
         ensures range { IfOk result
             (λ range. (range.first ≡ addr / 4096) × (range.end ≡ addr / 4096 + pages_of len)) }
+        ensures mapped { IfOk result
+            (λ range. is_mapped self.now.areas pid range.first (range.end - range.first) ≡ true) }
         ensures err { IfErr result (λ e. range_refusal self.now pid addr len ≡ Some e) }
     {
         let Some(range) = PageRange::of_bytes(addr, len) else {
@@ -41,13 +43,51 @@ impl<A: Allocator + Copy> Areas<A> {
         Ok(range)
     }
 
-    /// Sets the policy of the whole pages of `len` bytes from address `addr` on, and of no others: the process's areas
-    /// are split at both ends, and those between get the policy. Areas are never merged.
+    /// Sets the policy of a range of page numbers that areas of the process cover, and of no others: the process's
+    /// areas are split at both ends, and those between get the policy. Areas are never merged. An empty range splits
+    /// nothing.
+    ///
+    /// An error means that nothing has changed. Allocates only if the range is not empty, and one of its ends lies
+    /// within an area of the process: a range of whole areas takes no memory.
+    pub fn set_policy(
+        &mut self,
+        pid: Pid,
+        range: PageRange,
+        policy: Policy,
+    ) -> Result<(), AllocError>
+        requires mapped { is_mapped self.old.areas pid range.first (range.end - range.first) ≡ true }
+
+        // In any case
+        ensures pages { (q v : ℕ) → page_at self.new.areas q v ≡ page_at self.old.areas q v }
+
+        // On success
+        ensures ok { OnOk result
+            (self.new
+            ≡ with_policy self.old pid (4096 * range.first)
+            (4096 * (range.end - range.first)) policy) }
+
+        // Without memory
+        ensures err { OnErr result (self.new ≡ self.old) }
+        ensures some { OnErr result (range.first < range.end) }
+        ensures asked { OnErr result
+            (HasSplit self.old.areas pid range.first ⊎ HasSplit self.old.areas pid range.end) }
+    {
+        let PageRange { first, end } = range;
+        if first.number() < end.number() {
+            split_steps(&self.table, &mut self.steps, pid, first, end)?;
+            let Ok(()) = self.table.set_policy(pid, range, policy) else {
+                join_steps(&self.table, &mut self.steps, pid, first, end);
+                return Err(AllocError);
+            };
+        }
+        Ok(())
+    }
+
+    /// Sets the policy of the whole pages of `len` bytes from address `addr` on, as `set_policy` does.
     ///
     /// Errors, in order: EINVAL if the address is not a multiple of 4,096 or the pages end past 2^64 - 1; EFAULT if one
     /// of the pages has no area. A length of 0 is no page, and splits nothing. Allocates only if the call is not
-    /// refused, `len` is not 0, and one of the ends lies within an area of the process: a range of whole areas takes no
-    /// memory.
+    /// refused, `len` is not 0, and one of the ends lies within an area of the process.
     pub fn split_policy(
         &mut self,
         pid: Pid,
@@ -64,21 +104,8 @@ impl<A: Allocator + Copy> Areas<A> {
             ⊎ HasSplit self.old.areas pid (addr / 4096 + pages_of len) }
         ensures pages { (q v : ℕ) → page_at self.new.areas q v ≡ page_at self.old.areas q v }
     {
-        let Some(range) = PageRange::of_bytes(addr, len) else {
-            return Err(MachineError::Refused(Errno::Einval));
-        };
-        if !self.table.is_mapped(pid, &range) {
-            return Err(MachineError::Refused(Errno::Efault));
-        }
-        if len > 0 {
-            let PageRange { first, end } = range;
-            split_steps(&self.table, &mut self.steps, pid, first, end)?;
-            let Ok(()) = self.table.set_policy(pid, range, policy) else {
-                join_steps(&self.table, &mut self.steps, pid, first, end);
-                return Err(MachineError::HostMemory);
-            };
-        }
-        Ok(())
+        let range = self.check_policy(pid, addr, len)?;
+        Ok(self.set_policy(pid, range, policy)?)
     }
 }
 

@@ -1,6 +1,6 @@
 -- Page tables, areas and the reverse map when areas change and every page that was shown is still shown.
 use Rattle.std.proofs.Common.{◌≡◌, ℕ, ◌/◌, ◌+◌, List, [], ◌∷◌, Bool, true, false, not, ◌&&◌, cond, refl, sym, ap, subst, ◌∙◌, eq-eqb}
-use Rattle.std.specs.Prelude.{Option, Some, None, Result, Ok, Err, OnOk, nat_le, ◌==◌, length}
+use Rattle.std.specs.Prelude.{Option, Some, None, Result, Ok, Err, OnOk, OnErr, nat_le, ◌==◌, length}
 use Rattle.std.specs.Option.{unwrap_or}
 use Rattle.std.specs.List.{flat_map}
 use Rattle.std.specs.List.Sorted.{IsStrictlySortedBy}
@@ -26,7 +26,7 @@ use Rattle.nm_types.specs.Does.{Makes}
 use Rattle.nm_model.specs.definitions.Areas.{over_with, with_policy}
 use Rattle.nm_model.specs.definitions.Areas.{pages_of, repoliced}
 use Rattle.nm_model.specs.definitions.Areas.{Mapped}
-use Rattle.nm_model.specs.definitions.AreaRefusal.{first_error, is_range, is_room, is_stretch, insert_refusal, stretch_refusal, range_refusal, overlaps}
+use Rattle.nm_model.specs.definitions.AreaRefusal.{first_error, is_range, is_room, is_stretch, insert_refusal, stretch_refusal, overlaps}
 use Rattle.nm_rmap.specs.Mappers.{Mappers}
 use Rattle.nm_model.specs.definitions.PageTables.{Task, entry_at, entry_in}
 use Rattle.nm_spaces.specs.views.ProcessTable.{names}
@@ -148,9 +148,18 @@ place_policed m pid address len policy =
     let n : Mapped = record m { areas = flat_map (repoliced pid (address / 4096) (address / 4096 + pages_of len) policy) m.areas } in
     elim (len == 0) as (λ b. (cond b m n).place ≡ m.place) [ true ↦ refl | false ↦ refl ]
 
-pub policed_still : {T : Type 0} (m n : Mapped) (pid address len : ℕ) (policy : Policy) (result : Result T MachineError)
-    → Makes result m n (range_refusal m pid address len) (with_policy m pid address len policy) → ((q v : ℕ) → page_at n.areas q v ≡ page_at m.areas q v) → IsShownStill m n
-policed_still m n pid address len policy (Ok x) h same =
-    record { place = ap (λ (n : Mapped). n.place) h.1 ∙ place_policed m pid address len policy; pages = λ q v p k. same q v ∙ k }
-policed_still m n pid address len policy (Err (error.Refused e)) h same = still_same m n h.1
-policed_still m n pid address len policy (Err error.HostMemory) h same = still_same m n h
+pub policed_still : {T E : Type 0} (m n : Mapped) (pid address len : ℕ) (policy : Policy) (result : Result T E) → OnOk result (n ≡ with_policy m pid address len policy) → OnErr result (n ≡ m)
+    → ((q v : ℕ) → page_at n.areas q v ≡ page_at m.areas q v) → IsShownStill m n
+policed_still m n pid address len policy (Ok x) made kept same =
+    record { place = ap (λ (n : Mapped). n.place) made ∙ place_policed m pid address len policy; pages = λ q v p k. same q v ∙ k }
+policed_still m n pid address len policy (Err e) made kept same = still_same m n kept
+
+-- what is seen where a policy is set
+pub policed_seen : {T E : Type 0} (x y : AddressSpacesView) (m : Mapped) (result : Result T E) → x ≡ with_mapped y (mapped_of x) → OnOk result (mapped_of x ≡ m) → OnOk result (x ≡ with_mapped y m)
+policed_seen x y m (Ok value) same made = same ∙ ap (with_mapped y) made
+policed_seen x y m (Err e) same made = tt
+
+-- and where it is not
+pub policed_not : {T E : Type 0} (x y : AddressSpacesView) (result : Result T E) → x ≡ with_mapped y (mapped_of x) → OnErr result (mapped_of x ≡ mapped_of y) → OnErr result (x ≡ y)
+policed_not x y (Ok value) same kept = tt
+policed_not x y (Err e) same kept = same ∙ ap (with_mapped y) kept

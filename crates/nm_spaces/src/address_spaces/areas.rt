@@ -1,6 +1,6 @@
 //! Adding, splitting and removing areas of address spaces.
 
-ghost use Rattle.std.specs.Prelude.{ℕ, true, false, ◌≡◌, ◌<◌, ◌≤◌, ◌+◌, ◌/◌, ◌⊎◌, [], length, None, Some, Err, IfOk, OnOk, OnErr};
+ghost use Rattle.std.specs.Prelude.{ℕ, true, false, ◌≡◌, ◌<◌, ◌≤◌, ◌-◌, ◌*◌, ◌⊎◌, [], length, None, Some, Err, IfOk, OnOk, OnErr};
 ghost use Rattle.std.specs.List.{AllByRecursion, list_any};
 ghost use Rattle.std.specs.Map.{keys_of};
 ghost use Rattle.std.specs.Ordering.{nat_cmp};
@@ -9,8 +9,8 @@ ghost use Rattle.nm_types.specs.Map.{get, without};
 ghost use Rattle.nm_types.specs.State.{Process, page_at};
 ghost use Rattle.nm_types.specs.Does.{Makes};
 ghost use Rattle.nm_areas.specs.Splits.{HasSplit};
-ghost use Rattle.nm_model.specs.definitions.Areas.{inserted, attached, pages_of, with_policy};
-ghost use Rattle.nm_model.specs.definitions.AreaRefusal.{insert_refusal, stretch_refusal, range_refusal, overlaps};
+ghost use Rattle.nm_model.specs.definitions.Areas.{inserted, attached, is_mapped, with_policy};
+ghost use Rattle.nm_model.specs.definitions.AreaRefusal.{insert_refusal, stretch_refusal, overlaps};
 ghost use Rattle.nm_model.specs.definitions.Areas.{removed, frames_lost};
 ghost use Rattle.nm_model.specs.definitions.Effect.{shows_pinned};
 ghost use Rattle.nm_model.specs.definitions.PageTables.{entry_at};
@@ -70,27 +70,31 @@ impl<A: Allocator + Copy> AddressSpaces<A> {
         parts.areas.attach(pid, addr, segment, offset, pages)
     }
 
-    /// Sets the policy of the whole pages of a range of a process, and of no others.
+    /// Sets the policy of a range of page numbers that areas of the process cover, and of no others. An error means that
+    /// nothing has changed.
     pub fn set_policy(
         &mut self,
         pid: Pid,
-        addr: u64,
-        len: u64,
+        range: PageRange,
         policy: Policy,
-    ) -> Result<(), MachineError>
-        ensures done { Makes result (mapped_of self.old) (mapped_of self.new)
-            (range_refusal (mapped_of self.old) pid addr len)
-            (with_policy (mapped_of self.old) pid addr len policy) }
-        ensures memory { result ≡ Err MachineError.HostMemory →
-            range_refusal (mapped_of self.old) pid addr len ≡ None }
-        ensures asked { result ≡ Err MachineError.HostMemory → 0 < len }
-        ensures split { result ≡ Err MachineError.HostMemory →
-            HasSplit self.old.areas pid (addr / 4096)
-            ⊎ HasSplit self.old.areas pid (addr / 4096 + pages_of len) }
-        ensures same { self.new ≡ with_mapped self.old (mapped_of self.new) }
+    ) -> Result<(), AllocError>
+        requires mapped { is_mapped self.old.areas pid range.first (range.end - range.first) ≡ true }
+
+        // On success
+        ensures ok { OnOk result
+            (self.new
+            ≡ with_mapped self.old
+            (with_policy (mapped_of self.old) pid (4096 * range.first)
+            (4096 * (range.end - range.first)) policy)) }
+
+        // Without memory
+        ensures err { OnErr result (self.new ≡ self.old) }
+        ensures some { OnErr result (range.first < range.end) }
+        ensures asked { OnErr result
+            (HasSplit self.old.areas pid range.first ⊎ HasSplit self.old.areas pid range.end) }
     {
         let parts = &mut *self.parts;
-        parts.areas.split_policy(pid, addr, len, policy)
+        parts.areas.set_policy(pid, range, policy)
     }
 
     /// Whether an area of a process shows a page with a pin from one page number up to another. Walks once over the

@@ -2,24 +2,23 @@ use Rattle.std.proofs.Common.{◌≡◌, ◌+◌, ◌-◌, ◌<◌, ℕ, ap, sym
 use Rattle.std.specs.List.{flat_map}
 use Rattle.nm_types.specs.declared.area.Segment.{Segment}
 use Rattle.nm_types.specs.Map.{Map}
-use Rattle.nm_areas.specs.Coverage.{IsCoverage}
 use Rattle.nm_types.specs.State.{page_at}
+use Rattle.nm_areas.specs.Coverage.{IsCoverage}
 use Rattle.nm_model.specs.views.Table.{Table, with_areas}
-use Rattle.nm_model.specs.definitions.Areas.{Mapped, repoliced}
+use Rattle.nm_model.specs.definitions.Areas.{Mapped, mapped, repoliced}
 use Rattle.nm_model.proofs.areas.Shown.{repoliced_shows}
 use Rattle.nm_model.proofs.areas.Policed.{policed_mapped}
 use Rattle.nm_areas.proofs.Covered.{was_policed}
-use Rattle.nm_areas.proofs.Divided.{split_in}
-use Rattle.nm_areas.proofs.areas.Areas.split_policy.Goals as goal
+use Rattle.nm_areas.proofs.InBytes.{of_some}
+use Rattle.nm_areas.proofs.areas.Areas.set_policy.Goals as goal
 
 pub invariant_of-self-in-Ok : goal.invariant_of-self-in-Ok
 invariant_of-self-in-Ok g c =
     let t = c.self.inside.table in
     let a = c.args in
-    let range = c.in-Some.ensures.some in
-    let first = c.in-Some.range.first in
-    let end = c.in-Some.range.end in
-    let some : first < end = omega (arith, range.0, range.1, c.if-len-gt0.true) in
+    let first = a.range.first in
+    let end = a.range.end in
+    let some : first < end = omega (arith, c.if-number.true, c.number.ensures, c.number-2.ensures) in
     let count : end ≡ first + (end - first) = omega (arith, some) in (
       policed_mapped t c.self.inside.places.entries c.self.invariant.0 c.set_policy.new.self a.pid first (end - first) a.policy (omega (arith, some))
           (c.in-Ok.ensures.ok ∙ ap (λ (n : ℕ). with_areas t (flat_map (repoliced a.pid first n a.policy) t.areas)) count),
@@ -31,17 +30,14 @@ invariant_of-self-in-Ok g c =
 pub returns-in-Ok-clause-pages : goal.returns-in-Ok-clause-pages
 returns-in-Ok-clause-pages g c q v =
     ap (λ (t : Table). page_at t.areas q v) c.in-Ok.ensures.ok
-    ∙ repoliced_shows c.args.pid _ _ c.args.policy (omega (arith, c.in-Some.ensures.some.0, c.in-Some.ensures.some.1, c.if-len-gt0.true)) c.self.inside.table.areas c.self.invariant.0.whole c.self.invariant.0.apart q v
+    ∙ repoliced_shows c.args.pid _ _ c.args.policy (omega (arith, c.if-number.true, c.number.ensures, c.number-2.ensures)) c.self.inside.table.areas c.self.invariant.0.whole c.self.invariant.0.apart q v
     ∙ ap (λ (m : Mapped). page_at m.areas q v) c.self.view_is
 
--- ---- memory is asked for only where there is something to split
-
-pub returns-in_err-split_steps-clause-asked : goal.returns-in_err-split_steps-clause-asked
-returns-in_err-split_steps-clause-asked g c = λ _.
-    let range = c.in-Some.ensures.some in
-    split_in c.self.inside.table.areas c.args.self.now.areas c.args.pid _ _ _ _ (ap (λ (m : Mapped). m.areas) c.self.view_is) range.0 range.1 c.in_err-split_steps.ensures.asked
-
-pub returns-in_default-set_policy-clause-asked : goal.returns-in_default-set_policy-clause-asked
-returns-in_default-set_policy-clause-asked g c = λ _.
-    let range = c.in-Some.ensures.some in
-    split_in c.self.inside.table.areas c.args.self.now.areas c.args.pid _ _ _ _ (ap (λ (m : Mapped). m.areas) c.self.view_is) range.0 range.1 c.in_default-set_policy.ensures.asked
+pub returns-in-Ok-clause-ok : goal.returns-in-Ok-clause-ok
+returns-in-Ok-clause-ok g c =
+    let a = c.args in
+    let first = a.range.first in
+    let end = a.range.end in
+    ap (λ (t : Table). mapped t c.self.inside.places.entries) c.in-Ok.ensures.ok
+    ∙ ap (λ (m : Mapped). record m { areas = flat_map (repoliced a.pid first end a.policy) m.areas }) c.self.view_is
+    ∙ sym (of_some a.self.now a.pid a.policy first end (omega (arith, c.if-number.true, c.number.ensures, c.number-2.ensures)))
