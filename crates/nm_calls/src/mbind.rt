@@ -1,12 +1,12 @@
 //! The policy of a range, as mbind(2) sets it: what is refused, and what is done in which order.
 
-ghost use Rattle.std.specs.Prelude.{Bool, Err, IfNone, IfOk, IfSome, None, OnErr, false, length, not, true, ℕ, ◌&&◌, ◌+◌, ◌-◌, ◌/◌, ◌<◌, ◌≡◌, ◌≤◌, ◌⊎◌, ◌^◌};
+ghost use Rattle.std.specs.Prelude.{Bool, Err, IfNone, IfOk, IfSome, OnErr, false, length, not, true, ℕ, ◌&&◌, ◌-◌, ◌*◌, ◌<◌, ◌≡◌, ◌≤◌, ◌⊎◌, ◌^◌};
 ghost use Rattle.std.specs.List.{AllByRecursion, list_any};
 ghost use Rattle.nm_types.specs.Layout.{node_count};
 ghost use Rattle.nm_areas.specs.Splits.{HasSplit};
 ghost use Rattle.nm_runs.specs.Targets.{Checks};
-ghost use Rattle.nm_model.specs.definitions.Areas.{pages_of};
-ghost use Rattle.nm_model.specs.definitions.Effect.{policy_refusal, set_policy};
+ghost use Rattle.nm_model.specs.definitions.Areas.{is_mapped};
+ghost use Rattle.nm_model.specs.definitions.Effect.{set_policy};
 ghost use Rattle.nm_calls.specs.declared.call_error.CallError.TheVariants.{HostMemory};
 ghost use Rattle.nm_calls.specs.definitions.Permission.{info_at};
 ghost use Rattle.nm_calls.specs.definitions.Permission.{usable};
@@ -193,6 +193,8 @@ fn binding_of<A: Allocator + Copy + Send + Sync>(
         (range_refusal machine.now request.now.caller request.now.addr request.now.len policy flags) }
     ensures range { IfOk result
         (λ b. b ≡ range_of request.now.caller request.now.addr request.now.len policy) }
+    ensures mapped { IfOk result
+        (λ b. is_mapped machine.now.areas b.pid b.first (b.end - b.first) ≡ true) }
     ensures few { IfOk result (λ b. b.end - b.first ≤ 2 ^ 52) }
 {
     let MbindRequest {
@@ -226,8 +228,8 @@ pub(crate) fn ready<A: Allocator + Copy + Send + Sync>(
         (mbind_refusal machine.now request.now.caller request.now.addr request.now.len request.now.mode request.now.nodes request.now.flags) }
 
     // On success
-    ensures free { IfOk result
-        (λ r. policy_refusal machine.now request.now.caller request.now.addr request.now.len ≡ None) }
+    ensures mapped { IfOk result
+        (λ r. is_mapped machine.now.areas r.1.pid r.1.first (r.1.end - r.1.first) ≡ true) }
     ensures binding { IfOk result
         (λ r. r.1 ≡ binding machine.now request.now.caller request.now.addr request.now.len request.now.mode request.now.nodes) }
     ensures home { IfOk result (λ r. r.0.home ≡ home_of (info_at machine.now request.now.caller)) }
@@ -281,29 +283,35 @@ pub(crate) fn bind<A: Allocator + Copy + Send + Sync, C: Crew>(
     machine: &mut Machine<A>,
     binding: &Binding,
     asked: Asked,
-    request: &MbindRequest,
     limit: usize,
 ) -> Result<(), CallError>
     requires some { 0 < limit }
-    requires free { policy_refusal machine.old binding.now.pid request.now.addr request.now.len ≡ None }
+    requires mapped { is_mapped machine.old.areas binding.now.pid binding.now.first
+        (binding.now.end - binding.now.first)
+        ≡ true }
     requires nodes { AllByRecursion (λ n. n < node_count (machine.old.layout))
         (nodes_named binding.now.policy) }
     requires home { asked.home ≡ home_of (info_at machine.old binding.now.pid) }
     requires few { binding.now.end - binding.now.first ≤ 2 ^ 52 }
-    ensures bound { Binds result machine.old (set_policy machine.old binding.now.pid request.now.addr request.now.len binding.now.policy) machine.new binding.now
-        (mbind_runs limit (set_policy machine.old binding.now.pid request.now.addr request.now.len binding.now.policy) binding.now asked.flags) asked.flags }
+    ensures bound { let set = set_policy machine.old binding.now.pid (4096 * binding.now.first)
+        (4096 * (binding.now.end - binding.now.first)) binding.now.policy in
+        Binds result machine.old set machine.new binding.now
+        (mbind_runs limit set binding.now asked.flags) asked.flags }
     ensures asked { (runs : ℕ) (policy_set : Bool) →
         result ≡ Err (HostMemory runs policy_set) →
         (moves asked.flags ≡ true)
-        ⊎ HasSplit machine.old.areas binding.now.pid (request.now.addr / 4096)
-        ⊎ HasSplit machine.old.areas binding.now.pid
-        (request.now.addr / 4096 + pages_of request.now.len) }
+        ⊎ HasSplit machine.old.areas binding.now.pid binding.now.first
+        ⊎ HasSplit machine.old.areas binding.now.pid binding.now.end }
 {
     let Asked { home, flags, .. } = asked;
     let all = flags.moves_all();
     let pages = listed(alloc, machine, binding, flags)?;
     let way = way_of(alloc, machine, home, binding, all, pages.as_slice())?;
-    machine.set_policy(binding.pid, request.addr, request.len, binding.policy)?;
+    let range = PageRange {
+        first: binding.first,
+        end: binding.end,
+    };
+    machine.set_policy(binding.pid, range, binding.policy)?;
     if let Err(error) = make(crew, alloc, machine, way, limit) {
         return Err(error);
     }

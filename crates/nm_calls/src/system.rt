@@ -391,15 +391,7 @@ impl<A: Allocator + Copy + Send + Sync> System<A> {
             return Ok(());
         }
         let limit = self.run_limit;
-        bind(
-            crew,
-            self.alloc,
-            &mut self.machine,
-            &binding,
-            asked,
-            request,
-            limit,
-        )
+        bind(crew, self.alloc, &mut self.machine, &binding, asked, limit)
     }
 
     /// Takes a node offline: its pages, by segment and index, go to the other online nodes, in passes by their distance
