@@ -12,7 +12,8 @@ abbrev pub classes_in : {A : Type 0} → Layout → (ℕ → ℕ → Seen) → (
 classes_in g seen_at placed_at run = map (class_shown g seen_at placed_at run.target) run.wanted.items
 
 -- what it takes to look at a run, whose requests have these classes
-pub record HasClasses {A : Type 0} (g : Layout) (seen_at : ℕ → ℕ → Seen) (placed_at : Page → Seen) (run : Run A) (classes : List Class) : Type 0 where
+pub record HasClasses {A : Type 0} (g : Layout) (seen_at : ℕ → ℕ → Seen) (placed_at : Page → Seen) (run : Run A)
+    (classes : List Class) : Type 0 where
   pub target : run.target < 2 ^ 31
   pub frames : ShowsItsFrames g seen_at placed_at
   pub classes_are : classes ≡ classes_in g seen_at placed_at run

@@ -37,7 +37,7 @@ pub(crate) fn make_run<A, C>(
 where
     A: Allocator + Copy + Send + Sync,
     C: Crew,
-    requires bounds { IsSend A.row × IsSync A.row × Frees A.Allocator A.dealloc_token }
+    requires bounds { IsSend A.row × IsSync A.row × IsSync C.Gate.row × Frees A.Allocator A.dealloc_token }
     requires target { planned.requests.now.target < node_count machine.layout }
     requires plan { IsPlanOf machine planned.requests.now.target planned.requests.now.wanted.items planned.plan }
     requires unanswered { planned.answers.items ≡ [] }
