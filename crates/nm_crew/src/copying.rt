@@ -3,7 +3,6 @@
 ghost use Rattle.std.specs.Prelude.{◌≡◌, ◌⊎◌, ◌+◌, ◌<◌, ◌≤◌, ℕ, length, map, vec_len};
 ghost use Rattle.std.specs.Thread.{IsSync, IsSend};
 ghost use Rattle.nm_frames.specs.Job.{copied};
-ghost use Rattle.nm_board.specs.Tickets.{InTicketOrder};
 ghost use Rattle.nm_board.specs.Shown.{all_shares};
 ghost use Rattle.nm_crew.specs.Named.{named};
 ghost use Rattle.nm_crew.specs.Hands.{IsReady, IsOver};
@@ -16,37 +15,16 @@ use crate::worker::{Worker, work_off};
 use nm_board::{Board, Hand};
 use nm_frames::CopyJob;
 use std::alloc::Allocator;
-use std::marker::{Brand, PhantomData};
+use std::marker::PhantomData;
 use std::thread::Scope;
-
-/// Copies the jobs by a crew, and calls `work` meanwhile.
-pub(crate) fn copy_while<A: Allocator + Copy + Send + Sync, C: Crew, T, W: FnOnce() -> T>(
-    crew: &C,
-    alloc: A,
-    jobs: Vec<CopyJob<A>, A>,
-    work: W,
-) -> (Vec<CopyJob<A>, A>, T)
-    requires tickets { InTicketOrder jobs.items }
-    requires work { W.pre work }
-    ensures jobs { result.0.items ≡ map copied jobs.items }
-    ensures work { W.post work result.1 }
-{
-    let gate = crew.gate();
-    let others = others(jobs.as_slice(), gate.worth_from(), crew.workers());
-    if others == 0 {
-        return copy_alone(jobs, gate, work);
-    }
-    match Board::lay(alloc, jobs) {
-        Ok((board, hand)) => {
-            copy_by::<A, Brand, C, T, W>(crew, alloc, board, hand, others, work)
-        }
-        Err(jobs) => copy_alone(jobs, gate, work),
-    }
-}
 
 /// How many workers to use besides the caller to copy these jobs: none if they have fewer bytes to copy than make it worth
 /// it, and never more than there are jobs.
-fn others<A: Allocator + Copy>(jobs: &[CopyJob<A>], worth_from: usize, workers: usize) -> usize
+pub(crate) fn others<A: Allocator + Copy>(
+    jobs: &[CopyJob<A>],
+    worth_from: usize,
+    workers: usize,
+) -> usize
     requires { 0 < workers }
     ensures { (size : ℕ) × IsSizeOfAll jobs.now size
         × (result ≡ others_of size worth_from (length jobs.now) workers) }
@@ -70,7 +48,7 @@ fn size_of<A: Allocator + Copy>(jobs: &[CopyJob<A>]) -> usize
 }
 
 /// Calls `work` and copies the jobs, all on the calling thread.
-fn copy_alone<A: Allocator + Copy, G: Gate, T, W: FnOnce() -> T>(
+pub(crate) fn copy_alone<A: Allocator + Copy, G: Gate, T, W: FnOnce() -> T>(
     mut jobs: Vec<CopyJob<A>, A>,
     gate: &G,
     work: W,
@@ -95,7 +73,13 @@ fn copy_each<A: Allocator + Copy, G: Gate>(jobs: &mut [CopyJob<A>], gate: &G)
 }
 
 /// Copies a board's jobs with up to `others` workers besides the caller.
-fn copy_by<A: Allocator + Copy + Send + Sync, B: Room + Send + Sync, C: Crew, T, W: FnOnce() -> T>(
+pub(crate) fn copy_by<
+    A: Allocator + Copy + Send + Sync,
+    B: Room + Send + Sync,
+    C: Crew,
+    T,
+    W: FnOnce() -> T,
+>(
     crew: &C,
     alloc: A,
     board: Board<A>,

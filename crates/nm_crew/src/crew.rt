@@ -5,13 +5,17 @@ ghost use Rattle.nm_frames.specs.Job.{copied};
 ghost use Rattle.nm_board.specs.Tickets.{InTicketOrder};
 ghost use Rattle.nm_runs.specs.Shown.{class_shown, ShowsItsFrames};
 
+use crate::copying::{copy_alone, copy_by, others};
 use crate::gate::Gate;
+use crate::look::look_at;
+use crate::looking::{classify_by, pieces};
 use crate::span::Span;
-use crate::{copying, looking};
+use nm_board::Board;
 use nm_frames::CopyJob;
 use nm_runs::{Class, Run};
 use nm_types::{Geometry, PageView};
 use std::alloc::{AllocError, Allocator};
+use std::marker::Brand;
 use std::thread::{Builder, Scope};
 
 /// Those who look at what a run asks for and copy its pages: the caller, who is worker 0, and the other workers, if the
@@ -60,7 +64,17 @@ pub trait Crew {
         ensures jobs { result.0.items ≡ map copied jobs.items }
         ensures work { W.post work result.1 }
     {
-        copying::copy_while(self, alloc, jobs, work)
+        let gate = self.gate();
+        let others = others(jobs.as_slice(), gate.worth_from(), self.workers());
+        if others == 0 {
+            return copy_alone(jobs, gate, work);
+        }
+        match Board::lay(alloc, jobs) {
+            Ok((board, hand)) => {
+                copy_by::<A, Brand, Self, T, W>(self, alloc, board, hand, others, work)
+            }
+            Err(jobs) => copy_alone(jobs, gate, work),
+        }
     }
 
     /// What to do with each request of a run, in order, from a look at what it names. The view must show frames of this
@@ -83,6 +97,10 @@ pub trait Crew {
             (V.placed_at view.now) run.now.target) run.now.wanted.items) }
         ensures asked { OnErr result (0 < length run.now.wanted.items) }
     {
-        looking::classify(self, alloc, geometry, view, run)
+        let pieces = pieces(run.wanted.len(), self.workers());
+        if pieces < 2 {
+            return look_at(alloc, geometry, view, run, 0, run.wanted.len());
+        }
+        classify_by::<A, Brand, Self, V>(self, alloc, geometry, view, run, pieces)
     }
 }

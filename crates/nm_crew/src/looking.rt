@@ -10,45 +10,21 @@ use crate::look::{Look, Looked, look_at};
 use nm_runs::{Class, Run};
 use nm_types::{Geometry, PageView};
 use std::alloc::{AllocError, Allocator};
-use std::marker::{Brand, PhantomData};
+use std::marker::PhantomData;
 use std::thread::Scope;
 
 /// The fewest requests that a worker looks at: for fewer, starting a thread takes as long as looking.
 const PIECE: usize = 16_384;
 
-/// What to do with each request of a run, in order, from a crew's look at what it names.
-pub(crate) fn classify<A: Allocator + Copy + Send + Sync, C: Crew, V: PageView + Sync>(
-    crew: &C,
-    alloc: A,
-    geometry: &Geometry<A>,
-    view: &V,
-    run: &Run<A>,
-) -> Result<Vec<Class, A>, AllocError>
-    requires target { run.now.target < 2 ^ 31 }
-    requires frames { ShowsItsFrames geometry.now (V.seen_at view.now) (V.placed_at view.now) }
-    ensures classes { IfOk result
-        (λ classes. classes.items
-        ≡ map
-        (class_shown geometry.now (V.seen_at view.now)
-        (V.placed_at view.now) run.now.target) run.now.wanted.items) }
-    ensures asked { OnErr result (0 < length run.now.wanted.items) }
-{
-    let pieces = pieces(run.wanted.len(), crew.workers());
-    if pieces < 2 {
-        return look_at(alloc, geometry, view, run, 0, run.wanted.len());
-    }
-    classify_by::<A, Brand, C, V>(crew, alloc, geometry, view, run, pieces)
-}
-
 /// How many pieces to cut a run of so many requests into: one for each worker, if each has at least `PIECE` of them.
-fn pieces(requests: usize, workers: usize) -> usize
+pub(crate) fn pieces(requests: usize, workers: usize) -> usize
     ensures { result ≡ min (requests / 16384) workers }
 {
     (requests / PIECE).min(workers)
 }
 
 /// Looks at a run with up to `pieces` workers, each at a piece of it. The caller looks at what the others have not found.
-fn classify_by<
+pub(crate) fn classify_by<
     A: Allocator + Copy + Send + Sync,
     B: Looked + Send + Sync,
     C: Crew,
