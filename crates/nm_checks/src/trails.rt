@@ -10,6 +10,7 @@ ghost use Rattle.std.specs.Prelude.{◌≡◌, IfOk};
 use crate::gates::Through;
 use crate::traces::Heap;
 use nm_calls::{AccessAnswer, Answer, Call, Moved, PagemapEntry, System};
+use nm_crew::{Alone, Crew, OpenGate};
 use nm_refusing::Refusing;
 use nm_trace::{Trace, read_trace};
 use nm_types::FrameId;
@@ -97,16 +98,15 @@ fn put_answer(text: &mut String, answer: &Answer<Heap<'_>>) -> Result<(), AllocE
     }
 }
 
-/// Makes a call, and appends its answer.
+/// Makes a call by a crew, and appends its answer.
 fn make<'a>(
-    rt: &(impl Threads + Wait + Sync),
+    crew: &impl Crew,
     system: &mut System<Heap<'a>>,
     call: &Call<Heap<'a>>,
     text: &mut String,
 ) -> Result<(), AllocError> {
     text.push_str("| ")?;
-    let crew = system.crew(rt, &Through);
-    match system.call(&crew, call) {
+    match system.call(crew, call) {
         Ok(answer) => put_answer(text, &answer),
         Err(error) => write!(text, "{error:?} "),
     }
@@ -121,8 +121,9 @@ pub(crate) fn make_some<'a>(
     count: usize,
     text: &mut String,
 ) -> Result<(), AllocError> {
+    let crew = system.crew(rt, &Through);
     for call in calls.iter().skip(from).take(count) {
-        make(rt, system, call, text)?;
+        make(&crew, system, call, text)?;
     }
     Ok(())
 }
@@ -309,6 +310,30 @@ const THREE_TOLD: [&str; 2] = [
 fn refused_runs_begin_again(rt: HostRuntime) -> Result<(), Fail> {
     let seen = refuse(&rt, rt.alloc(), THREE, 5, THREE_TOLD.as_slice())?;
     assert_eq!(rt; seen, 3u32);
+    Ok(())
+}
+
+/// Whether the caller alone, without a runtime, makes the calls of a trace, and the answers end with this text.
+fn made_alone(alloc: Global, trace: &str, told: &str) -> Result<bool, AllocError> {
+    let heap = Refusing::new(alloc);
+    let Ok(trace) = read_trace(&heap, alloc, trace.as_bytes()) else {
+        return Err(AllocError);
+    };
+    let mut system = new_system(&heap, &trace)?;
+    let mut text = String::new(alloc);
+    let crew = Alone::new(&OpenGate);
+    for call in trace.calls.as_slice() {
+        make(&crew, &mut system, call, &mut text)?;
+    }
+    let sound = system.audit()?;
+    write!(text, "| {sound}")?;
+    Ok(text.as_str().ends_with(told))
+}
+
+/// The caller alone moves the three pages as a crew with threads does.
+#[test]
+fn caller_alone_makes_a_run(rt: HostRuntime) -> Result<(), Fail> {
+    assert!(rt; made_alone(rt.alloc(), THREE, THREE_TOLD[0])?);
     Ok(())
 }
 
