@@ -78,9 +78,10 @@ pub trait Crew {
     }
 
     /// What to do with each request of a run, in order, from a look at what it names. The view must show frames of this
-    /// machine only. A crew of one worker looks on the calling thread; otherwise several threads look if the run is
-    /// long. An error means that the host is out of memory; a run without requests takes none. The target's number is
-    /// also used as a status, so it must be below 2^31.
+    /// machine only. From 32,768 requests on, several workers look, each at 16,384 or more; in a trace, no run has more
+    /// than 16,384. Where the host starts no thread, or has no memory for it, the caller looks itself. An error means
+    /// that the host is out of memory; a run without requests takes none. The target's number is also used as a status,
+    /// so it must be below 2^31.
     final fn classify<A: Allocator + Copy + Send + Sync, V: PageView + Sync>(
         &self,
         alloc: A,
