@@ -189,6 +189,15 @@ def told_pages(size):
     return trace([8192, 8192], steps + [numa_maps()] * 50)
 
 
+def staying_pages(size):
+    """16,383 touched pages, far from one another, that are asked for N times in one order as if drawn, each time to stay where they
+    are: there is much to look at, and nothing moves."""
+    count = 16383
+    addresses = [PAGE * (number * 7919 * 1021 % 2**34) for number in range(count)]
+    asked = [addresses[number * 5003 % count] for number in range(count)]
+    return trace([count, 1], [map_step(0, 2**34)] + [write(address) for address in addresses] + [move(asked, [0] * count)] * size)
+
+
 def bind(node):
     return '{"op":"mbind","caller":1,"addr":0,"len":%d,"mode":2,"nodes":[%d],"flags":2}' % (2**34 * PAGE, node)
 
@@ -408,6 +417,7 @@ KINDS = {
     first_touches: 4,
     sparse_touches: 16,
     told_pages: 2,
+    staying_pages: 4,
     bound_pages: 2,
     long_reports: 1,
     policies: 5,

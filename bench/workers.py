@@ -11,7 +11,7 @@ import time
 import traces
 from run import ENVIRONMENT, PROGRAM, make_trace
 
-SIZES = {"to_and_fro": 32, "whole_pages": 32, "full_pages": 8, "small_steps": 100, "many_runs": 16, "shared_moves": 200}
+SIZES = {"staying_pages": 30, "to_and_fro": 32, "whole_pages": 32, "full_pages": 8, "small_steps": 100, "many_runs": 16, "shared_moves": 200}
 WORKERS = (1, 2, 4)
 
 

@@ -20,8 +20,7 @@ ghost use Rattle.nm_memory.specs.views.Accesses.{answer_shown};
 use crate::answer::Moved;
 use crate::call_error::CallError;
 use crate::permission::Permit;
-use nm_crew::Crew;
-use nm_engine::{AccessAnswer, Machine};
+use nm_engine::{AccessAnswer, Machine, RunCrew};
 use nm_runs::{Run, check_batch, cut_pages};
 use nm_steps::{Batch, InFlight, MoveRequest};
 use nm_types::{Access, Errno, NodeMask};
@@ -57,7 +56,7 @@ pub fn run_count(nodes: &[u32], limit: usize) -> usize
 /// for them. The accesses are made meanwhile, each in the run with its number. Allocates before the first run starts,
 /// except for what a run itself needs. An error means that the host is out of memory, and says after how many runs; no
 /// runs and no accesses take none.
-pub(crate) fn move_runs<A: Allocator + Copy + Send + Sync, C: Crew>(
+pub(crate) fn move_runs<A: Allocator + Copy + Send + Sync, C: RunCrew<A>>(
     crew: &C,
     alloc: A,
     machine: &mut Machine<A>,
@@ -101,7 +100,7 @@ pub(crate) fn move_runs<A: Allocator + Copy + Send + Sync, C: Crew>(
 /// in each run. The runs and lists are made before the first run starts, so that memory for them cannot be refused
 /// halfway. An error means that the host is out of memory, and says after how many runs; a batch of no pages and no
 /// accesses takes none.
-pub(crate) fn move_batch<A: Allocator + Copy + Send + Sync, C: Crew>(
+pub(crate) fn move_batch<A: Allocator + Copy + Send + Sync, C: RunCrew<A>>(
     crew: &C,
     alloc: A,
     machine: &mut Machine<A>,

@@ -14,7 +14,7 @@ ghost use Rattle.nm_calls.specs.views.Answers.{answer_of};
 use crate::answer::{Answer, Moved};
 use crate::call_error::CallError;
 use crate::system::System;
-use nm_crew::Crew;
+use nm_engine::RunCrew;
 use nm_steps::{Attachment, Call, MbindRequest, NewProcess, Question};
 use nm_types::NodeId;
 use std::alloc::Allocator;
@@ -44,7 +44,7 @@ fn attach<A: Allocator + Copy + Send + Sync>(
 }
 
 /// Sets the policy of a range.
-fn mbind<A: Allocator + Copy + Send + Sync, C: Crew>(
+fn mbind<A: Allocator + Copy + Send + Sync, C: RunCrew<A>>(
     crew: &C,
     system: &mut System<A>,
     request: &MbindRequest,
@@ -60,7 +60,7 @@ fn mbind<A: Allocator + Copy + Send + Sync, C: Crew>(
 }
 
 /// Takes a node offline.
-fn offline<A: Allocator + Copy + Send + Sync, C: Crew>(
+fn offline<A: Allocator + Copy + Send + Sync, C: RunCrew<A>>(
     crew: &C,
     system: &mut System<A>,
     node: NodeId,
@@ -108,7 +108,7 @@ impl<A: Allocator + Copy + Send + Sync> System<A> {
     /// Makes a call that is given as a value. It returns the same errors as the method of the same name, and leaves the
     /// same state if the host is out of memory. The crew makes the moves of a call that moves pages. Allocates only
     /// where `MayAllocate` holds: there is something to unmap, move, set or list, say.
-    pub fn call<C: Crew>(&mut self, crew: &C, call: &Call<A>) -> Result<Answer<A>, CallError>
+    pub fn call<C: RunCrew<A>>(&mut self, crew: &C, call: &Call<A>) -> Result<Answer<A>, CallError>
         ensures done { Does answer_of result self.old self.new (call_of call.now) }
         ensures asked { (runs : ℕ) (policy_set : Bool) →
             result ≡ Err (HostMemory runs policy_set) →

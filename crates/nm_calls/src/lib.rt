@@ -23,7 +23,7 @@ mod turns;
 pub use answer::{Answer, Moved, PagemapEntry};
 pub use batch::run_count;
 pub use call_error::CallError;
-pub use nm_engine::{AccessAnswer, Totals};
+pub use nm_engine::{AccessAnswer, RunCrew, Totals};
 pub use nm_steps::{
     Attachment, Batch, Call, InFlight, MbindRequest, MigrateRequest, MoveRequest, NewArea,
     NewProcess, Question,

@@ -18,8 +18,7 @@ use crate::permission::{names_missing_node, usable};
 use crate::placement::{make, way_of};
 use crate::stray_pages::{astray, some_stray, stray_from};
 use nm_areas::PageRange;
-use nm_crew::Crew;
-use nm_engine::Machine;
+use nm_engine::{Machine, RunCrew};
 use nm_steps::MbindRequest;
 use nm_types::{Errno, Located, MoveFlags, NodeId, NodeMask, Pid, Policy, ProcessInfo, Vpn};
 use std::alloc::{AllocError, Allocator};
@@ -277,7 +276,7 @@ fn is_late<A: Allocator + Copy + Send + Sync>(
 /// of pages and their moves are prepared before the policy is set, so that memory for them cannot be refused after it.
 /// EIO if MPOL_MF_STRICT and a flag to move are given, and a page is not where the policy wants it after the moves,
 /// which remain. Allocates only if the flags ask for moves, or an area is split.
-pub(crate) fn bind<A: Allocator + Copy + Send + Sync, C: Crew>(
+pub(crate) fn bind<A: Allocator + Copy + Send + Sync, C: RunCrew<A>>(
     crew: &C,
     alloc: A,
     machine: &mut Machine<A>,

@@ -16,8 +16,7 @@ use crate::batch::move_runs;
 use crate::call_error::CallError;
 use crate::listing::migrate_list;
 use crate::permission::{acted_on, names_missing_node, owner_of, usable};
-use nm_crew::Crew;
-use nm_engine::Machine;
+use nm_engine::{Machine, RunCrew};
 use nm_policy::pairs;
 use nm_runs::cut_within;
 use nm_steps::{InFlight, MigrateRequest};
@@ -104,7 +103,7 @@ pub(crate) fn migration_of<A: Allocator + Copy + Send + Sync>(
 /// pages and all runs are made before the first run starts. An error means that the host is out of memory, and says
 /// after how many runs.
 #[tactic(auto, using(crate::proofs::Trails::first_state))]
-pub(crate) fn migrate<A: Allocator + Copy + Send + Sync, C: Crew>(
+pub(crate) fn migrate<A: Allocator + Copy + Send + Sync, C: RunCrew<A>>(
     crew: &C,
     alloc: A,
     machine: &mut Machine<A>,

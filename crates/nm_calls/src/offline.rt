@@ -12,8 +12,7 @@ ghost use Rattle.nm_calls.specs.definitions.Offline.{offline_refusal, offline_ru
 
 use crate::call_error::CallError;
 use crate::passes::make_passes;
-use nm_crew::Crew;
-use nm_engine::Machine;
+use nm_engine::{Machine, RunCrew};
 use nm_policy::zonelist;
 use nm_runs::Wanted;
 use nm_types::{Errno, NodeId, NodeMask, Page};
@@ -105,7 +104,7 @@ fn some_on<A: Allocator + Copy + Send + Sync>(
 /// Moves the pages of an online node to the others, in passes by their distance from it, and takes the node offline.
 /// All pages are listed before the first moves. EBUSY if a page is still on the node: the node is online, and the moves
 /// remain. If the host runs out of memory, the first runs remain, and the node is online.
-pub(crate) fn empty<A: Allocator + Copy + Send + Sync, C: Crew>(
+pub(crate) fn empty<A: Allocator + Copy + Send + Sync, C: RunCrew<A>>(
     crew: &C,
     alloc: A,
     machine: &mut Machine<A>,

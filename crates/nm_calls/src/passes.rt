@@ -20,8 +20,7 @@ ghost use Rattle.nm_calls.specs.views.Runs.{Batches, MakesRuns, later, IsCounted
 
 use crate::batch::move_runs;
 use crate::call_error::CallError;
-use nm_crew::Crew;
-use nm_engine::Machine;
+use nm_engine::{Machine, RunCrew};
 use nm_runs::{Run, Wanted, cut_to};
 use nm_steps::InFlight;
 use nm_types::{Errno, NodeId, NodeMask, PageView, Seen};
@@ -30,7 +29,7 @@ use std::alloc::Allocator;
 /// Makes runs, one after another, and returns the status of each request, in order. `count` is how many requests they
 /// have. Allocates before the first run starts, except for what a run itself needs. An error means that the host is out
 /// of memory; no runs take none.
-pub(crate) fn make_runs<A: Allocator + Copy + Send + Sync, C: Crew>(
+pub(crate) fn make_runs<A: Allocator + Copy + Send + Sync, C: RunCrew<A>>(
     crew: &C,
     alloc: A,
     machine: &mut Machine<A>,
@@ -86,7 +85,7 @@ fn put_without_frame<A: Allocator + Copy>(
 
 /// Makes a pass: all requests go to one node. Allocates before its first run starts, except for what a run itself
 /// needs.
-fn make_pass<A: Allocator + Copy + Send + Sync, C: Crew>(
+fn make_pass<A: Allocator + Copy + Send + Sync, C: RunCrew<A>>(
     crew: &C,
     alloc: A,
     machine: &mut Machine<A>,
@@ -202,7 +201,7 @@ struct Next<A: Allocator + Copy> {
 }
 
 /// Makes the next pass. If the node has no free frame, nothing that an earlier pass left is looked at: all of it fails.
-fn next_pass<A: Allocator + Copy + Send + Sync, C: Crew>(
+fn next_pass<A: Allocator + Copy + Send + Sync, C: RunCrew<A>>(
     crew: &C,
     alloc: A,
     machine: &mut Machine<A>,
@@ -264,7 +263,7 @@ pub(crate) fn later(error: CallError, made: usize, policy_set: bool) -> CallErro
 
 /// Makes a pass over each node in turn, until every request has found a free frame or failed for another reason.
 /// `policy_set` says whether the call has set a policy, and is passed on in an error.
-pub(crate) fn make_passes<A: Allocator + Copy + Send + Sync, C: Crew>(
+pub(crate) fn make_passes<A: Allocator + Copy + Send + Sync, C: RunCrew<A>>(
     crew: &C,
     alloc: A,
     machine: &mut Machine<A>,

@@ -15,8 +15,7 @@ use crate::call_error::CallError;
 use crate::mbind::Binding;
 use crate::passes::{later, make_passes};
 use crate::turns::make_turns;
-use nm_crew::Crew;
-use nm_engine::Machine;
+use nm_engine::{Machine, RunCrew};
 use nm_policy::{Sent, first_touch_order, mbind_targets};
 use nm_runs::Wanted;
 use nm_types::{Located, NodeId, NodeMask, Pid, Policy, Vpn};
@@ -148,7 +147,7 @@ pub(crate) fn way_of<A: Allocator + Copy + Send + Sync>(
 /// Makes the runs of `way`, one after another, each of at most `limit` entries. It is no error if a page stays. The
 /// only error is `HostMemory { runs, policy_set: true }`, since the policy is set before its pages move: the host ran
 /// out of memory before the last run was made, and the machine is as the first `runs` runs left it.
-pub(crate) fn make<A: Allocator + Copy + Send + Sync, C: Crew>(
+pub(crate) fn make<A: Allocator + Copy + Send + Sync, C: RunCrew<A>>(
     crew: &C,
     alloc: A,
     machine: &mut Machine<A>,

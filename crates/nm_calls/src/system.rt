@@ -1,4 +1,4 @@
-//! A system: a machine, its limit on runs and its workers, and the calls that processes make.
+//! A system: a machine and its limit on runs, and the calls that processes make.
 
 ghost use Rattle.std.specs.Prelude.{Bool, Err, IfOk, OnErr, Some, [], length, map, true, ℕ, ◌+◌, ◌/◌, ◌<◌, ◌≡◌, ◌≤◌, ◌⊎◌, ◌^◌};
 ghost use Rattle.std.specs.List.{list_any};
@@ -35,8 +35,7 @@ use crate::migrate::{migrate, migration_of};
 use crate::offline::{check_offline, empty};
 use crate::permission::permit_of;
 use crate::status::statuses_of;
-use nm_crew::{Crew, Gate, Hired};
-use nm_engine::{Machine, Totals};
+use nm_engine::{Machine, RunCrew, Totals};
 use nm_spaces::frame_named;
 use nm_steps::{
     Attachment, MbindRequest, MigrateRequest, MoveRequest, NewArea, NewProcess, Question,
@@ -46,8 +45,6 @@ use nm_types::limits::MAX_BATCH;
 use nm_types::{Errno, FrameId, Geometry, NodeId, Pid, Vpn};
 use std::alloc::{AllocError, Allocator};
 use std::marker::Model;
-use std::sync::Wait;
-use std::thread::Threads;
 
 /// Entries in the form that `pagemap` returns. An error means that the host is out of memory; no entries take none.
 fn mapped_of<A: Allocator + Copy>(
@@ -68,12 +65,11 @@ fn mapped_of<A: Allocator + Copy>(
     Ok(mapped)
 }
 
-/// A machine of nodes, processes and pages, the most entries that a run may have, and the number of workers that copy.
-/// Contracts see its state, which is sound, and that limit: the number of workers changes nothing that a call does or
-/// returns.
+/// A machine of nodes, processes and pages, and the most entries that a run may have. Contracts see its state, which is
+/// sound, and that limit.
 ///
-/// A call that moves pages takes the crew that looks at them and copies them: that of the system's own workers
-/// (`System::crew`), or any other.
+/// A call that moves pages takes the crew that looks at them and copies them: the caller alone, threads, or any other.
+/// Which crew it is changes nothing that a call does or returns.
 ///
 /// A call with four arguments or more takes them as one value, such as an `MbindRequest`: a struct with public fields,
 /// which `Call` has too.
@@ -81,7 +77,6 @@ fn mapped_of<A: Allocator + Copy>(
 pub struct System<A: Allocator + Copy + Send + Sync> {
     machine: Machine<A>,
     run_limit: usize,
-    workers: usize,
     alloc: A,
 }
 
@@ -93,19 +88,17 @@ impl<A: Allocator + Copy + Send + Sync> Model for System<A> {
 
     ghost view = { λ s. record { state = s.machine; run_limit = s.run_limit } };
 
-    ghost invariant = { λ s. (0 < s.run_limit) × (0 < s.workers) × (s.workers ≤ 64) };
+    ghost invariant = { λ s. 0 < s.run_limit };
 }
 
 #[tactic(auto, unfolding(crate::specs::definitions::Outcome::refused, crate::specs::definitions::Outcome::refused_at_once, crate::specs::definitions::Outcome::ended, crate::specs::definitions::Outcome::runs_asked, crate::specs::definitions::Outcome::start, crate::specs::definitions::Outcome::sets_policy, crate::specs::definitions::Outcome::accesses_asked), using(crate::proofs::Outcomes::answers, crate::proofs::Outcomes::refuses, crate::proofs::Outcomes::unchanged, crate::proofs::Outcomes::host_leaves))]
 impl<A: Allocator + Copy + Send + Sync> System<A> {
-    /// Makes a new machine, whose pages are copied by 1 to 64 workers, the caller and threads that each call starts: no
-    /// process, every node online, every frame free, and each free list in ascending order. An error means that the
-    /// host is out of memory.
-    pub fn new(alloc: A, geometry: Geometry<A>, workers: usize) -> Result<Self, AllocError>
-        requires { (0 < workers) × (workers ≤ 64) }
+    /// Makes a new machine: no process, every node online, every frame free, and each free list in ascending order. An
+    /// error means that the host is out of memory.
+    pub fn new(alloc: A, geometry: Geometry<A>) -> Result<Self, AllocError>
         ensures { IfOk result (λ system. system ≡ new_system geometry) }
     {
-        System::with_run_limit(alloc, geometry, workers, MAX_BATCH)
+        System::with_run_limit(alloc, geometry, MAX_BATCH)
     }
 
     /// Makes a new machine as `new` does, whose runs have at most `run_limit` entries, 1 to 16,384: a longer stretch
@@ -113,10 +106,8 @@ impl<A: Allocator + Copy + Send + Sync> System<A> {
     pub fn with_run_limit(
         alloc: A,
         geometry: Geometry<A>,
-        workers: usize,
         run_limit: usize,
     ) -> Result<Self, AllocError>
-        requires workers { (0 < workers) × (workers ≤ 64) }
         requires some { 0 < run_limit }
         requires within { run_limit ≤ default_limit }
         ensures { IfOk result (λ system. system ≡ system_with geometry run_limit) }
@@ -124,19 +115,8 @@ impl<A: Allocator + Copy + Send + Sync> System<A> {
         Ok(System {
             machine: Machine::new(alloc, geometry)?,
             run_limit,
-            workers,
             alloc,
         })
-    }
-
-    /// The crew of its workers: the caller, threads of this runtime, and a gate for calls that move pages. A call makes
-    /// the same moves with any other crew, such as `Alone`, which needs no runtime.
-    pub fn crew<'c, R: Threads + Wait, G: Gate + Sync>(
-        &self,
-        rt: &'c R,
-        gate: &'c G,
-    ) -> Hired<'c, R, G> {
-        Hired::new(rt, self.workers, gate)
     }
 
     /// The allocator of its lists.
@@ -306,7 +286,7 @@ impl<A: Allocator + Copy + Send + Sync> System<A> {
     /// privilege); then for the first entry that is refused ENODEV (a node that does not exist or is offline) or else
     /// EACCES (a node that the process may not use, whoever calls). After `HostMemory { runs, .. }` the first `runs`
     /// runs remain.
-    pub fn move_pages<C: Crew>(
+    pub fn move_pages<C: RunCrew<A>>(
         &mut self,
         crew: &C,
         request: &MoveRequest<A>,
@@ -339,7 +319,7 @@ impl<A: Allocator + Copy + Send + Sync> System<A> {
     /// have); ESRCH (no such process); EPERM (a process of another user, without privilege); EPERM (a node of `new`
     /// that the process may not use, without privilege); EINVAL (no node of `new` that is online and that the process
     /// may use). After `HostMemory { runs, .. }` the first `runs` runs remain.
-    pub fn migrate_pages<C: Crew>(
+    pub fn migrate_pages<C: RunCrew<A>>(
         &mut self,
         crew: &C,
         request: &MigrateRequest,
@@ -379,7 +359,11 @@ impl<A: Allocator + Copy + Send + Sync> System<A> {
     /// With MPOL_MF_STRICT and a flag to move, EIO is also returned if a listed page is not where the policy wants it
     /// after the moves: policy and moves remain. After `HostMemory { runs, policy_set }` the first `runs` runs remain,
     /// and the policy is set if `policy_set` says so. Allocates only if a flag to move is given, or an area is split.
-    pub fn mbind<C: Crew>(&mut self, crew: &C, request: &MbindRequest) -> Result<(), CallError>
+    pub fn mbind<C: RunCrew<A>>(
+        &mut self,
+        crew: &C,
+        request: &MbindRequest,
+    ) -> Result<(), CallError>
         ensures done { Does (λ done. Failed 0) result self.old self.new
             (Mbind request.now.caller request.now.addr request.now.len request.now.mode request.now.nodes request.now.flags) }
         ensures asked { (runs : ℕ) (policy_set : Bool) →
@@ -403,7 +387,7 @@ impl<A: Allocator + Copy + Send + Sync> System<A> {
     /// Errors, in order: EINVAL (no such node); EBUSY (no other node is online). EBUSY is also returned if a page of
     /// the node stays: the moves remain, and the node is online. After `HostMemory { runs, .. }` the first `runs` runs
     /// remain, and the node is online.
-    pub fn offline<C: Crew>(&mut self, crew: &C, node: NodeId) -> Result<(), CallError>
+    pub fn offline<C: RunCrew<A>>(&mut self, crew: &C, node: NodeId) -> Result<(), CallError>
         ensures done { Does (λ done. Done) result self.old self.new (Offline node) }
         ensures asked { (runs : ℕ) (policy_set : Bool) →
             result ≡ Err (HostMemory runs policy_set) →

@@ -12,8 +12,7 @@ ghost use Rattle.nm_calls.specs.views.Turns.{same_node};
 
 use crate::call_error::CallError;
 use crate::passes::make_runs;
-use nm_crew::Crew;
-use nm_engine::Machine;
+use nm_engine::{Machine, RunCrew};
 use nm_policy::Sent;
 use nm_runs::{Run, Wanted};
 use nm_types::Pid;
@@ -104,7 +103,7 @@ fn cut_sent<A: Allocator + Copy>(
 
 /// Moves pages of a process, each to a node of its own, in runs of at most `limit` pages, and returns the status of
 /// each page, in order. An error means that the host is out of memory; no pages take none.
-pub(crate) fn make_turns<A: Allocator + Copy + Send + Sync, C: Crew>(
+pub(crate) fn make_turns<A: Allocator + Copy + Send + Sync, C: RunCrew<A>>(
     crew: &C,
     alloc: A,
     machine: &mut Machine<A>,

@@ -2,9 +2,13 @@
 
 ghost use Rattle.std.specs.Prelude.{◌<◌, ◌≤◌};
 
-use nm_crew::Gate;
+use crate::crews::Gated;
+use nm_frames::CopyJob;
+use nm_spaces::AddressSpaces;
+use nm_threads::Gate;
 use nm_trace::{Watched, run_trace};
 use std::alloc::{AllocError, Global};
+use std::marker::PhantomData;
 use std::sync::Wait;
 use std::sync::atomic::{AtomicBool, AtomicU64, Ordering};
 use std::test::Fail;
@@ -52,17 +56,9 @@ const ONE_PAGE: &str =
 /// The end of its report.
 const ONE_PAGE_END: &str = " 1 1 1 1\n4 vmstat pgmigrate_success 1 pgmigrate_fail 0\n";
 
-/// Lets each worker through at once, and allows other workers from the first job on.
-#[derive(Drop)]
-pub(crate) struct Through;
-
-impl Gate for Through {
-    fn pass(&self, _worker: usize, _ticket: u64) {}
-}
-
 /// Holds each worker until workers 0 and 1 have both called, for at most 2^24 turns.
 #[derive(Drop)]
-struct Meeting {
+pub(crate) struct Meeting {
     /// Which workers called, one bit each.
     came: AtomicU64,
     missed: AtomicBool,
@@ -80,10 +76,8 @@ impl Meeting {
     fn met(&self) -> bool {
         self.came.load(Ordering::SeqCst) & 3 == 3 && !self.missed.load(Ordering::SeqCst)
     }
-}
 
-impl Gate for Meeting {
-    fn pass(&self, worker: usize, _ticket: u64) {
+    fn hold(&self, worker: usize) {
         if worker < 64 {
             self.came.fetch_or(1 << worker, Ordering::SeqCst);
         }
@@ -97,66 +91,86 @@ impl Gate for Meeting {
     }
 }
 
-/// Holds worker 1 at its first page until the caller has come to an access in flight, and the caller there until worker
-/// 1 has called, each for at most 2^24 turns.
+/// The number of the worker that is not the caller.
+const OTHER: usize = 1;
+
+/// A gate of the tests, which allows other workers from the first job on.
 #[derive(Drop)]
-struct AccessMeeting(Meeting);
-
-impl AccessMeeting {
-    /// The bit of the caller at an access, and that of worker 1.
-    const CALLER: usize = 0;
-
-    const OTHER: usize = 1;
+pub(crate) enum TestGate {
+    /// Lets each worker through at once.
+    Through,
+    /// Holds each worker until workers 0 and 1 have both called.
+    Workers(Meeting),
+    /// Holds worker 1 at its first page until the caller has come to an access in flight, and the caller there until
+    /// worker 1 has called.
+    Access(Meeting),
+    /// Counts the caller's calls, and is spoilt by those of any other worker. Access 0 counts as 10,000 calls, access 1
+    /// as 20,000, and so on.
+    Count(AtomicU64),
 }
 
-impl Gate for AccessMeeting {
-    fn pass(&self, worker: usize, _ticket: u64) {
-        if worker == AccessMeeting::OTHER {
-            self.0.pass(AccessMeeting::OTHER, 0);
+impl TestGate {
+    /// The caller has come to the access in flight with this number.
+    pub(crate) fn access(&self, number: usize) {
+        match self {
+            TestGate::Access(meeting) => meeting.hold(0),
+            TestGate::Count(calls) => {
+                let step = (number as u64).saturating_add(1).saturating_mul(10_000);
+                calls.fetch_add(step, Ordering::SeqCst);
+            }
+            _ => {}
         }
     }
 
-    fn access(&self, _number: usize) {
-        self.0.pass(AccessMeeting::CALLER, 0);
+    /// Whether the two that it holds have met.
+    fn met(&self) -> bool {
+        match self {
+            TestGate::Workers(meeting) => meeting.met(),
+            TestGate::Access(meeting) => meeting.met(),
+            _ => false,
+        }
+    }
+
+    /// How many calls it has counted.
+    fn count(&self) -> u64 {
+        match self {
+            TestGate::Count(calls) => calls.load(Ordering::SeqCst),
+            _ => 0,
+        }
     }
 }
 
-/// Counts the caller's calls, and is spoilt by those of any other worker. Access 0 counts as 10,000 calls, access 1 as
-/// 20,000, and so on.
-#[derive(Drop)]
-struct Alone(AtomicU64);
-
-impl Gate for Alone {
+impl Gate for TestGate {
     fn pass(&self, worker: usize, _ticket: u64) {
-        let step = if worker == 0 { 1 } else { 1000 };
-        self.0.fetch_add(step, Ordering::SeqCst);
-    }
-
-    fn access(&self, number: usize) {
-        let step = (number as u64).saturating_add(1).saturating_mul(10_000);
-        self.0.fetch_add(step, Ordering::SeqCst);
+        match self {
+            TestGate::Through => {}
+            TestGate::Workers(meeting) => meeting.hold(worker),
+            TestGate::Access(meeting) => {
+                if worker == OTHER {
+                    meeting.hold(OTHER);
+                }
+            }
+            TestGate::Count(calls) => {
+                let step = if worker == 0 { 1 } else { 1000 };
+                calls.fetch_add(step, Ordering::SeqCst);
+            }
+        }
     }
 }
 
 /// Runs the trace with `workers` workers, and returns whether its report is right.
-fn reports_right<G: Gate + Sync>(
+fn reports_right(
     rt: &(impl Threads + Wait + Sync),
     alloc: Global,
     workers: usize,
-    gate: &G,
+    gate: &TestGate,
 ) -> bool
     requires { (0 < workers) × (workers ≤ 64) }
 {
     let mut written = Watched::new(Vec::new(alloc));
-    let played = run_trace(
-        rt,
-        alloc,
-        alloc,
-        &mut TRACE.as_bytes(),
-        &mut written,
-        workers,
-        gate,
-    );
+    let _work: PhantomData<(CopyJob<Global>, AddressSpaces<Global>)> = PhantomData;
+    let crew = Gated::new(rt, workers, gate);
+    let played = run_trace(&crew, alloc, alloc, &mut TRACE.as_bytes(), &mut written);
     played.is_ok() && written.get_ref().as_slice() == REPORT.as_bytes()
 }
 
@@ -164,7 +178,7 @@ fn reports_right<G: Gate + Sync>(
 /// gets both to the gate.
 #[test]
 fn workers_meet_in_a_trace(rt: HostRuntime) {
-    let gate = Meeting::new();
+    let gate = TestGate::Workers(Meeting::new());
     assert!(rt; reports_right(&rt, rt.alloc(), 2, &gate) && gate.met());
 }
 
@@ -172,16 +186,16 @@ fn workers_meet_in_a_trace(rt: HostRuntime) {
 /// or after it has joined it, never gets both to the gate.
 #[test]
 fn accesses_are_made_while_a_worker_copies(rt: HostRuntime) {
-    let gate = AccessMeeting(Meeting::new());
-    assert!(rt; reports_right(&rt, rt.alloc(), 2, &gate) && gate.0.met());
+    let gate = TestGate::Access(Meeting::new());
+    assert!(rt; reports_right(&rt, rt.alloc(), 2, &gate) && gate.met());
 }
 
 /// With one worker the caller copies alone: three pages, three calls of the gate, and accesses 0 and 1 before them.
 #[test]
 fn one_worker_is_alone(rt: HostRuntime) {
-    let gate = Alone(AtomicU64::new(0));
+    let gate = TestGate::Count(AtomicU64::new(0));
     assert!(rt; reports_right(&rt, rt.alloc(), 1, &gate));
-    assert_eq!(rt; gate.0.load(Ordering::SeqCst), 30_003u64);
+    assert_eq!(rt; gate.count(), 30_003u64);
 }
 
 /// A trace in which one page is named in each of the 16,384 entries of a batch.
@@ -203,38 +217,33 @@ fn ends_with(
     rt: &(impl Threads + Wait + Sync),
     alloc: Global,
     trace: &str,
-    gate: &Alone,
+    gate: &TestGate,
     end: &str,
 ) -> bool {
     let mut written = Watched::new(Vec::new(alloc));
-    let played = run_trace(
-        rt,
-        alloc,
-        alloc,
-        &mut trace.as_bytes(),
-        &mut written,
-        1,
-        gate,
-    );
+    let _work: PhantomData<(CopyJob<Global>, AddressSpaces<Global>)> = PhantomData;
+    let crew = Gated::new(rt, 1, gate);
+    let played = run_trace(&crew, alloc, alloc, &mut trace.as_bytes(), &mut written);
     played.is_ok() && written.get_ref().as_slice().ends_with(end.as_bytes())
 }
 
 /// The longest batch that names one page alone is one copy job: its page is copied once, and each entry gets a status.
 #[test]
 fn equal_entries_are_one_job(rt: HostRuntime) -> Result<(), Fail> {
-    let gate = Alone(AtomicU64::new(0));
+    let gate = TestGate::Count(AtomicU64::new(0));
     let trace = equal_entries(rt.alloc())?;
     assert!(rt; ends_with(&rt, rt.alloc(), trace.as_str(), &gate, ONE_PAGE_END));
-    assert_eq!(rt; gate.0.load(Ordering::SeqCst), 1u64);
+    assert_eq!(rt; gate.count(), 1u64);
     Ok(())
 }
 
 /// The report is the same for any number of workers, with other workers allowed from the first page on.
 #[test]
 fn reports_are_the_same(rt: HostRuntime) {
+    let gate = TestGate::Through;
     for workers in [1, 2, 3, 64] {
         assert!(rt;
-            reports_right(&rt, rt.alloc(), workers, &Through),
+            reports_right(&rt, rt.alloc(), workers, &gate),
             "{workers} workers"
         );
     }

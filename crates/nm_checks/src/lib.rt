@@ -6,6 +6,8 @@ mod again;
 #[cfg(test)]
 mod areas;
 #[cfg(test)]
+mod crews;
+#[cfg(test)]
 mod gates;
 #[cfg(test)]
 mod rmap;

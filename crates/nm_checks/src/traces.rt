@@ -4,11 +4,14 @@ ghost use Rattle.std.specs.Prelude.{◌≡◌};
 
 use crate::trails::new_system;
 use nm_calls::{Call, System};
-use nm_crew::OpenGate;
+use nm_frames::CopyJob;
 use nm_refusing::Refusing;
+use nm_spaces::AddressSpaces;
+use nm_threads::Hired;
 use nm_trace::{Summary, Trace, TraceError, Watched, play, read_trace, run_trace};
 use nm_types::{Geometry, Pid};
 use std::alloc::{AllocError, Global};
+use std::marker::PhantomData;
 use std::process::Abort;
 use std::sync::Wait;
 use std::test::Fail;
@@ -68,15 +71,9 @@ fn run_refused(
 ) -> (bool, bool) {
     let mut written = Watched::new(Vec::new(global));
     heap.refuse(number);
-    let played = run_trace(
-        rt,
-        heap,
-        global,
-        &mut TRACE.as_bytes(),
-        &mut written,
-        4,
-        &OpenGate,
-    );
+    let _work: PhantomData<(CopyJob<Heap<'_>>, AddressSpaces<Heap<'_>>)> = PhantomData;
+    let crew = Hired::new(rt, 4);
+    let played = run_trace(&crew, heap, global, &mut TRACE.as_bytes(), &mut written);
     let met = heap.asked_since(number) >= number;
     heap.refuse(0);
     (met, is_fine(played, written.get_ref().as_slice()))
@@ -123,7 +120,9 @@ fn play_refused<'a>(
 {
     let mut written = Watched::new(Vec::new(global));
     heap.refuse(number);
-    let played = play(rt, heap, system, trace, &mut written, &OpenGate);
+    let _work: PhantomData<(CopyJob<Heap<'a>>, AddressSpaces<Heap<'a>>)> = PhantomData;
+    let crew = Hired::new(rt, 2);
+    let played = play(&crew, heap, system, trace, &mut written);
     let met = heap.asked_since(number) >= number;
     heap.refuse(0);
     let fine = is_fine(played, written.get_ref().as_slice());
@@ -166,7 +165,9 @@ fn report_of<'a>(
     requires { system.old.run_limit ≡ trace.now.run_limit }
 {
     let mut written = Watched::new(Vec::new(global));
-    match play(rt, heap, system, trace, &mut written, &OpenGate) {
+    let _work: PhantomData<(CopyJob<Heap<'a>>, AddressSpaces<Heap<'a>>)> = PhantomData;
+    let crew = Hired::new(rt, 2);
+    match play(&crew, heap, system, trace, &mut written) {
         Ok(_) => Ok(written.into_inner()),
         Err(_) => Err(AllocError),
     }

@@ -7,14 +7,18 @@
 
 ghost use Rattle.std.specs.Prelude.{◌≡◌, IfOk};
 
-use crate::gates::Through;
+use crate::crews::Gated;
+use crate::gates::TestGate;
 use crate::traces::Heap;
 use nm_calls::{AccessAnswer, Answer, Call, Moved, PagemapEntry, System};
-use nm_crew::{Alone, Crew, OpenGate};
+use nm_crew::Alone;
+use nm_frames::CopyJob;
 use nm_refusing::Refusing;
-use nm_trace::{Trace, read_trace};
+use nm_spaces::AddressSpaces;
+use nm_trace::{RunCrew, Trace, read_trace};
 use nm_types::FrameId;
 use std::alloc::{AllocError, Global};
+use std::marker::PhantomData;
 use std::process::Abort;
 use std::sync::Wait;
 use std::test::Fail;
@@ -99,8 +103,8 @@ fn put_answer(text: &mut String, answer: &Answer<Heap<'_>>) -> Result<(), AllocE
 }
 
 /// Makes a call by a crew, and appends its answer.
-fn make<'a>(
-    crew: &impl Crew,
+fn make<'a, C: RunCrew<Heap<'a>>>(
+    crew: &C,
     system: &mut System<Heap<'a>>,
     call: &Call<Heap<'a>>,
     text: &mut String,
@@ -121,7 +125,9 @@ pub(crate) fn make_some<'a>(
     count: usize,
     text: &mut String,
 ) -> Result<(), AllocError> {
-    let crew = system.crew(rt, &Through);
+    let _work: PhantomData<(CopyJob<Heap<'a>>, AddressSpaces<Heap<'a>>)> = PhantomData;
+    let gate = TestGate::Through;
+    let crew = Gated::new(rt, 2, &gate);
     for call in calls.iter().skip(from).take(count) {
         make(&crew, system, call, text)?;
     }
@@ -149,7 +155,7 @@ pub(crate) fn new_system<'a>(
     ensures { IfOk result (λ system. system.run_limit ≡ trace.now.run_limit) }
 {
     let geometry = trace.geometry.clone()?;
-    System::with_run_limit(heap, geometry, 2, trace.run_limit)
+    System::with_run_limit(heap, geometry, trace.run_limit)
 }
 
 /// Makes the calls before this number, and empties the text.
@@ -319,11 +325,11 @@ fn made_alone(alloc: Global, trace: &str, told: &str) -> Result<bool, AllocError
     let Ok(trace) = read_trace(&heap, alloc, trace.as_bytes()) else {
         return Err(AllocError);
     };
+    let _work: PhantomData<(CopyJob<Heap<'_>>, AddressSpaces<Heap<'_>>)> = PhantomData;
     let mut system = new_system(&heap, &trace)?;
     let mut text = String::new(alloc);
-    let crew = Alone::new(&OpenGate);
     for call in trace.calls.as_slice() {
-        make(&crew, &mut system, call, &mut text)?;
+        make(&Alone, &mut system, call, &mut text)?;
     }
     let sound = system.audit()?;
     write!(text, "| {sound}")?;

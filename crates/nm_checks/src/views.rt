@@ -8,7 +8,7 @@
 ghost use Rattle.std.specs.Prelude.{◌≡◌, ◌<◌, ◌^◌, IfOk};
 
 use nm_engine::Machine;
-use nm_runs::{Class, Run, Wanted, classify};
+use nm_runs::{Class, Run, Wanted, classes_of};
 use nm_types::{FrameId, Geometry, MachineError, NodeId, NodeMask, Page, Pid, Vpn};
 use std::alloc::{AllocError, Global};
 use std::test::Fail;
@@ -144,7 +144,7 @@ fn has_classes(
     requires { requests.now.target < 2 ^ 31 }
 {
     let (target, wanted) = (requests.target, requests.wanted.as_slice());
-    let classes = classify(alloc, machine.geometry(), machine.spaces(), target, wanted)?;
+    let classes = classes_of(alloc, machine.geometry(), machine.spaces(), target, wanted)?;
     Ok(classes.as_slice() == want)
 }
 

@@ -2,9 +2,13 @@
 //! step by step, from its own text, and prints the answer of each call.
 #![tactic(auto)]
 
-use nm_crew::OpenGate;
+use nm_crew::Alone;
+use nm_frames::CopyJob;
+use nm_spaces::AddressSpaces;
 use nm_trace::Session;
+use std::alloc::Global;
 use std::io::Write;
+use std::marker::PhantomData;
 use std::process::ExitCode;
 
 /// Two nodes of four frames each, at distance 10 to themselves and 20 to each other.
@@ -22,13 +26,15 @@ const STEPS: [&str; 6] = [
 ];
 
 fn main(rt: HostRuntime) -> ExitCode {
+    // (the kit's borrow checker looks for what a crew works on among the types of this function)
+    let _work: PhantomData<(CopyJob<Global>, AddressSpaces<Global>)> = PhantomData;
     let heap = rt.alloc();
     let mut out = rt.stdout();
-    let Ok(mut session) = Session::open(heap, heap, MACHINE.as_bytes(), 1) else {
+    let Ok(mut session) = Session::open(heap, heap, MACHINE.as_bytes()) else {
         return ExitCode::FAILURE;
     };
     for step in STEPS {
-        let Ok(lines) = session.step(&rt, heap, step.as_bytes(), &OpenGate) else {
+        let Ok(lines) = session.step(&Alone, heap, step.as_bytes()) else {
             return ExitCode::FAILURE;
         };
         if out.write_all(lines.as_slice()).is_err() {

@@ -1,38 +1,32 @@
 //! The crew that is the caller alone.
 
 use crate::crew::Crew;
-use crate::gate::Gate;
-use crate::span::{Span, no_scope};
-use std::marker::PhantomData;
-use std::thread::Scope;
+use crate::jobs::Jobs;
+use crate::looks::Looks;
+use nm_runs::{Class, Run, classes_of};
+use nm_types::{Geometry, PageView};
+use std::alloc::{AllocError, Allocator};
 
-/// The caller alone, and the gate that it passes. It needs no runtime.
-#[derive(Drop)]
-pub struct Alone<'a, G: Gate + Sync> {
-    gate: &'a G,
-}
+/// The caller alone: it needs no runtime, starts no thread and waits for none.
+#[derive(Clone, Copy, Debug, Drop)]
+pub struct Alone;
 
-impl<'a, G: Gate + Sync> Alone<'a, G> {
-    /// Makes a crew of the caller.
-    pub fn new(gate: &'a G) -> Self {
-        Alone { gate }
+impl<J: Jobs> Crew<J> for Alone {
+    fn copy_while<T, W: FnOnce() -> T>(&self, mut jobs: J, work: W) -> (J, T) {
+        let answer = work();
+        jobs.do_each();
+        (jobs, answer)
     }
 }
 
-impl<'a, G: Gate + Sync> Crew for Alone<'a, G> {
-    ghost size = { λ crew. 1 };
-
-    type Gate = G;
-
-    fn gate(&self) -> &G {
-        self.gate
-    }
-
-    fn workers(&self) -> usize {
-        1
-    }
-
-    fn scoped<E: Span, F: for<'s> FnOnce(Option<&'s Scope<'s, E>>) -> T, T>(&self, f: F) -> T {
-        f(no_scope(&PhantomData))
+impl<A: Allocator + Copy, V: PageView> Looks<A, V> for Alone {
+    fn classify(
+        &self,
+        alloc: A,
+        geometry: &Geometry<A>,
+        view: &V,
+        run: &Run<A>,
+    ) -> Result<Vec<Class, A>, AllocError> {
+        classes_of(alloc, geometry, view, run.target, run.wanted.as_slice())
     }
 }

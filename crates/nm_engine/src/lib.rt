@@ -7,6 +7,7 @@ mod machine;
 mod planned_run;
 mod prepared_run;
 mod resolved_address;
+mod run_crew;
 mod run_in_flight;
 mod touch;
 
@@ -14,3 +15,4 @@ pub use answers::RunAnswer;
 pub use machine::{Machine, Totals};
 pub use nm_memory::AccessAnswer;
 pub use nm_types::{Access, MachineError};
+pub use run_crew::RunCrew;

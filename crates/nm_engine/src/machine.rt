@@ -28,9 +28,9 @@ use crate::answers::RunAnswer;
 use crate::laws::interleavings;
 use crate::planned_run::{PlannedRun, make_run};
 use crate::resolved_address::ResolvedAddress;
+use crate::run_crew::RunCrew;
 use crate::touch::push_zeros;
 use core::mem::replace_with;
-use nm_crew::Crew;
 use nm_memory::Frames;
 use nm_plan::{Plan, plan};
 use nm_runs::Run;
@@ -198,9 +198,9 @@ impl<A: Allocator + Copy + Send + Sync> Machine<A> {
     /// EINVAL and EFAULT come before that. For an access, the frames that the run took are not free, and those that its
     /// pages left are not free yet.
     ///
-    /// The crew copies the pages, and each worker calls the gate before each copy. Neither the number of workers nor
-    /// whether the host starts them makes a difference to any of this. Waits for their threads to end.
-    pub fn run_flight<C: Crew>(
+    /// The crew looks at what the run asks for, and copies the pages. Which crew it is makes no difference to any of
+    /// this.
+    pub fn run_flight<C: RunCrew<A>>(
         &mut self,
         crew: &C,
         requests: &Run<A>,
@@ -251,7 +251,7 @@ impl<A: Allocator + Copy + Send + Sync> Machine<A> {
     }
 
     /// The plan of a run, from the classes of its requests at its start.
-    fn plan<C: Crew>(&self, crew: &C, requests: &Run<A>) -> Result<Plan<A>, AllocError>
+    fn plan<C: RunCrew<A>>(&self, crew: &C, requests: &Run<A>) -> Result<Plan<A>, AllocError>
         requires target { requests.now.target < node_count self.now.layout }
         requires alike { HasOneAll requests.now.wanted.items }
         ensures plan { IfOk result

@@ -11,7 +11,7 @@ ghost use Rattle.nm_memory.specs.views.Accesses.{answer_shown};
 use crate::answers::RunAnswer;
 use crate::machine::Machine;
 use crate::prepared_run::PreparedRun;
-use nm_crew::Crew;
+use crate::run_crew::RunCrew;
 use nm_memory::AccessAnswer;
 use nm_plan::Plan;
 use nm_runs::Run;
@@ -20,7 +20,7 @@ use std::alloc::{AllocError, Allocator};
 
 /// A run with its plan, the accesses that come while its pages are on their way, and an empty list with room for their
 /// answers.
-pub(crate) struct PlannedRun<'r, A: Allocator + Copy, C: Crew> {
+pub(crate) struct PlannedRun<'r, A: Allocator + Copy, C: RunCrew<A>> {
     pub(crate) crew: &'r C,
     pub(crate) requests: &'r Run<A>,
     pub(crate) plan: Plan<A>,
@@ -36,8 +36,8 @@ pub(crate) fn make_run<A, C>(
 ) -> (Machine<A>, Result<RunAnswer<A>, AllocError>)
 where
     A: Allocator + Copy + Send + Sync,
-    C: Crew,
-    requires bounds { IsSend A.row × IsSync A.row × IsSync C.Gate.row × Frees A.Allocator A.dealloc_token }
+    C: RunCrew<A>,
+    requires bounds { IsSend A.row × IsSync A.row × Frees A.Allocator A.dealloc_token }
     requires target { planned.requests.now.target < node_count machine.layout }
     requires plan { IsPlanOf machine planned.requests.now.target planned.requests.now.wanted.items planned.plan }
     requires unanswered { planned.answers.items ≡ [] }

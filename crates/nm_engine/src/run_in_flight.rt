@@ -16,7 +16,7 @@ ghost use Rattle.nm_memory.specs.views.Accesses.{answer_shown, pending_shown, Ha
 ghost use Rattle.nm_engine.specs.views.Flights.{AreOutIn, IsMoment, state_meanwhile, with_store};
 
 use crate::machine::{Machine, Totals};
-use nm_crew::{Crew, Gate};
+use crate::run_crew::RunCrew;
 use nm_frames::CopyJob;
 use nm_memory::{AccessAnswer, FramesInFlight, PendingAccess};
 use nm_spaces::HeldSpaces;
@@ -105,13 +105,13 @@ impl<'m, A: Allocator + Copy> RunInFlight<'m, A> {
         frame
     }
 
-    /// Does what is left to do for accesses, in order. The answers go into a list that has room for them. The gate is
-    /// called before each access.
-    fn answer_each<G: Gate>(
+    /// Does what is left to do for accesses, in order. The answers go into a list that has room for them. The crew is
+    /// told before each access.
+    fn answer_each<C: RunCrew<A>>(
         mut self,
         dues: Vec<PendingAccess<'_, A>, A>,
         mut answers: Vec<AccessAnswer<A>, A>,
-        gate: &G,
+        crew: &C,
     ) -> (Self, Vec<AccessAnswer<A>, A>)
         // What is left to do
         requires due { AllByRecursion (CanDo self.spaces.place self.frames.frames)
@@ -132,7 +132,7 @@ impl<'m, A: Allocator + Copy> RunInFlight<'m, A> {
             (map pending_shown dues.entry.items)).answers }
     {
         for due in dues {
-            gate.access(answers.len());
+            crew.access(answers.len());
             let answer = self.access(due);
             answers.push_reserved(answer);
         }
@@ -143,7 +143,7 @@ impl<'m, A: Allocator + Copy> RunInFlight<'m, A> {
 impl<'m, A: Allocator + Copy + Send + Sync> RunInFlight<'m, A> {
     /// Has a crew make the copies of the run, and meanwhile does what is left to do for accesses. The answers go into a
     /// list that has room for them. Returns the run, the jobs, done, and the answers.
-    pub(crate) fn copy_beside<C: Crew>(
+    pub(crate) fn copy_beside<C: RunCrew<A>>(
         self,
         crew: &C,
         jobs: Vec<CopyJob<A>, A>,
@@ -185,11 +185,8 @@ impl<'m, A: Allocator + Copy + Send + Sync> RunInFlight<'m, A> {
             IsMoment n result.0 result.1.items
             × (n.answers ≡ m.answers ++ map answer_shown result.2.items) }
     {
-        let gate = crew.gate();
-        let alloc = self.alloc;
         let run = self;
         let (jobs, (run, answers)) = crew.copy_while(
-            alloc,
             jobs,
             move || -> (RunInFlight<A>, Vec<AccessAnswer<A>, A>)
                 requires due { AllByRecursion (CanDo run.spaces.place run.frames.frames)
@@ -204,7 +201,7 @@ impl<'m, A: Allocator + Copy + Send + Sync> RunInFlight<'m, A> {
                 ensures answers { map answer_shown result.1.items
                     ≡ (all_stored_after_copy run.entry.spaces.place run.entry.frames.frames
                     (map pending_shown dues.entry.items)).answers }
-            { run.answer_each(dues, answers, gate) },
+            { run.answer_each(dues, answers, crew) },
         );
         (run, jobs, answers)
     }

@@ -2,3 +2,4 @@ pub mod Cuts
 pub mod Pieces
 pub mod Stretches
 pub mod Pages
+pub mod Joined

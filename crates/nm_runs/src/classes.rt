@@ -103,10 +103,10 @@ fn classified<A: Allocator + Copy, V: PageView>(
     }
 }
 
-/// What to do with each request, in order, from a look at what it names. The view must show frames of this machine only.
-/// An error means that the host is out of memory; no requests take none. The target's number is also used as a status, so
-/// it must be below 2^31.
-pub fn classify<A: Allocator + Copy, V: PageView>(
+/// What to do with each request, in order, from a look at what it names, by the calling thread. The view must show frames
+/// of this machine only. An error means that the host is out of memory; no requests take none. The target's number is
+/// also used as a status, so it must be below 2^31.
+pub fn classes_of<A: Allocator + Copy, V: PageView>(
     alloc: A,
     geometry: &Geometry<A>,
     view: &V,

@@ -5,14 +5,16 @@ mod check;
 mod classes;
 mod cutting;
 pub mod laws;
+mod parallel;
 #[cfg(test)]
 mod tests;
 
 pub use check::check_batch;
-pub use classes::classify;
+pub use classes::classes_of;
 pub use cutting::{cut, cut_pages, cut_to, cut_within, run_count};
 use nm_types::NodeId;
 pub use nm_types::{Class, Request, Wanted};
+pub use parallel::classify;
 use std::alloc::Allocator;
 
 /// Consecutive requests for one target node. They are decided one after another, and the frames that their pages leave

@@ -2,13 +2,15 @@ ghost use Rattle.std.specs.Prelude.{◌≡◌, IfOk};
 ghost use Rattle.nm_types.specs.Layout.{frame_count};
 
 use crate::{
-    Class, Request, Run, Wanted, check_batch, classify, cut, cut_pages, cut_to, cut_within, laws,
-    run_count,
+    Class, Request, Run, Wanted, check_batch, classes_of, classify, cut, cut_pages, cut_to,
+    cut_within, laws, run_count,
 };
 use nm_types::{Errno, FrameId, Geometry, NodeId, NodeMask, Page, PageView, Pid, Seen, Vpn};
 use std::alloc::{AllocError, Global};
 use std::process::Abort;
+use std::sync::atomic::{AtomicBool, AtomicU64, Ordering};
 use std::test::Fail;
+use std::thread::{Threads, yield_now};
 
 /// A set of nodes below 64.
 fn set_of(rt: &impl Abort, numbers: &[u32]) -> NodeMask {
@@ -285,7 +287,7 @@ fn are_classes(
     requires { frame_count geometry.now ≡ 8 }
 {
     let wanted = wanted_at(alloc, numbers, all)?;
-    let classes = classify(alloc, geometry, &Row, NodeId::new(1), wanted.as_slice())?;
+    let classes = classes_of(alloc, geometry, &Row, NodeId::new(1), wanted.as_slice())?;
     Ok(classes.as_slice() == want)
 }
 
@@ -331,5 +333,148 @@ fn classes_by_a_view(rt: HostRuntime) -> Result<(), Fail> {
     );
     let asked = [Class::Status(-16), moves(4, 2), Class::Status(1)];
     assert!(rt; are_classes(&geometry, rt.alloc(), &[18, 20, 21], true, asked.as_slice())?);
+    Ok(())
+}
+
+/// A page number far from the others.
+const FAR: u64 = 1 << 30;
+
+/// A run of this many requests for the second node, for page numbers below 24 in turn and then for one far from them.
+fn long_run(alloc: Global, count: u64) -> Result<Run<Global>, AllocError>
+    ensures { IfOk result (λ run. run.target ≡ 1) }
+{
+    let mut wanted = Vec::new(alloc);
+    for number in 1..count {
+        wanted.push(Wanted::At {
+            pid: Pid::new(1),
+            vpn: Vpn::new(number.wrapping_mul(7) % 24),
+            all: false,
+        })?;
+    }
+    wanted.push(Wanted::At {
+        pid: Pid::new(1),
+        vpn: Vpn::new(FAR),
+        all: false,
+    })?;
+    Ok(Run {
+        target: NodeId::new(1),
+        wanted,
+    })
+}
+
+/// Whether this many workers find what one thread finds.
+fn find_the_same(
+    rt: &(impl Threads + Sync),
+    alloc: Global,
+    geometry: &Geometry<Global>,
+    run: &Run<Global>,
+    workers: usize,
+) -> Result<bool, AllocError>
+    requires geometry { frame_count geometry.now ≡ 8 }
+    requires target { run.now.target ≡ 1 }
+{
+    let one = classes_of(alloc, geometry, &Row, run.target, run.wanted.as_slice())?;
+    let several = classify(rt, workers, alloc, geometry, &Row, run)?;
+    Ok(one == several)
+}
+
+/// Runs below, at and above the length from which several threads look have one result with any number of workers.
+#[test]
+fn classes_by_any_workers(rt: HostRuntime) -> Result<(), Fail> {
+    let geometry = two_nodes(rt.alloc())?;
+    for count in [1, 8, 8191, 8192, 12_290, 16_384] {
+        let run = long_run(rt.alloc(), count)?;
+        for workers in [1, 2, 3, 4, 64] {
+            assert!(rt;
+                find_the_same(&rt, rt.alloc(), &geometry, &run, workers)?,
+                "{count} requests, {workers} workers"
+            );
+        }
+    }
+    Ok(())
+}
+
+/// A view without areas that holds whoever looks at page number 0 until another has looked at the one far from it, and
+/// the other way round, for at most 2^24 turns.
+#[derive(Drop)]
+struct Meeting {
+    /// Which of the two were looked at, one bit each.
+    came: AtomicU64,
+    missed: AtomicBool,
+}
+
+impl PageView for Meeting {
+    ghost use Rattle.nm_types.specs.declared.seen.Seen.TheVariants.{NoArea, Absent};
+
+    ghost seen_at = { λ meeting pid v. NoArea };
+
+    ghost placed_at = { λ meeting p. Absent };
+
+    fn seen(&self, _pid: Pid, vpn: Vpn) -> Seen {
+        match vpn.number() {
+            0 => self.came.fetch_or(1, Ordering::SeqCst),
+            FAR => self.came.fetch_or(2, Ordering::SeqCst),
+            _ => return Seen::NoArea,
+        };
+        for _ in 0..1u64 << 24 {
+            if self.came.load(Ordering::SeqCst) == 3 {
+                return Seen::NoArea;
+            }
+            yield_now();
+        }
+        self.missed.store(true, Ordering::SeqCst);
+        Seen::NoArea
+    }
+
+    fn placed(&self, _page: Page) -> Seen {
+        Seen::Absent
+    }
+}
+
+/// A run that begins with page number 0 and ends with the one far from it, with this many others between.
+fn run_from_end_to_end(alloc: Global, between: u64) -> Result<Run<Global>, AllocError>
+    ensures { IfOk result (λ run. run.target ≡ 1) }
+{
+    let mut wanted = wanted_at(alloc, [0].as_slice(), false)?;
+    for number in 0..between {
+        wanted.push(Wanted::At {
+            pid: Pid::new(1),
+            vpn: Vpn::new(number.wrapping_add(1)),
+            all: false,
+        })?;
+    }
+    wanted.push(Wanted::At {
+        pid: Pid::new(1),
+        vpn: Vpn::new(FAR),
+        all: false,
+    })?;
+    Ok(Run {
+        target: NodeId::new(1),
+        wanted,
+    })
+}
+
+/// Whether two threads, one at each end of a run, meet while they look.
+fn meet(
+    rt: &(impl Threads + Sync),
+    alloc: Global,
+    geometry: &Geometry<Global>,
+    between: u64,
+) -> Result<bool, AllocError> {
+    let view = Meeting {
+        came: AtomicU64::new(0),
+        missed: AtomicBool::new(false),
+    };
+    let run = run_from_end_to_end(alloc, between)?;
+    let classes = classify(rt, 2, alloc, geometry, &view, &run)?;
+    let right = classes.iter().all(|class| *class == Class::Status(-14));
+    Ok(right && !view.missed.load(Ordering::SeqCst))
+}
+
+/// Two threads look at a run of 8,192 requests at once: one thread never meets another.
+#[test]
+fn two_threads_look_at_a_run(rt: HostRuntime) -> Result<(), Fail> {
+    let geometry = two_nodes(rt.alloc())?;
+    assert!(rt; meet(&rt, rt.alloc(), &geometry, 8190)?);
     Ok(())
 }

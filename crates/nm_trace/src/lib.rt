@@ -7,6 +7,7 @@ mod running;
 mod session;
 mod text;
 
+pub use nm_calls::RunCrew;
 pub use nm_steps::{Trace, TraceError, read_trace};
 pub use nm_streams::{FlushingWriter, TellingReader, TellingWriter, Watched, write_lines};
 pub use playing::{Summary, play};

@@ -7,13 +7,10 @@ ghost use Rattle.nm_trace.specs.Played.{Plays, Tells};
 ghost use Rattle.nm_trace.specs.Telling.{is_write_fault};
 
 use crate::text::{push_refusal, push_text};
-use nm_calls::{Call, CallError, System};
-use nm_crew::{Crew, Gate};
+use nm_calls::{Call, CallError, RunCrew, System};
 use nm_steps::{Trace, TraceError};
 use nm_streams::{Block, TellingWriter};
 use std::alloc::{AllocError, Allocator};
-use std::sync::Wait;
-use std::thread::Threads;
 
 /// Lines wait until there are this many bytes of them: writing each line to the system by itself would take longer than
 /// making it.
@@ -28,7 +25,7 @@ pub struct Summary {
 
 /// Makes the call of step k, and puts its lines, even if it is refused. An error means that the host was out of memory
 /// for the call: then nothing was put.
-pub(crate) fn make_step<A: Allocator + Copy + Send + Sync, C: Crew, W: TellingWriter>(
+pub(crate) fn make_step<A: Allocator + Copy + Send + Sync, C: RunCrew<A>, W: TellingWriter>(
     crew: &C,
     system: &mut System<A>,
     k: usize,
@@ -54,7 +51,7 @@ pub(crate) fn make_step<A: Allocator + Copy + Send + Sync, C: Crew, W: TellingWr
 }
 
 /// Makes calls, from step 0 on, and writes their lines a block at a time.
-pub(crate) fn play_calls<A: Allocator + Copy + Send + Sync, C: Crew, W: TellingWriter>(
+pub(crate) fn play_calls<A: Allocator + Copy + Send + Sync, C: RunCrew<A>, W: TellingWriter>(
     crew: &C,
     alloc: A,
     system: &mut System<A>,
@@ -88,25 +85,19 @@ pub(crate) fn play_calls<A: Allocator + Copy + Send + Sync, C: Crew, W: TellingW
 ///
 /// `WriteFault` if the writer failed or took no byte: some first steps were made, and the report on them breaks off.
 /// `HostMemory(k)` if the host was out of memory in step k: the lines of the steps before it were written, and step k
-/// was made as far as its call says. The lines themselves need no memory. The workers of the system call the gate.
-pub fn play<
-    R: Threads + Wait + Sync,
-    A: Allocator + Copy + Send + Sync,
-    W: TellingWriter,
-    G: Gate + Sync,
->(
-    rt: &R,
+/// was made as far as its call says. The lines themselves need no memory. Which crew it is makes no
+/// difference to the report or to the system.
+pub fn play<A: Allocator + Copy + Send + Sync, C: RunCrew<A>, W: TellingWriter>(
+    crew: &C,
     alloc: A,
     system: &mut System<A>,
     trace: &Trace<A>,
     writer: &mut W,
-    gate: &G,
 ) -> Result<Summary, TraceError>
     requires limit { system.old.run_limit ≡ trace.now.run_limit }
     ensures plays { Plays system.old (map call_of trace.now.calls.items) system.new
         (W.contents writer.old) (W.contents writer.new) result }
     ensures told { W.has_failed writer.new ≡ (is_write_fault result || W.has_failed writer.old) }
 {
-    let crew = system.crew(rt, gate);
-    play_calls(&crew, alloc, system, trace.calls.as_slice(), writer)
+    play_calls(crew, alloc, system, trace.calls.as_slice(), writer)
 }

@@ -9,13 +9,10 @@ ghost use Rattle.nm_trace.specs.Played.{Runs, IsSilent, WritesFront};
 ghost use Rattle.nm_trace.specs.Telling.{TellsReads, is_write_fault};
 
 use crate::playing::{Summary, play_calls};
-use nm_calls::System;
-use nm_crew::Gate;
+use nm_calls::{RunCrew, System};
 use nm_steps::{Trace, TraceError, read_trace};
 use nm_streams::{ReadError, TellingReader, TellingWriter, read_all};
 use std::alloc::{Allocator, Global};
-use std::sync::Wait;
-use std::thread::Threads;
 
 /// The most bytes that a trace may have.
 pub const TRACE_LIMIT: usize = 16_777_216;
@@ -54,23 +51,14 @@ pub struct Played<A: Allocator + Copy + Send + Sync> {
     pub system: System<A>,
 }
 
-/// Checks all bytes of a trace, and then plays it on a new system with `workers` workers.
-fn run_bytes<
-    R: Threads + Wait + Sync,
-    A: Allocator + Copy + Send + Sync,
-    W: TellingWriter,
-    G: Gate + Sync,
->(
-    rt: &R,
+/// Checks all bytes of a trace, and then plays it on a new system.
+fn run_bytes<A: Allocator + Copy + Send + Sync, C: RunCrew<A>, W: TellingWriter>(
+    crew: &C,
     alloc: A,
     heap: Global,
     bytes: &[u8],
     writer: &mut W,
-    workers: usize,
-    gate: &G,
 ) -> Result<Played<A>, TraceError>
-    requires { (0 < workers) × (workers ≤ 64) }
-
     // On success
     ensures played { IfOk result
         (λ p. (plan : Plan) × (trace_of bytes.now ≡ Ok plan)
@@ -95,42 +83,32 @@ fn run_bytes<
         run_limit,
         calls,
     } = trace;
-    let Ok(mut system) = System::with_run_limit(alloc, geometry, workers, run_limit) else {
+    let Ok(mut system) = System::with_run_limit(alloc, geometry, run_limit) else {
         return Err(TraceError::HostMemory(0));
     };
-    let crew = system.crew(rt, gate);
-    let summary = play_calls(&crew, alloc, &mut system, calls.as_slice(), writer)?;
+    let summary = play_calls(crew, alloc, &mut system, calls.as_slice(), writer)?;
     Ok(Played { summary, system })
 }
 
-/// Reads a trace to its end, checks all of it, plays it on a new system and writes the report, with 1 to 64 workers
-/// that call the gate. Also returns the system, for callers that want to look at it or to go on.
+/// Reads a trace to its end, checks all of it, plays it on a new system with a crew, and writes the report. Also returns
+/// the system, for callers that want to look at it or to go on.
 ///
 /// If it returns no fault, the report on the trace was written: on its calls, made one after another, each as one
 /// request after another, with the frames that a run leaves free at its end; the system is in the state of these calls,
 /// and its machine is sound; and no call except a write, and those that add or remove areas, changed a byte that a
-/// process reads, except by its own writes in flight. The number of workers makes no difference to any of this. The
+/// process reads, except by its own writes in flight. Which crew it is, and how many
+/// workers it has, makes no difference to any of this. The
 /// system, the bytes and the lines are in the memory of `alloc`, and the JSON tree in that of `heap`.
 ///
 /// Faults, in order: `ReadFault` if the reader failed or gave more than 16,777,216 bytes; those of `read_trace`; those
 /// of `play`. Nothing is written before the whole trace is checked.
-pub fn run_on<
-    T: Threads + Wait + Sync,
-    A: Allocator + Copy + Send + Sync,
-    R: TellingReader,
-    W: TellingWriter,
-    G: Gate + Sync,
->(
-    rt: &T,
+pub fn run_on<A: Allocator + Copy + Send + Sync, C: RunCrew<A>, R: TellingReader, W: TellingWriter>(
+    crew: &C,
     alloc: A,
     heap: Global,
     reader: &mut R,
     writer: &mut W,
-    workers: usize,
-    gate: &G,
 ) -> Result<Played<A>, TraceError>
-    requires { (0 < workers) × (workers ≤ 64) }
-
     // On success
     ensures played { OfSomeBytes (R.remaining reader.old) (λ trace. IfOk result (λ p. (plan : Plan) × (trace ≡ Ok plan)
         × IsPlayed plan p.summary.steps p.system (W.contents writer.old) (W.contents writer.new))) }
@@ -148,27 +126,16 @@ pub fn run_on<
     ensures writes { W.has_failed writer.new ≡ (is_write_fault result || W.has_failed writer.old) }
 {
     let bytes = read_bytes(alloc, reader)?;
-    run_bytes(rt, alloc, heap, bytes.as_slice(), writer, workers, gate)
+    run_bytes(crew, alloc, heap, bytes.as_slice(), writer)
 }
 
 /// Does what `run_on` does, and returns only the number of steps, without the system.
 pub fn run_trace<
-    T: Threads + Wait + Sync,
     A: Allocator + Copy + Send + Sync,
+    C: RunCrew<A>,
     R: TellingReader,
     W: TellingWriter,
-    G: Gate + Sync,
->(
-    rt: &T,
-    alloc: A,
-    heap: Global,
-    reader: &mut R,
-    writer: &mut W,
-    workers: usize,
-    gate: &G,
-) -> Result<Summary, TraceError>
-    requires { (0 < workers) × (workers ≤ 64) }
-
+>(crew: &C, alloc: A, heap: Global, reader: &mut R, writer: &mut W) -> Result<Summary, TraceError>
     // In any case
     ensures runs { OfSomeBytes (R.remaining reader.old) (λ trace. Runs trace (W.contents writer.old) (W.contents writer.new) result
         × WritesFront trace (W.contents writer.old) (W.contents writer.new)) }
@@ -181,6 +148,6 @@ pub fn run_trace<
         (R.gave reader.old reader.new) result }
     ensures writes { W.has_failed writer.new ≡ (is_write_fault result || W.has_failed writer.old) }
 {
-    let played = run_on(rt, alloc, heap, reader, writer, workers, gate)?;
+    let played = run_on(crew, alloc, heap, reader, writer)?;
     Ok(played.summary)
 }

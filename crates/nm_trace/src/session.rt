@@ -10,14 +10,11 @@ ghost use Rattle.nm_steps.specs.declared.trace_error.TraceError.TheVariants.{Hos
 
 use crate::playing::make_step;
 use json::{Scratch, Value};
-use nm_calls::{Call, System};
-use nm_crew::Gate;
+use nm_calls::{Call, RunCrew, System};
 use nm_steps::{StepError, TraceError, geometry_of, run_limit_of, step_of, value_of};
 use nm_streams::{Block, Closed};
 use std::alloc::{Allocator, Global};
 use std::marker::Model;
-use std::sync::Wait;
-use std::thread::Threads;
 
 /// A system that plays a trace step by step, as the bytes of each step arrive. Contracts see the system, and how many
 /// steps were made.
@@ -62,12 +59,11 @@ fn call_of<A: Allocator + Copy + Send + Sync>(
 }
 
 impl<A: Allocator + Copy + Send + Sync> Session<A> {
-    /// Begins a session with the machine and the limit on runs at the top of a trace, with 1 to 64 workers. Reads the
+    /// Begins a session with the machine and the limit on runs at the top of a trace. Reads the
     /// top as `read_trace` does, except that `steps` is not looked at, and may be missing. Faults, in order: `NotJson`,
     /// `BadMachine`; `HostMemory(0)` if the host is out of memory: never for bytes that are not UTF-8.
     #[tactic(auto, unfolding(crate::specs::Session::opened, crate::specs::Session::begun))]
-    pub fn open(alloc: A, heap: Global, bytes: &[u8], workers: usize) -> Result<Self, TraceError>
-        requires { (0 < workers) × (workers ≤ 64) }
+    pub fn open(alloc: A, heap: Global, bytes: &[u8]) -> Result<Self, TraceError>
         ensures session { Gives (λ s. s) result (opened bytes.now) }
         ensures asked { result ≡ Err (HostMemory 0) → IsSomeText bytes.now }
     {
@@ -75,7 +71,7 @@ impl<A: Allocator + Copy + Send + Sync> Session<A> {
         let value = value_of(heap, bytes, &mut scratch)?;
         let geometry = geometry_of(alloc, &value)?;
         let run_limit = run_limit_of(&value)?;
-        let Ok(system) = System::with_run_limit(alloc, geometry, workers, run_limit) else {
+        let Ok(system) = System::with_run_limit(alloc, geometry, run_limit) else {
             return Err(TraceError::HostMemory(0));
         };
         Ok(Session {
@@ -89,14 +85,13 @@ impl<A: Allocator + Copy + Send + Sync> Session<A> {
     /// Makes the next step, given as JSON, and returns its lines, numbered by the steps before it. A refused call is a
     /// step with its line. `NotJson`, or `BadStep` with the step's number, if the bytes are no step: nothing has
     /// changed. `HostMemory` with the step's number if the host is out of memory: the step is not counted, but its call
-    /// may have been made in part, as the call says, or whole and without its lines. The workers call the gate.
+    /// may have been made in part, as the call says, or whole and without its lines.
     #[tactic(auto, unfolding(crate::specs::Session::asked))]
-    pub fn step<R: Threads + Wait + Sync, G: Gate + Sync>(
+    pub fn step<C: RunCrew<A>>(
         &mut self,
-        rt: &R,
+        crew: &C,
         heap: Global,
         bytes: &[u8],
-        gate: &G,
     ) -> Result<Vec<u8, A>, TraceError>
         ensures steps { Steps (λ lines. lines.items) self.old self.new bytes.now result }
         ensures asked { result ≡ Err (HostMemory self.old.steps) → IsSomeText bytes.now }
@@ -120,15 +115,7 @@ impl<A: Allocator + Copy + Send + Sync> Session<A> {
         }
         let mut block = Block::new(self.alloc, usize::MAX);
         let mut closed = Closed::new();
-        let crew = self.system.crew(rt, gate);
-        let Ok(()) = make_step(
-            &crew,
-            &mut self.system,
-            step,
-            &call,
-            &mut block,
-            &mut closed,
-        ) else {
+        let Ok(()) = make_step(crew, &mut self.system, step, &call, &mut block, &mut closed) else {
             return Err(TraceError::HostMemory(step));
         };
         if block.is_broken() {

@@ -10,14 +10,15 @@ mod tests;
 
 use making::made;
 use nm_calls::System;
-use nm_crew::OpenGate;
+use nm_crew::Alone;
+use nm_frames::CopyJob;
+use nm_spaces::AddressSpaces;
 use nm_trace::{Summary, TellingWriter, Trace, TraceError, Watched, play};
 use reading::read_value;
 use std::alloc::Global;
 use std::io::{Read, Write};
+use std::marker::PhantomData;
 use std::process::ExitCode;
-use std::sync::Wait;
-use std::thread::Threads;
 
 /// The trace in these bytes, or if there are none, one that is made here.
 fn trace_of(heap: Global, bytes: &[u8]) -> Result<Trace<Global>, TraceError> {
@@ -30,20 +31,21 @@ fn trace_of(heap: Global, bytes: &[u8]) -> Result<Trace<Global>, TraceError> {
     }
 }
 
-/// Plays a trace on a new system, with one worker.
+/// Plays a trace on a new system, on the calling thread.
 fn play_new(
-    rt: &(impl Threads + Wait + Sync),
     heap: Global,
     trace: &Trace<Global>,
     out: &mut impl TellingWriter,
 ) -> Result<Summary, TraceError> {
+    // (the kit's borrow checker looks for what a crew works on among the types of this function)
+    let _work: PhantomData<(CopyJob<Global>, AddressSpaces<Global>)> = PhantomData;
     let Ok(geometry) = trace.geometry.clone() else {
         return Err(TraceError::HostMemory(0));
     };
-    let Ok(mut system) = System::with_run_limit(heap, geometry, 1, trace.run_limit) else {
+    let Ok(mut system) = System::with_run_limit(heap, geometry, trace.run_limit) else {
         return Err(TraceError::HostMemory(0));
     };
-    play(rt, heap, &mut system, trace, out, &OpenGate)
+    play(&Alone, heap, &mut system, trace, out)
 }
 
 fn main(rt: HostRuntime) -> ExitCode {
@@ -54,7 +56,7 @@ fn main(rt: HostRuntime) -> ExitCode {
     }
     let mut out = Watched::new(rt.stdout());
     let played = match trace_of(heap, bytes.as_slice()) {
-        Ok(trace) => play_new(&rt, heap, &trace, &mut out),
+        Ok(trace) => play_new(heap, &trace, &mut out),
         Err(fault) => Err(fault),
     };
     match played {

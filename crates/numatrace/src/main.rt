@@ -22,7 +22,6 @@ fn main(rt: HostRuntime) -> ExitCode {
         Ok(words) => run_words(
             &rt,
             alloc,
-            alloc,
             words.as_slice(),
             &mut Watched::new(rt.stdin()),
             &mut Watched::new(rt.stdout()),

@@ -1,16 +1,22 @@
 //! What no script can check of the built program. `tests/hostile.py` checks the rest.
 
-use crate::words::{run_words, run_words_through, unread_words};
-use nm_crew::Gate;
+ghost use Rattle.std.specs.Prelude.{◌<◌, ◌≤◌, ℕ};
+
+use crate::words::{run_words_by, unread_words};
+use nm_crew::Alone;
+use nm_frames::CopyJob;
 use nm_refusing::Refusing;
-use nm_trace::Watched;
+use nm_spaces::AddressSpaces;
+use nm_threads::Hired;
+use nm_trace::{RunCrew, Watched};
 use std::alloc::{AllocError, Allocator, Global};
 use std::io;
 use std::io::{ErrorKind, Write};
+use std::marker::PhantomData;
 use std::sync::Wait;
-use std::sync::atomic::{AtomicU64, Ordering};
+use std::sync::atomic::{AtomicUsize, Ordering};
 use std::test::Fail;
-use std::thread::{Threads, yield_now};
+use std::thread::Threads;
 
 /// The trace of `examples/three_pages.json`: three pages of one process, written on node 0, moved to node 1 and read
 /// there.
@@ -83,19 +89,21 @@ fn words_of(alloc: Global, text: &str) -> Result<Vec<String>, AllocError> {
     Ok(words)
 }
 
-/// Runs the program without words on the trace. Returns its status, and what it wrote to standard error.
-fn run<A: Allocator + Copy + Send + Sync>(
-    rt: &(impl Threads + Wait + Sync),
+/// Runs the program without words on the trace, with a crew. Returns its status, and what it wrote to standard error.
+fn run<A: Allocator + Copy + Send + Sync, C: RunCrew<A> + Drop, H: FnOnce(usize) -> C>(
+    hire: H,
     alloc: A,
     global: Global,
     out: &mut Narrow,
-) -> Result<(u8, Vec<u8>), AllocError> {
+) -> Result<(u8, Vec<u8>), AllocError>
+    requires { (workers : ℕ) → 0 < workers → workers ≤ 64 → H.pre hire workers }
+{
     let words = words_of(global, "numatrace")?;
     let mut err = Vec::new(global);
     let mut trace = TRACE.as_bytes();
     let mut watched = Watched::new(out);
-    let status = run_words(
-        rt,
+    let status = run_words_by(
+        hire,
         alloc,
         global,
         words.as_slice(),
@@ -119,12 +127,7 @@ fn tells_why_words_are_unread(rt: HostRuntime) -> Result<(), Fail> {
 }
 
 /// Whether a writer that fails, or takes no byte, after this many bytes is reported, and got a prefix of the report.
-fn is_write_fault(
-    rt: &(impl Threads + Wait + Sync),
-    global: Global,
-    most: usize,
-    fails: bool,
-) -> Result<bool, AllocError> {
+fn is_write_fault(global: Global, most: usize, fails: bool) -> Result<bool, AllocError> {
     let mut out = Narrow {
         taken: 0,
         lines: 0,
@@ -132,7 +135,8 @@ fn is_write_fault(
         most,
         fails,
     };
-    let (status, err) = run(rt, global, global, &mut out)?;
+    let _work: PhantomData<(CopyJob<Global>, AddressSpaces<Global>)> = PhantomData;
+    let (status, err) = run(|_: usize| -> Alone { Alone }, global, global, &mut out)?;
     let told = status == 4 && err.as_slice() == b"numatrace: write fault\n".as_slice();
     Ok(told && out.is_front && out.taken == most)
 }
@@ -140,73 +144,49 @@ fn is_write_fault(
 #[test]
 fn fails_with_its_writer(rt: HostRuntime) -> Result<(), Fail> {
     for most in 0..REPORT.len() {
-        let told = is_write_fault(&rt, rt.alloc(), most, true)?
-            && is_write_fault(&rt, rt.alloc(), most, false)?;
+        let told = is_write_fault(rt.alloc(), most, true)?
+            && is_write_fault(rt.alloc(), most, false)?;
         assert!(rt; told, "after {most} bytes");
     }
     Ok(())
 }
 
-/// Holds each worker until all that are expected have called, for at most 2^24 turns.
-#[derive(Drop)]
-struct Comers {
-    /// Which workers called, and which are expected: one bit each.
-    came: AtomicU64,
-    all: u64,
-}
-
-impl Gate for Comers {
-    fn pass(&self, worker: usize, _ticket: u64) {
-        if worker < 64 {
-            self.came.fetch_or(1 << worker, Ordering::SeqCst);
-        }
-        for _ in 0..1u64 << 24 {
-            if self.came.load(Ordering::SeqCst) & self.all == self.all {
-                return;
-            }
-            yield_now();
-        }
-    }
-}
-
-/// Words, and the workers expected, one bit each: as many as the words ask for. There are three pages to copy.
-const ASKED: [(&str, u64); 3] = [
-    ("numatrace --workers 1", 1),
-    ("numatrace --workers=2", 3),
-    ("numatrace --workers 3", 7),
+/// Words, and the number of workers that they ask for.
+const ASKED: [(&str, usize); 3] = [
+    ("numatrace", 4),
+    ("numatrace --workers=2", 2),
+    ("numatrace --workers 64", 64),
 ];
 
-/// Whether with these words these workers copy, and no others, and the report is right.
-fn come(
-    rt: &(impl Threads + Wait + Sync),
-    global: Global,
-    text: &str,
-    all: u64,
-) -> Result<bool, AllocError> {
+/// How many workers the program hires with these words, if its report is right.
+fn workers_hired(global: Global, text: &str) -> Result<Option<usize>, AllocError> {
+    let _work: PhantomData<(CopyJob<Global>, AddressSpaces<Global>)> = PhantomData;
     let words = words_of(global, text)?;
-    let gate = Comers {
-        came: AtomicU64::new(0),
-        all,
-    };
+    let hired = AtomicUsize::new(0);
     let mut written = Watched::new(Vec::new(global));
-    let status = run_words_through(
-        rt,
+    let status = run_words_by(
+        |workers: usize| {
+            hired.store(workers, Ordering::SeqCst);
+            Alone
+        },
         global,
         global,
         words.as_slice(),
         &mut TRACE.as_bytes(),
         &mut written,
         &mut Vec::new(global),
-        &gate,
     );
     let told = status == 0 && written.get_ref().as_slice() == REPORT.as_bytes();
-    Ok(told && gate.came.load(Ordering::SeqCst) == all)
+    Ok(told.then_some(hired.load(Ordering::SeqCst)))
 }
 
 #[test]
 fn as_many_workers_as_asked(rt: HostRuntime) -> Result<(), Fail> {
-    for (text, all) in ASKED {
-        assert!(rt; come(&rt, rt.alloc(), text, all)?, "at {text}");
+    for (text, workers) in ASKED {
+        assert!(rt;
+            workers_hired(rt.alloc(), text)? == Some(workers),
+            "at {text}"
+        );
     }
     Ok(())
 }
@@ -223,8 +203,8 @@ fn is_told(status: u8, err: &[u8], out: &Narrow) -> bool {
 
 /// Runs the program on the trace while the allocation with this number is refused. Returns whether it reached that
 /// allocation, and whether it reported what it should.
-fn run_refused(
-    rt: &(impl Threads + Wait + Sync),
+fn run_refused<R: Threads + Wait>(
+    rt: &R,
     global: Global,
     heap: &Refusing<Global>,
     number: u64,
@@ -237,7 +217,12 @@ fn run_refused(
         fails: true,
     };
     heap.refuse(number);
-    let (status, err) = run(rt, heap, global, &mut out)?;
+    let _work: PhantomData<(CopyJob<&Refusing<Global>>, AddressSpaces<&Refusing<Global>>)> =
+        PhantomData;
+    let hire = |workers: usize| -> Hired<'_, R>
+        requires { (0 < workers) × (workers ≤ 64) }
+    { Hired::new(rt, workers) };
+    let (status, err) = run(hire, heap, global, &mut out)?;
     let met = heap.asked_since(number) >= number;
     Ok((met, is_told(status, err.as_slice(), &out)))
 }

@@ -1,6 +1,6 @@
 //! The program, for any words, reader and writers.
 
-ghost use Rattle.std.specs.Prelude.{◌≡◌, ◌⊎◌, OnOk, map, string_bytes};
+ghost use Rattle.std.specs.Prelude.{◌≡◌, ◌⊎◌, ◌<◌, ◌≤◌, ℕ, [], OnOk, map, string_bytes};
 ghost use Rattle.std.specs.Io.KnownBytes.{Appends};
 ghost use Rattle.clap.specs.Words.{kind_of};
 ghost use Rattle.numatrace.specs.Status.{status_of, words_status, words_text, refused_status, Ends, TellsRefusal};
@@ -8,12 +8,15 @@ ghost use Rattle.nm_words.specs.Words.{refusals_of};
 
 use clap::Error;
 use clap::error::ErrorKind;
-use nm_crew::{Gate, OpenGate};
-use nm_trace::{TellingReader, TellingWriter, TraceError, run_trace};
+use nm_frames::CopyJob;
+use nm_spaces::AddressSpaces;
+use nm_threads::Hired;
+use nm_trace::{RunCrew, TellingReader, TellingWriter, TraceError, run_trace};
 use nm_words::read_words;
 use std::alloc::{Allocator, Global};
 use std::io;
 use std::io::Write;
+use std::marker::PhantomData;
 use std::sync::Wait;
 use std::thread::Threads;
 
@@ -97,39 +100,37 @@ pub(crate) fn unread_words<E: Write>(kind: io::ErrorKind, err: &mut E) -> u8
 /// sets how many workers copy, 1 to 64, and 4 if it is not given; it changes no byte of the report. Returns the exit
 /// status: 0 after a whole report; 2 for a bad trace, for words that are refused, and for `--help` and `--version`; 3
 /// if the host is out of memory; 4 for a read or write fault. A fault is reported on `err`, in one line or in clap's
-/// own text, and a fault of `err` does not change the status. The words and the JSON tree are in the memory of `heap`;
-/// everything else is in that of `alloc`.
-pub fn run_words<
-    T: Threads + Wait + Sync,
-    A: Allocator + Copy + Send + Sync,
-    R: TellingReader,
-    W: TellingWriter,
-    E: Write,
->(rt: &T, alloc: A, heap: Global, words: &[String], reader: &mut R, out: &mut W, err: &mut E) -> u8
-    ensures { Ends R.remaining R.has_failed R.gave W.contents W.has_failed
-        (refusals_of (map string_bytes words.now)) result reader.old reader.new out.old out.new err.old err.new }
-{
-    run_words_through(rt, alloc, heap, words, reader, out, err, &OpenGate)
-}
-
-/// Does the same, with workers that call a gate.
-pub(crate) fn run_words_through<
-    T: Threads + Wait + Sync,
-    A: Allocator + Copy + Send + Sync,
-    R: TellingReader,
-    W: TellingWriter,
-    E: Write,
-    G: Gate + Sync,
->(
+/// own text, and a fault of `err` does not change the status.
+pub fn run_words<T: Threads + Wait, R: TellingReader, W: TellingWriter, E: Write>(
     rt: &T,
-    alloc: A,
     heap: Global,
     words: &[String],
     reader: &mut R,
     out: &mut W,
     err: &mut E,
-    gate: &G,
 ) -> u8
+    ensures { Ends R.remaining R.has_failed R.gave W.contents W.has_failed
+        (refusals_of (map string_bytes words.now)) result reader.old reader.new out.old out.new err.old err.new }
+{
+    // (the kit's borrow checker looks for what a crew works on among the types of this function)
+    let _work: PhantomData<(CopyJob<Global>, AddressSpaces<Global>)> = PhantomData;
+    let hire = |workers: usize| -> Hired<'_, T>
+        requires { (0 < workers) × (workers ≤ 64) }
+    { Hired::new(rt, workers) };
+    run_words_by(hire, heap, heap, words, reader, out, err)
+}
+
+/// Does the same, with the crew that `hire` makes of the number of workers that the words ask for. The words and the JSON
+/// tree are in the memory of `heap`; everything else is in that of `alloc`.
+pub(crate) fn run_words_by<
+    C: RunCrew<A> + Drop,
+    H: FnOnce(usize) -> C,
+    A: Allocator + Copy + Send + Sync,
+    R: TellingReader,
+    W: TellingWriter,
+    E: Write,
+>(hire: H, alloc: A, heap: Global, words: &[String], reader: &mut R, out: &mut W, err: &mut E) -> u8
+    requires { (workers : ℕ) → 0 < workers → workers ≤ 64 → H.pre hire workers }
     ensures { Ends R.remaining R.has_failed R.gave W.contents W.has_failed
         (refusals_of (map string_bytes words.now)) result reader.old reader.new out.old out.new err.old err.new }
 {
@@ -140,7 +141,22 @@ pub(crate) fn run_words_through<
             return refused_words(error.kind());
         }
     };
-    match run_trace(rt, alloc, heap, reader, out, workers, gate) {
+    let crew = hire(workers);
+    run_with(&crew, alloc, heap, reader, out, err)
+}
+
+/// Does the same from where the words are read, with a crew.
+fn run_with<
+    A: Allocator + Copy + Send + Sync,
+    C: RunCrew<A>,
+    R: TellingReader,
+    W: TellingWriter,
+    E: Write,
+>(crew: &C, alloc: A, heap: Global, reader: &mut R, out: &mut W, err: &mut E) -> u8
+    ensures { Ends R.remaining R.has_failed R.gave W.contents W.has_failed
+        [] result reader.old reader.new out.old out.new err.old err.new }
+{
+    match run_trace(crew, alloc, heap, reader, out) {
         Ok(_) => DONE,
         Err(fault) => {
             let _ = writeln!(err, "numatrace: {fault}");

@@ -17,14 +17,16 @@ ghost use Rattle.nm_steps.specs.declared.trace_error.TraceError.{TraceError};
 ghost use Rattle.numatrace_session.specs.Ends.{status_of, unopened, unread, Begins, IsTold};
 ghost use Rattle.numatrace_session.specs.Replies.{bad_step_reply, has_line, BeginsNone, EndsEarly, EndsFlushed, EndsTalk, EndsWithin, ReachesEnd, Refuses, Replies, RepliesToLines, Talks, TalksThrough, TellsFault, Writes};
 
-use nm_crew::OpenGate;
+use nm_crew::Alone;
+use nm_frames::CopyJob;
+use nm_spaces::AddressSpaces;
 use nm_trace::{FlushingWriter, Session, TellingWriter, TraceError, Watched, write_lines};
 use std::alloc::Global;
 use std::io;
 use std::io::{BufRead, BufReader, BufWriter, ErrorKind, Read, Write};
+use std::marker::PhantomData;
 use std::process::ExitCode;
 use std::sync::Wait;
-use std::thread::Threads;
 
 /// Why a session ends before its input does.
 #[derive(Drop)]
@@ -116,8 +118,7 @@ fn put_fault<W: TellingWriter>(out: &mut W, fault: TraceError) -> Result<(), End
 }
 
 /// Makes a step, and writes its reply.
-fn reply<R: Threads + Wait + Sync, W: TellingWriter>(
-    rt: &R,
+fn reply<W: TellingWriter>(
     heap: Global,
     session: &mut Session<Global>,
     step: &[u8],
@@ -127,7 +128,9 @@ fn reply<R: Threads + Wait + Sync, W: TellingWriter>(
         (W.has_failed out.old) (W.has_failed out.new) result }
     ensures asked { result ≡ Err End.HostMemory → IsSomeText step.now }
 {
-    match session.step(rt, heap, step, &OpenGate) {
+    // (the kit's borrow checker looks for what a crew works on among the types of this function)
+    let _work: PhantomData<(CopyJob<Global>, AddressSpaces<Global>)> = PhantomData;
+    match session.step(&Alone, heap, step) {
         Ok(lines) => put_both(out, lines.as_slice(), b"\n"),
         Err(fault) => put_fault(out, fault),
     }
@@ -159,7 +162,7 @@ fn flush_unless_asked<R: Read, W: FlushingWriter>(
 }
 
 /// Replies to each line until the input ends. Replies wait as long as further lines are there already.
-fn reply_to_lines<T: Threads + Wait + Sync, R: Read, W: FlushingWriter>(
+fn reply_to_lines<T: Wait, R: Read, W: FlushingWriter>(
     rt: &T,
     heap: Global,
     session: &mut Session<Global>,
@@ -185,7 +188,7 @@ fn reply_to_lines<T: Threads + Wait + Sync, R: Read, W: FlushingWriter>(
         if !next_line(input, &mut line)? {
             return Ok(());
         }
-        reply(rt, heap, session, line.as_slice(), out)?;
+        reply(heap, session, line.as_slice(), out)?;
         flush_unless_asked(input, out)?;
     }
     unreachable!()
@@ -205,14 +208,14 @@ fn unopened(fault: TraceError) -> End
 fn begin(heap: Global, top: &[u8]) -> Result<Session<Global>, End>
     ensures { Begins result top.now }
 {
-    match Session::open(heap, heap, top, 1) {
+    match Session::open(heap, heap, top) {
         Ok(session) => Ok(session),
         Err(fault) => Err(unopened(fault)),
     }
 }
 
 /// Begins a session with the first line, and replies to each further one until the input ends.
-fn talk<T: Threads + Wait + Sync, R: Read, W: FlushingWriter>(
+fn talk<T: Wait, R: Read, W: FlushingWriter>(
     rt: &T,
     heap: Global,
     input: &mut BufReader<R, Global>,
@@ -241,7 +244,7 @@ fn talk<T: Threads + Wait + Sync, R: Read, W: FlushingWriter>(
 }
 
 /// Talks, and then writes the replies that wait, however that ends.
-fn talk_to_end<T: Threads + Wait + Sync, R: Read, W: FlushingWriter>(
+fn talk_to_end<T: Wait, R: Read, W: FlushingWriter>(
     rt: &T,
     heap: Global,
     input: &mut BufReader<R, Global>,
@@ -286,7 +289,7 @@ fn buffered<W: Write + Drop>(heap: Global, to: W) -> Result<BufWriter<W, Global>
 }
 
 /// Replies to what is read, through a buffer, and then writes the replies that wait, however that ends.
-fn serve<T: Threads + Wait + Sync, R: Read + Drop, W: FlushingWriter>(
+fn serve<T: Wait, R: Read + Drop, W: FlushingWriter>(
     rt: &T,
     heap: Global,
     from: R,

@@ -10,5 +10,5 @@ of_layout : (l m : Layout) (seen_at : ℕ → ℕ → Seen) (placed_at : Page �
 of_layout l m seen_at placed_at same h = subst (λ (x : Layout). ShowsItsFrames x seen_at placed_at) (sym same) h
 
 -- a sound machine shows frames of its own alone
-pub classify-requires-clause-frames : goal.classify-requires-clause-frames
-classify-requires-clause-frames c = of_layout _ _ _ _ c.geometry.ensures.geometry (lent_shows c.args.machine.now c.spaces.result.now c.geometry.ensures.sound c.spaces.ensures)
+pub classes_of-requires-clause-frames : goal.classes_of-requires-clause-frames
+classes_of-requires-clause-frames c = of_layout _ _ _ _ c.geometry.ensures.geometry (lent_shows c.args.machine.now c.spaces.result.now c.geometry.ensures.sound c.spaces.ensures)

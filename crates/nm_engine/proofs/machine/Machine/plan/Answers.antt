@@ -15,7 +15,7 @@ use Rattle.nm_engine.proofs.Runs.OneByOne.{shows_its_frames, classes_by_view, pl
 use Rattle.nm_engine.proofs.machine.Machine.plan.Goals as goal
 
 pub classify-requires-clause-frames : goal.classify-requires-clause-frames
-classify-requires-clause-frames g c κs within =
+classify-requires-clause-frames g c =
     let i = c.self.inside in
     let y = i.spaces in
     subst (λ (l : Layout). ShowsItsFrames l (λ pid v. look_in y.processes y.areas y.place y.pins pid v) (λ p. look_at_place y.processes y.pins p (get page_cmp y.place p))) (sym c.geometry-geometry.ensures)

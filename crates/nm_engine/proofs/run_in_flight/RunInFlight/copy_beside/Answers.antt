@@ -9,7 +9,7 @@ use Rattle.nm_engine.proofs.InFlight.Moments.{flies_so}
 use Rattle.nm_engine.proofs.run_in_flight.RunInFlight.copy_beside.Goals as goal
 
 pub copy_while-jobs-requires-clause-work : goal.copy_while-jobs-requires-clause-work
-copy_while-jobs-requires-clause-work g c κs within = (c.requires.due, (c.requires.room, (c.requires.unanswered, c.requires.space)))
+copy_while-jobs-requires-clause-work g c = (c.requires.due, (c.requires.room, (c.requires.unanswered, c.requires.space)))
 
 pub returns-clause-out : goal.returns-clause-out
 returns-clause-out g c =

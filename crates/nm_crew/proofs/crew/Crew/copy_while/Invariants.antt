@@ -1,5 +1,0 @@
-use Rattle.nm_crew.specs.Named.{named}
-use Rattle.nm_crew.proofs.crew.Crew.copy_while.Given as goal
-
-abbrev pub ghosts-copy_by : goal.ghosts-copy_by
-ghosts-copy_by g a = record { board = named a.board }
