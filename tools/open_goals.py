@@ -13,39 +13,22 @@ import sys
 import tempfile
 
 ROOT = os.path.dirname(os.path.dirname(os.path.abspath(__file__)))
+sys.dont_write_bytecode = True
+sys.path.insert(0, os.path.join(ROOT, "tools"))
+from rounds.texts import Edit, reader  # noqa: E402
+
 OPEN = re.compile(r"note: (src/\S+?:\d+):\d+: it is not proved .*\(`([^`]+)`\)")
 REFUSED = re.compile(r"(?:\./)?(proofs/\S+?:\d+):\d+: error: `([^`]+)`")
 WAITS = re.compile(r"fn (\S+): no proof: it calls (.*)")
 
 
-def pairs_of(path):
-    """The changes that an edit makes: a file, a text in it, and the text that replaces it. A file or text that no line names is None."""
-    file = old = None
-    with open(path, encoding="utf-8") as edit:
-        for line in edit.read().split("\n"):
-            if line.startswith("file: "):
-                file = line[len("file: "):].strip()
-            elif line.startswith("old: "):
-                old = line[len("old: "):]
-            elif line.startswith("new:"):
-                yield file, old, line[len("new:"):].removeprefix(" ")
-                old = None
-
-
 def apply(path, folder):
     """Applies an edit to the crate in a folder, and says whether each of its texts occurred there once."""
-    texts = {}
-    for file, old, new in pairs_of(path):
-        if file not in texts:
-            with open(os.path.join(folder, file), encoding="utf-8") as source:
-                texts[file] = source.read()
-        if texts[file].count(old) != 1:
-            return False
-        texts[file] = texts[file].replace(old, new)
-    for file, text in texts.items():
+    texts, _ = Edit(os.path.basename(folder), path).applied(reader(folder))
+    for file, text in (texts or {}).items():
         with open(os.path.join(folder, file), "w", encoding="utf-8") as source:
             source.write(text)
-    return True
+    return texts is not None
 
 
 def checked(crate, edits):

@@ -1,0 +1,121 @@
+#!/usr/bin/env python3
+"""Tests tests/edits.py over a small repository that it makes: edits that are refused, one that is let through, one that does not compile,
+one that only lacks a name, one that cannot be applied, and a crate that is not proved. Prints what differs, and then ends with status 1."""
+import os
+import subprocess
+import sys
+import tempfile
+
+HERE = os.path.dirname(os.path.abspath(__file__))
+
+SOURCE = """//! Numbers.
+#![tactic(auto)]
+
+ghost use Rattle.std.specs.Prelude.{◌≡◌, ◌≤◌, ◌<◌, ◌+◌};
+
+/// The next number.
+pub fn next(x: u8) -> u8
+    requires { x < 255 }
+    ensures { result ≡ x + 1 }
+{
+    let one = 1;
+    x + one
+}
+
+/// The number after the next.
+pub fn after_next(x: u8) -> u8
+    requires { x < 254 }
+    ensures { x < result }
+{
+    let first = next(x);
+    next(first)
+}
+
+/// A number that is not greater.
+pub fn lower(x: u8) -> u8
+    ensures { result ≤ x }
+{
+    let half = x / 2;
+    half
+}
+"""
+
+# For each edit the text in the source, and what stands in its place.
+EDITS = {
+    "next_is_one_too_many": ("let one = 1;", "let one = 2;"),
+    "first_is_lost": ("let first = next(x);", "let first = x;"),
+    "nothing_is_next": ("    next(first)", "    let _ = next(first); x"),
+    "half_is_all": ("let half = x / 2;", "let half = x;"),
+    "half_is_more": ("let half = x / 2;", "let half = 255;"),
+    "half_of_nothing": ("let half = x / 2;", "let half = y / 2;"),
+    "whole_is_lost": ("let whole = x;", "let whole = 0;"),
+}
+
+BROKEN = SOURCE.replace("let one = 1;", "let one = 0;")
+
+
+class Repository:
+    """A repository of one crate, in a folder of its own."""
+
+    def __init__(self, room, name, source):
+        self.top, self.bad = os.path.join(room, name), 0
+        self.write("crates.txt", "numbers:\n")
+        self.write("crates/numbers/src/lib.rt", source)
+        os.makedirs(os.path.join(self.top, ".git"))
+
+    def write(self, path, text):
+        at = os.path.join(self.top, path)
+        os.makedirs(os.path.dirname(at), exist_ok=True)
+        with open(at, "w", encoding="utf-8") as file:
+            file.write(text)
+
+    def plant(self, *names, folder="tests/edits/numbers"):
+        for name in names:
+            old, new = EDITS[name]
+            self.write(f"{folder}/{name}.edit", f"file: src/lib.rt\nold: {old}\nnew: {new}\n")
+
+    def said(self, *words):
+        """The status of the script, and what it prints."""
+        cache = {**os.environ, "XDG_CACHE_HOME": os.path.join(self.top, "cache")}
+        script = [os.path.join(HERE, "edits.py"), "--root", self.top, "--jobs", "1", *words]
+        run = subprocess.run(script, stdout=subprocess.PIPE, stderr=subprocess.STDOUT, text=True, env=cache, check=False)
+        return run.returncode, run.stdout
+
+    def expect(self, status, *texts, words=()):
+        """The script ends so, and prints each of these texts."""
+        ended, said = self.said(*words)
+        lost = [text for text in texts if text not in said]
+        if lost or (ended == 0) != (status == 0):
+            print(f"tests/edits_test.py: {' '.join(words) or 'without words'}: status {ended}, and it does not print {lost}; it prints\n{said}")
+            self.bad = 1
+
+
+def main():
+    with tempfile.TemporaryDirectory(prefix="edits-test-") as room:
+        plain = Repository(room, "plain", SOURCE)
+        plain.plant("next_is_one_too_many", "nothing_is_next", "half_is_more")
+        plain.plant("half_is_all", folder="crates/numbers/must-fail")
+        plain.plant("first_is_lost", "half_of_nothing")
+        plain.expect(
+            1,
+            "numbers/half_is_all: LET THROUGH (lower)",
+            "numbers/first_is_lost: LET THROUGH (after_next)",
+            "numbers/half_of_nothing: REFUSED BY A NAME ALONE (lower): it does not compile: src/lib.rt:28",
+            "edits: 3 of 6 are refused for their meaning",
+        )
+        plain.expect(0, "edits: 0 of 0 are refused for their meaning; 3 more were refused before", words=[
+            "--edit", "next_is_one_too_many", "--edit", "nothing_is_next", "--edit", "half_is_more"])
+        plain.expect(0, "edits: 1 of 1 are refused for their meaning", words=["--anew", "--proved", "--function", "next", "--edit", "next_is_one_too_many"])
+        plain.expect(1, "no edit changes a function last", words=["--function", "last"])
+        plain.expect(1, "letters is no crate with edits", words=["letters"])
+        plain.plant("whole_is_lost")
+        plain.expect(1, "tests/edits/numbers/whole_is_lost.edit: an 'old:' text occurs 0 times in src/lib.rt, not once", words=["--apply"])
+        plain.expect(1, "whole_is_lost.edit: an 'old:' text occurs 0 times in src/lib.rt, not once")
+        broken = Repository(room, "broken", BROKEN)
+        broken.plant("half_is_more")
+        broken.expect(1, "numbers: NOT JUDGED: it is not proved without an edit", "edits: 0 of 0")
+    return plain.bad or broken.bad
+
+
+if __name__ == "__main__":
+    sys.exit(main())

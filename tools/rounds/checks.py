@@ -1,0 +1,168 @@
+"""Checks of a copy of a crate, with some texts in place of its own, over kept work."""
+import functools
+import os
+import shutil
+import signal
+import subprocess
+import sys
+import tempfile
+
+from rounds.logs import Log
+from rounds.texts import reader
+
+ROOT = os.path.dirname(os.path.dirname(os.path.dirname(os.path.abspath(__file__))))
+sys.path.insert(0, os.path.join(ROOT, "tools"))
+import prove  # noqa: E402
+
+# The bytes of memory that a check has to itself: the most that one of these crates takes.
+MEMORY = 5_000_000_000
+
+
+class Fault(Exception):
+    """Why nothing can be said of a crate's edits."""
+
+
+@functools.lru_cache(maxsize=None)
+def kit():
+    """The kit's command rt, as a module that raises a Fault where it would end."""
+    rt = prove.kit()
+
+    def stop(why):
+        raise Fault(why)
+
+    rt.rtlib.stop = stop
+    return rt
+
+
+def begin():
+    """What has to be done once, before any thread checks: the kit sets a signal's handler."""
+    kit().rtlib.guarded()
+
+
+def jobs():
+    """How many checks to run at a time: RT_JOBS, or one a processor as long as there is memory for each."""
+    given = os.environ.get("RT_JOBS", "")
+    most = kit().free() // MEMORY
+    return int(given) if given.isdigit() and int(given) else max(1, min(kit().processors(), most))
+
+
+def waited(words, folder):
+    """The status of a command, what it printed, and the seconds of a processor that it took."""
+    with tempfile.TemporaryFile() as said:
+        run = subprocess.Popen(words, cwd=folder, stdin=subprocess.DEVNULL, stdout=said, stderr=subprocess.STDOUT)
+        _, status, took = os.wait4(run.pid, 0)
+        run.returncode = os.waitstatus_to_exitcode(status)
+        said.seek(0)
+        return run.returncode, said.read().decode(errors="replace"), took.ru_utime + took.ru_stime
+
+
+class Checks:
+    """The checks of one crate. All of them begin with what `seed` holds, if there is one, and change nothing of it."""
+
+    def __init__(self, name, room, root=ROOT):
+        self.name, self.root, self.room = name, root, os.path.join(room, name)
+        self.folder = os.path.join(root, "crates", name)
+        if not os.path.isdir(os.path.join(self.folder, "src")):
+            raise Fault(f"there is no crate {name}")
+        self.rt, self.seconds, self.seed = kit(), 0, None
+        self.crate = self.rt.rtlib.Crate(self.folder, root, {})
+        # (the sources as they stand now: they may be changed while their edits are tried)
+        self.plain = os.path.join(self.room, "plain")
+        for part in self.rt.rtlib.PARTS:
+            if os.path.isdir(os.path.join(self.folder, part)):
+                shutil.copytree(os.path.join(self.folder, part), os.path.join(self.plain, part))
+        self.text_of = reader(self.plain)
+
+    def files(self):
+        """The paths of the files of src/."""
+        found = []
+        for at, _, names in os.walk(os.path.join(self.plain, "src")):
+            found += [os.path.relpath(os.path.join(at, name), self.plain) for name in names if name.endswith(".rt")]
+        return sorted(found)
+
+    def stamp(self):
+        """A checksum of the kit and of all files that a check of the crate reads."""
+        return self.crate.stamp() + self.rt.rtlib.text_of(f"{self.rt.rtlib.KIT}/KIT-ID")
+
+    def prove(self):
+        """Proves the crate as it stands, and keeps that for the checks: as `rt check` does, which begins with what earlier ones kept."""
+        status, said, seconds = waited(["rt", "check", "--jobs", "1"], self.folder)
+        self.seconds += seconds
+        if status:
+            why = next((line for line in said.split("\n") if ": error" in line or "not proved" in line or "no proof" in line), said[-200:])
+            raise Fault(f"it is not proved without an edit: {why.strip()[:200]}")
+        self.seed = os.path.join(self.room, "seed")
+        self.rt.linked(os.path.join(self.folder, "out", "incremental"), self.seed)
+
+    def lacks(self):
+        """The libraries below that are not built."""
+        return [each.name for each in self.crate.below() if not os.path.isdir(each.rlib)]
+
+    def check(self, texts):
+        """The log of a check with these texts."""
+        with tempfile.TemporaryDirectory(prefix="try-", dir=self.room) as room:
+            copy, kept = os.path.join(room, "copy"), os.path.join(room, "kept")
+            shutil.copytree(self.plain, copy)
+            for path, text in texts.items():
+                with open(os.path.join(copy, path), "w", encoding="utf-8") as file:
+                    file.write(text)
+            if self.seed:
+                self.rt.linked(self.seed, kept)
+            else:
+                os.mkdir(kept)
+            log = self.run(copy, kept)
+            if not self.seed and log.has_verdict():
+                self.seed = os.path.join(self.room, "seed")
+                os.rename(kept, self.seed)
+            return log
+
+    def command(self, copy):
+        """What checks a copy, and where."""
+        return self.crate.words(["--jobs", "1"], keeps=False), copy
+
+    def run(self, copy, kept):
+        """The log of a check of a copy; one that is killed is run again once, since the memory that it lacked may be free then."""
+        words, folder = self.command(copy)
+        for _ in range(2):
+            whole = [*self.rt.rtlib.guarded(), self.rt.rtlib.RATTLE, "check", *words, "--incremental", kept]
+            status, said, seconds = waited(whole, folder)
+            self.seconds += seconds
+            if status != -signal.SIGKILL:
+                break
+        return Log(status, said)
+
+
+class DefinitionChecks(Checks):
+    """Checks of a crate without code, whose edits change definitions: of a crate that proves laws about them, over its sources."""
+
+    def __init__(self, name, room, root=ROOT):
+        super().__init__(name, room, root)
+        self.laws = Checks(LAWS_OF[name], os.path.join(room, "laws"), root)
+
+    def stamp(self):
+        return self.laws.stamp()
+
+    def lacks(self):
+        return [name for name in self.laws.lacks() if name != self.name]
+
+    def prove(self):
+        self.laws.prove()
+        self.seconds += self.laws.seconds
+        log = self.check({})
+        if log.status:
+            raise Fault(f"{self.laws.name} is not proved without an edit: {log.why_none() if not log.has_verdict() else log.last}")
+
+    def command(self, copy):
+        words, own = self.laws.crate.words(["--jobs", "1"], keeps=False), self.crate
+        at = words.index(f"{own.name}={own.rlib}")
+        uses = ",".join(dict.fromkeys(["core", *own.of_kit, *(each.name for each in own.deps)]))
+        return [*words[: at - 1], "--lib", f"{own.name}:{uses}={copy}/src/lib.rt", *words[at + 1 :]], self.laws.plain
+
+
+# The crates without code, each with the crate whose laws its edits must break.
+LAWS_OF = {"nm_model": "nm_laws"}
+
+
+def checks_of(name, room, root=ROOT):
+    """The checks of a crate's edits."""
+    return (DefinitionChecks if name in LAWS_OF else Checks)(name, room, root)
