@@ -5,6 +5,7 @@ edits of many functions. Ends with a status other than 0 unless each is refused 
 import argparse
 import os
 import resource
+import shutil
 import signal
 import sys
 import tempfile
@@ -16,7 +17,7 @@ ROOT = os.path.dirname(os.path.dirname(os.path.abspath(__file__)))
 sys.dont_write_bytecode = True
 sys.path.insert(0, os.path.join(ROOT, "tools"))
 from rounds.checks import Fault, begin, checks_of, jobs  # noqa: E402
-from rounds.choice import Choice, changing, crates_of, edits_of, is_own  # noqa: E402
+from rounds.choice import Choice, changing, crates_of, edits_of, is_own, note_seconds  # noqa: E402
 from rounds.logs import REFUSED  # noqa: E402
 from rounds.passed import Passed  # noqa: E402
 from rounds.texts import reader  # noqa: E402
@@ -45,7 +46,9 @@ def words_given():
                        "prove none without an edit")
     words.add_argument("--anew", action="store_true", help="try also what was refused before, where nothing has changed since")
     words.add_argument("--apply", action="store_true", help="prove nothing: see only whether each edit can be applied, and has its name alone")
+    words.add_argument("--times", action="store_true", help="write down in tests/edits/seconds what each took, by which --chosen takes the cheapest")
     words.add_argument("--jobs", type=int, metavar="N", help="so many crates at once")
+    words.add_argument("--logs", metavar="FOLDER", help="keep what each check prints there")
     words.add_argument("--root", metavar="FOLDER", default=ROOT, help="the repository (default: this one)")
     words.add_argument("-v", "--verbose", action="store_true", help="also print what refuses each edit")
     return words.parse_args()
@@ -86,6 +89,7 @@ class Counts:
     def __init__(self):
         self.tried = self.refused = self.kept = self.rounds = 0
         self.faults = 0
+        self.seconds = {}
 
 
 def try_crate(crate, edits, room, given):
@@ -93,6 +97,7 @@ def try_crate(crate, edits, room, given):
     counts, began = Counts(), time.monotonic()
     try:
         checks = checks_of(crate, room, given.root)
+        checks.logs = given.logs and os.path.abspath(given.logs)
         passed = Passed(checks)
         new = [edit for edit in edits if given.anew or not passed.has(edit)]
         counts.kept = len(edits) - len(new)
@@ -109,6 +114,7 @@ def try_crate(crate, edits, room, given):
             passed.add(one.edit)
         if one.verdict != REFUSED or given.verbose:
             say(f"{crate}/{one.edit.name}: {one.verdict if one.verdict == REFUSED else one.verdict.upper()} ({one.place()}){': ' if one.why else ''}{one.why}")
+    counts.seconds = {f"{crate}/{one.edit.name}": one.seconds for one in tries.tries if one.seconds}
     counts.tried, counts.rounds = len(tries.tries), tries.rounds
     counts.refused = sum(one.verdict == REFUSED for one in tries.tries)
     if counts.tried:
@@ -117,14 +123,24 @@ def try_crate(crate, edits, room, given):
     return counts
 
 
+def leave(room):
+    """Ends at once. (The checks end with this process, and are not waited for.)"""
+    shutil.rmtree(room, ignore_errors=True)
+    os._exit(130)
+
+
 def try_all(edits, given):
     """Tries edits, several crates at once, and returns whether all are refused for their meaning."""
     began = time.monotonic()
     begin()
     order = sorted(edits, key=lambda crate: -sum(os.path.getsize(edit.path) for edit in edits[crate]))
     with tempfile.TemporaryDirectory(prefix="edits-") as room, ThreadPoolExecutor(given.jobs or jobs()) as pool:
+        for number in (signal.SIGHUP, signal.SIGINT, signal.SIGTERM):
+            signal.signal(number, lambda *_: leave(room))
         found = list(pool.map(lambda crate: try_crate(crate, edits[crate], room, given), order))
     total = {name: sum(getattr(counts, name) for counts in found) for name in ("tried", "refused", "kept", "rounds", "faults")}
+    if given.times:
+        note_seconds(given.root, {name: seconds for counts in found for name, seconds in counts.seconds.items()})
     took = resource.getrusage(resource.RUSAGE_CHILDREN)
     kept = f"; {total['kept']} more were refused before, and nothing has changed since" if total["kept"] else ""
     say(f"edits: {total['refused']} of {total['tried']} are refused for their meaning{kept}; {total['rounds']} rounds, "
@@ -135,8 +151,6 @@ def try_all(edits, given):
 def main():
     given = words_given()
     given.root = os.path.abspath(given.root)
-    for number in (signal.SIGHUP, signal.SIGTERM):
-        signal.signal(number, lambda *_: sys.exit(130))
     edits = wanted(given)
     bad = list(faults(given.root, edits))
     for line in bad:

@@ -1,6 +1,7 @@
 """Checks of a copy of a crate, with some texts in place of its own, over kept work."""
 import functools
 import os
+import re
 import shutil
 import signal
 import subprocess
@@ -14,6 +15,8 @@ ROOT = os.path.dirname(os.path.dirname(os.path.dirname(os.path.abspath(__file__)
 sys.path.insert(0, os.path.join(ROOT, "tools"))
 import prove  # noqa: E402
 
+# The line with which a check says that it has ended with a function.
+CHECKED = re.compile(r"checked (\S+), \d+ of \d+$")
 # The bytes of memory that a check has to itself: the most that one of these crates takes.
 MEMORY = 5_000_000_000
 
@@ -46,14 +49,32 @@ def jobs():
     return int(given) if given.isdigit() and int(given) else max(1, min(kit().processors(), most))
 
 
-def waited(words, folder):
-    """The status of a command, what it printed, and the seconds of a processor that it took."""
-    with tempfile.TemporaryFile() as said:
-        run = subprocess.Popen(words, cwd=folder, stdin=subprocess.DEVNULL, stdout=said, stderr=subprocess.STDOUT)
-        _, status, took = os.wait4(run.pid, 0)
-        run.returncode = os.waitstatus_to_exitcode(status)
-        said.seek(0)
-        return run.returncode, said.read().decode(errors="replace"), took.ru_utime + took.ru_stime
+def spent(number):
+    """The seconds of a processor that a process has spent."""
+    try:
+        with open(f"/proc/{number}/stat", encoding="ascii", errors="replace") as stat:
+            parts = stat.read().rpartition(")")[2].split()
+        return (int(parts[11]) + int(parts[12])) / os.sysconf("SC_CLK_TCK")
+    except OSError:
+        return 0
+
+
+class Ran:
+    """A command that has ended: its status, what it printed, the seconds of a processor that it took, and how many of them each function
+    took that it says it has checked."""
+
+    def __init__(self, words, folder):
+        self.took, lines, last = {}, [], 0
+        with subprocess.Popen(words, cwd=folder, stdin=subprocess.DEVNULL, stdout=subprocess.PIPE, stderr=subprocess.STDOUT) as run:
+            for line in run.stdout:
+                lines.append(line.decode(errors="replace"))
+                found = CHECKED.match(lines[-1])
+                if found:
+                    now = spent(run.pid)
+                    self.took[found[1]], last = now - last, now
+            _, status, usage = os.wait4(run.pid, 0)
+            self.status = run.returncode = os.waitstatus_to_exitcode(status)
+        self.said, self.seconds = "".join(lines), usage.ru_utime + usage.ru_stime
 
 
 class Checks:
@@ -64,7 +85,7 @@ class Checks:
         self.folder = os.path.join(root, "crates", name)
         if not os.path.isdir(os.path.join(self.folder, "src")):
             raise Fault(f"there is no crate {name}")
-        self.rt, self.seconds, self.seed = kit(), 0, None
+        self.rt, self.seconds, self.seed, self.logs = kit(), 0, None, None
         self.crate = self.rt.rtlib.Crate(self.folder, root, {})
         # (the sources as they stand now: they may be changed while their edits are tried)
         self.plain = os.path.join(self.room, "plain")
@@ -86,10 +107,10 @@ class Checks:
 
     def prove(self):
         """Proves the crate as it stands, and keeps that for the checks: as `rt check` does, which begins with what earlier ones kept."""
-        status, said, seconds = waited(["rt", "check", "--jobs", "1"], self.folder)
-        self.seconds += seconds
-        if status:
-            why = next((line for line in said.split("\n") if ": error" in line or "not proved" in line or "no proof" in line), said[-200:])
+        ran = Ran([*self.rt.rtlib.guarded(), "rt", "check", "--jobs", "1"], self.folder)
+        self.seconds += ran.seconds
+        if ran.status:
+            why = next((line for line in ran.said.split("\n") if ": error" in line or "not proved" in line or "no proof" in line), ran.said[-200:])
             raise Fault(f"it is not proved without an edit: {why.strip()[:200]}")
         self.seed = os.path.join(self.room, "seed")
         self.rt.linked(os.path.join(self.folder, "out", "incremental"), self.seed)
@@ -98,8 +119,8 @@ class Checks:
         """The libraries below that are not built."""
         return [each.name for each in self.crate.below() if not os.path.isdir(each.rlib)]
 
-    def check(self, texts):
-        """The log of a check with these texts."""
+    def check(self, texts, name="plain", edits=()):
+        """The log of a check with these texts. Its name and that of its edits are for people who keep logs."""
         with tempfile.TemporaryDirectory(prefix="try-", dir=self.room) as room:
             copy, kept = os.path.join(room, "copy"), os.path.join(room, "kept")
             shutil.copytree(self.plain, copy)
@@ -110,7 +131,7 @@ class Checks:
                 self.rt.linked(self.seed, kept)
             else:
                 os.mkdir(kept)
-            log = self.run(copy, kept)
+            log = self.run(copy, kept, name, edits)
             if not self.seed and log.has_verdict():
                 self.seed = os.path.join(self.room, "seed")
                 os.rename(kept, self.seed)
@@ -120,16 +141,19 @@ class Checks:
         """What checks a copy, and where."""
         return self.crate.words(["--jobs", "1"], keeps=False), copy
 
-    def run(self, copy, kept):
+    def run(self, copy, kept, name, edits):
         """The log of a check of a copy; one that is killed is run again once, since the memory that it lacked may be free then."""
         words, folder = self.command(copy)
         for _ in range(2):
-            whole = [*self.rt.rtlib.guarded(), self.rt.rtlib.RATTLE, "check", *words, "--incremental", kept]
-            status, said, seconds = waited(whole, folder)
-            self.seconds += seconds
-            if status != -signal.SIGKILL:
+            ran = Ran([*self.rt.rtlib.guarded(), self.rt.rtlib.RATTLE, "check", *words, "--incremental", kept, "--progress"], folder)
+            self.seconds += ran.seconds
+            if ran.status != -signal.SIGKILL:
                 break
-        return Log(status, said)
+        if self.logs:
+            os.makedirs(self.logs, exist_ok=True)
+            with open(os.path.join(self.logs, f"{self.name}-{name}.log"), "w", encoding="utf-8") as file:
+                file.write(f"edits: {' '.join(edits)}\n{ran.said}")
+        return Log(ran.status, ran.said, ran.took)
 
 
 class DefinitionChecks(Checks):

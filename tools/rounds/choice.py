@@ -7,6 +7,8 @@ from rounds.texts import Edit, reader
 
 # The fewest that the gate tries, those of must-fail/ among them.
 LEAST = 300
+# The seconds of an edit of which nothing is known.
+UNKNOWN = 5
 
 
 def crates_of(root):
@@ -35,6 +37,24 @@ def always(root):
         return {line.strip() for line in lines if line.strip() and not line.startswith("#")}
 
 
+def seconds_of(root):
+    """What each edit took to be refused when that was last measured, by CRATE/NAME."""
+    path = f"{root}/tests/edits/seconds"
+    if not os.path.isfile(path):
+        return {}
+    with open(path, encoding="utf-8") as lines:
+        return {name: float(seconds) for name, seconds in (line.split() for line in lines if not line.startswith("#"))}
+
+
+def note_seconds(root, found):
+    """Writes down what edits took, in place of what was known of them, and of none that has gone."""
+    every = {f"{edit.crate}/{edit.name}" for crate in crates_of(root) for edit in edits_of(root, crate)}
+    known = {name: seconds for name, seconds in {**seconds_of(root), **found}.items() if name in every}
+    with open(f"{root}/tests/edits/seconds", "w", encoding="utf-8") as file:
+        file.write("# What each edit took to be refused, beside others of its round, in seconds of a processor: tests/edits.py --times\n")
+        file.writelines(f"{name} {seconds:.1f}\n" for name, seconds in sorted(known.items()))
+
+
 def changed_by(sources, edit):
     """The functions that an edit changes; none where it changes something else, or cannot be applied."""
     return () if edit.fault(sources.text_of) else sources.edited(edit) or ()
@@ -47,7 +67,7 @@ def changing(root, crate, edits, function):
 
 
 class Choice:
-    """The gate's choice among the edits of some crates, by crate."""
+    """The gate's choice among the edits of some crates, by crate: the cheapest, where several tell of one function."""
 
     def __init__(self, root, edits):
         self.root, self.edits, self.named = root, edits, always(root)
@@ -69,7 +89,8 @@ class Choice:
     def made(self, least=LEAST):
         """The chosen edits by crate: the mistakes that have a name, one for each public function, and as many others as make up the
         least number: one for each further function, and then any."""
-        every = [edit for ours in self.edits.values() for edit in ours]
+        seconds = seconds_of(self.root)
+        every = sorted((edit for ours in self.edits.values() for edit in ours), key=lambda edit: seconds.get(f"{edit.crate}/{edit.name}", UNKNOWN))
         for edit in every:
             if is_own(edit.path) or f"{edit.crate}/{edit.name}" in self.named:
                 self.add(edit)

@@ -41,10 +41,10 @@ class Line:
 
 
 class Log:
-    """A check's log: how it ended, the status of each function and type, and the lines about places."""
+    """A check's log: how it ended, the status of each function and type, the lines about places, and the seconds for each function."""
 
-    def __init__(self, status, text):
-        self.status, lines = status, text.rstrip("\n").split("\n")
+    def __init__(self, status, text, took):
+        self.status, self.took, lines = status, took, text.rstrip("\n").split("\n")
         self.first, self.last, self.of, self.told, self.broken = lines[:6], lines[-1], {}, [], []
         self.stale, self.limit = STALE.search(text), LIMIT.search(text)
         for line in lines:

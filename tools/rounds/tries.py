@@ -15,7 +15,7 @@ class Try:
     def __init__(self, edit, functions):
         self.edit, self.functions, self.waits = edit, functions, set()
         self.is_alone = functions is None
-        self.verdict, self.why = None, ""
+        self.verdict, self.why, self.seconds = None, "", None
 
     def place(self):
         return ", ".join(each.key for each in self.functions) if self.functions else self.edit.pairs[0][0]
@@ -86,50 +86,56 @@ class Tries:
         """Tries all."""
         while self.left():
             chosen, texts = self.next_round()
-            log = self.checks.check(texts)
             self.rounds += 1
+            log = self.checks.check(texts, f"round-{self.rounds}", [one.edit.name for one in chosen])
+            why = ""
             if not log.has_verdict():
-                self.read_broken(log, chosen)
+                why = self.read_broken(log, chosen)
             elif len(chosen) == 1:
                 chosen[0].judge(*logs.of_crate(log))
             else:
-                self.read(log, chosen)
+                why = self.read(log, chosen)
+            again = sum(not one.verdict for one in chosen)
             if len(chosen) > 1:
-                say(f"{self.checks.name}: round {self.rounds}: {len(chosen)} edits at once, {sum(not one.verdict for one in chosen)} of them once more")
+                say(f"{self.checks.name}: round {self.rounds}: {len(chosen)} edits at once" + (f", {again} of them once more{why}" if again else ""))
 
     def halve(self, chosen):
         self.most = max(1, len(chosen) // 2)
 
     def read_broken(self, log, chosen):
-        """What a log says that ends without a verdict."""
+        """What a log says that ends without a verdict; returns why edits are tried again."""
         blamed = [one for one in chosen if len(chosen) == 1 or any(self.has_line(one, file, line) for file, line, _ in log.broken)]
         for one in blamed if log.broken else []:
             mine = [each for each in log.broken if self.has_line(one, each[0], each[1])] or log.broken
             one.judge(BY_NAME, "it does not compile: {}:{}: {}".format(*mine[0])[:200])
         if not log.broken and len(chosen) == 1:
             chosen[0].judge(NOT_JUDGED, log.why_none())
-        if not blamed or not log.broken:
-            self.halve(chosen)
+        if blamed and log.broken:
+            return ", since one does not compile"
+        self.halve(chosen)
+        return f", half as many at a time, since {log.why_none()}"
 
     def has_line(self, one, file, line):
         return one.functions is not None and self.sources.at_line(file, line) in one.functions
 
     def read(self, log, chosen):
-        """What a log says of several edits."""
+        """What a log says of several edits; returns why all of them are tried again, if they are."""
         self.names = names_of(self.checks.name, self.sources.all(self.checks.files()), log.of)
         edited = {each for one in chosen for each in one.functions}
         theirs = {name for each in edited for name in self.names.get(each, ())}
         strange = [name for name, text in log.of.items() if name not in theirs and text.startswith(("not proved", "no proof")) and not logs.CALLS.search(text)]
         if strange:
             self.halve(chosen)
-            return
+            return f", half as many at a time, since {strange[0]} is not proved either: {log.of[strange[0]][:90]}"
         for one in chosen:
             self.read_one(log, one)
+        return ""
 
     def read_one(self, log, one):
         names = [name for each in one.functions for name in self.names[each]]
         spans = [(each.file, *self.sources.span(each)) for each in one.functions]
         verdict, why = logs.of_functions(log, names, self.checks.name, spans)
+        one.seconds = sum(log.took.get(name, 0) for name in names)
         if verdict == WAITS:
             one.waits.update(why)
         elif verdict in (REFUSED, LET_THROUGH):
