@@ -115,9 +115,16 @@ class Checks:
         self.seed = os.path.join(self.room, "seed")
         self.rt.linked(os.path.join(self.folder, "out", "incremental"), self.seed)
 
-    def lacks(self):
-        """The libraries below that are not built."""
-        return [each.name for each in self.crate.below() if not os.path.isdir(each.rlib)]
+    def below(self):
+        """The libraries of the repository below the crate."""
+        return self.crate.below()
+
+    def is_ready(self):
+        """Whether the libraries below are built as they stand: all of them by `rt ci`, which notes no stamp, or all by other commands. (`rt ci`
+        puts back what was built in a clone before, also what is older than the sources.)"""
+        stamps = [(self.rt.rtlib.text_of(os.path.join(os.path.dirname(each.rlib), "stamp")), each.stamp()) for each in self.below()]
+        are_built = all(os.path.isdir(each.rlib) for each in self.below())
+        return are_built and (all(noted is None for noted, _ in stamps) or all(noted == stamp for noted, stamp in stamps))
 
     def check(self, texts, name="plain", edits=()):
         """The log of a check with these texts. Its name and that of its edits are for people who keep logs."""
@@ -166,8 +173,8 @@ class DefinitionChecks(Checks):
     def stamp(self):
         return self.laws.stamp()
 
-    def lacks(self):
-        return [name for name in self.laws.lacks() if name != self.name]
+    def below(self):
+        return [each for each in self.laws.below() if each.name != self.name]
 
     def prove(self):
         self.laws.prove()

@@ -10,12 +10,24 @@ TOLD = re.compile(r"(?:note: )?(?:\./)?((?:src|specs|proofs)/\S+?):(\d+):\d+: (.
 OF_NAMES = re.compile(r"has no field|is not in scope|has no `|was not admitted")
 # A proof that was not admitted since another was not.
 OF_OTHERS = re.compile(r"was not admitted")
-CALLS = re.compile(r"it calls `([^`]+)`, which is not proved")
+# A function with no open goal of its own, which waits for those that it calls. (`not proved; it calls ..` has one.)
+CALLS = re.compile(r"no proof: it calls (.*), which (?:is|are) not proved")
 # A text of src/ or specs/ that cannot be read; an edit that only makes a statement false reads well.
 UNREAD = re.compile(r"is not in scope|has no field|is no name|operand is missing|expected the end|cannot continue")
 COMPILES_NOT = re.compile(r"(src/\S+?):(\d+):\d+: (error\[[\w-]+\].*)")
 STALE = re.compile(r"module .Rattle-(\w+)-.*Run the lower steps again")
 LIMIT = re.compile(r"antt ran out of (?:stack|the (?:steps|memory) that)|outgrew the memory limit|stopped at the step limit")
+
+
+def callees(text):
+    """The functions whose proofs a function waits for, by its status; none where it has an open goal of its own."""
+    called = CALLS.match(text)
+    return set(re.findall(r"`([^`]+)`", called[1])) if called else set()
+
+
+def is_open(text):
+    """Whether a status says that its function is not proved, for a reason of its own."""
+    return text.startswith(("not proved", "no proof")) and not callees(text)
 
 
 class Line:
@@ -106,11 +118,11 @@ def of_functions(log, names, crate, spans):
     unread = [line for line in told if line.is_unread()]
     if unread:
         return by_lines(unread)
-    open_ones = [text for text in said.values() if text.startswith("not proved") or text.startswith("no proof") and not CALLS.search(text)]
+    open_ones = [text for text in said.values() if is_open(text)]
     if open_ones:
         verdict, why = by_lines(told)
         return verdict, why or open_ones[0][:170]
-    waits = {name for text in said.values() for name in CALLS.findall(text)}
+    waits = {name for text in said.values() for name in callees(text)}
     if waits - set(names):
         return WAITS, sorted(waits - set(names))
     return (NOT_JUDGED, f"the log says '{list(said.values())[0]}'") if waits else (LET_THROUGH, "")

@@ -73,10 +73,8 @@ class Tries:
     def base(self, is_proved):
         """Sees that the crate is proved without an edit, unless that is known: then the first round is made from nothing, and what it
         keeps serves the others, but where there are many rounds a check without an edit comes first, which serves them better."""
-        if not is_proved:
+        if not is_proved or not self.checks.is_ready():
             self.checks.prove()
-        elif self.checks.lacks():
-            raise Fault(f"the library {self.checks.lacks()[0]} below it is not built")
         elif self.planned() > FEW:
             log = self.checks.check({})
             if log.status:
@@ -123,7 +121,7 @@ class Tries:
         self.names = names_of(self.checks.name, self.sources.all(self.checks.files()), log.of)
         edited = {each for one in chosen for each in one.functions}
         theirs = {name for each in edited for name in self.names.get(each, ())}
-        strange = [name for name, text in log.of.items() if name not in theirs and text.startswith(("not proved", "no proof")) and not logs.CALLS.search(text)]
+        strange = [name for name, text in log.of.items() if name not in theirs and logs.is_open(text)]
         if strange:
             self.halve(chosen)
             return f", half as many at a time, since {strange[0]} is not proved either: {log.of[strange[0]][:90]}"
