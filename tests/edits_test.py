@@ -1,12 +1,17 @@
 #!/usr/bin/env python3
-"""Tests tests/edits.py over a small repository that it makes: edits that are refused, one that is let through, one that does not compile,
-one that only lacks a name, one that cannot be applied, and a crate that is not proved. Prints what differs, and then ends with status 1."""
+"""Tests tests/edits.py: how it reads sources and logs; and, over a small repository that it makes, edits that are refused, one that is
+let through, one that does not compile, one that cannot be applied, and a crate that is not proved. Prints what differs, and then ends
+with status 1."""
 import os
 import subprocess
 import sys
 import tempfile
 
 HERE = os.path.dirname(os.path.abspath(__file__))
+sys.dont_write_bytecode = True
+sys.path.insert(0, os.path.join(os.path.dirname(HERE), "tools"))
+from rounds import logs  # noqa: E402
+from rounds.functions import functions_of, names_of  # noqa: E402
 
 SOURCE = """//! Numbers.
 #![tactic(auto)]
@@ -90,7 +95,80 @@ class Repository:
             self.bad = 1
 
 
+# Functions in every place where an edit may change one, and the names that a check's log has of them.
+PLACES = """
+mod inner {
+    impl<'a, T: Fn(u8) -> bool> Shown<'a> for Text<T> where T: Copy {
+        fn shown(&self) -> Vec<u8> { let closed = '}'; vec![closed] }
+    }
+}
+impl From<Errno> for Fault { fn from(errno: Errno) -> Fault { Fault { text: "{" } } }
+impl From<Refused<u8>> for Fault { fn from(refused: Refused<u8>) -> Fault { Fault { text: "" } } }
+impl Drop for Text { fn drop(&mut self) {} }
+trait Gate {
+    fn asks(&self) -> bool;
+    fn worth(&self) -> u8 { 1 } // {
+}
+pub fn all(numbers: &[u8; 2]) -> bool
+    requires some { (record { from = 1; to = 2 }) ≡ x' }
+    ensures { result }
+{
+    numbers.iter().all(|number| *number > 0)
+}
+"""
+NAMES = {
+    "inner::TextShown::shown": ["numbers::places::inner::TextShown::shown"],
+    "FaultFrom::from": ["numbers::places::FaultFromErrno::from", "numbers::places::FaultFromRefused::from"],
+    "TextDrop::drop": ["numbers::text::Text::drop"],
+    "Gate::worth": ["numbers::places::Gate::worth", "numbers::places::OpenGate::worth"],
+    "all": ["numbers::places::all", "numbers::places::fn::all::all", "numbers::places::fn::all::all+FnMut::call_mut"],
+}
+
+# A log of a check of five edits, and what it says of each function.
+LOG = """./proofs/gone/Answers.antt:5:1: error: `returns`: module `Rattle.numbers.proofs.gone.Goals` has no `returns-then` that can be named
+./proofs/fits_no_more/Answers.antt:5:1: error: `returns`: the two types differ
+note: src/lib.rt:8:1: it is not proved that what the function ensures holds when it returns (`returns`)
+fn numbers::open: no proof: expected answers in ./proofs/open/Answers.antt; `search` did not prove `returns`; it calls `numbers::gone`, which is not proved
+fn numbers::gone: not proved
+fn numbers::fits_no_more: not proved; it calls `numbers::open`, which is not proved
+fn numbers::waits: no proof: it calls `numbers::open` and `numbers::gone`, which are not proved
+fn numbers::same: proved, may abort
+fn numbers::lost: could not tell
+logic=not-proved
+"""
+SAID = {
+    "open": logs.REFUSED,
+    "gone": logs.BY_NAME,
+    "fits_no_more": logs.REFUSED,
+    "waits": logs.WAITS,
+    "same": logs.LET_THROUGH,
+    "lost": logs.NOT_JUDGED,
+}
+
+
+def test_names():
+    """Whether each function is found, with its names."""
+    functions = functions_of("src/places.rt", PLACES)
+    found = {}
+    for function, names in names_of("numbers", functions, [name for names in NAMES.values() for name in names]).items():
+        found.setdefault(function.key.removeprefix("places::"), []).extend(names)
+    if found != NAMES:
+        print(f"tests/edits_test.py: functions have the names {found}, not {NAMES}")
+    return found != NAMES
+
+
+def test_logs():
+    """Whether a log says of each function what it should."""
+    log = logs.Log(1, LOG, {})
+    found = {name: logs.of_functions(log, [f"numbers::{name}"], "numbers", [])[0] for name in SAID}
+    none = logs.of_functions(log, [], "numbers", [])
+    if found != SAID or none[0] != logs.NOT_JUDGED or not log.has_verdict():
+        print(f"tests/edits_test.py: a log says {found}, not {SAID}; of no function it says {none}")
+    return found != SAID or none[0] != logs.NOT_JUDGED
+
+
 def main():
+    bad = test_names() + test_logs()
     with tempfile.TemporaryDirectory(prefix="edits-test-") as room:
         plain = Repository(room, "plain", SOURCE)
         plain.plant("next_is_one_too_many", "nothing_is_next", "half_is_more")
@@ -114,7 +192,7 @@ def main():
         broken = Repository(room, "broken", BROKEN)
         broken.plant("half_is_more")
         broken.expect(1, "numbers: NOT JUDGED: it is not proved without an edit", "edits: 0 of 0")
-    return plain.bad or broken.bad
+    return int(bool(bad or plain.bad or broken.bad))
 
 
 if __name__ == "__main__":

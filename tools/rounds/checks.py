@@ -45,8 +45,25 @@ def begin():
 def jobs():
     """How many checks to run at a time: RT_JOBS, or one a processor as long as there is memory for each."""
     given = os.environ.get("RT_JOBS", "")
-    most = kit().free() // MEMORY
-    return int(given) if given.isdigit() and int(given) else max(1, min(kit().processors(), most))
+    if given.isdigit() and int(given):
+        return int(given)
+    with open("/proc/meminfo", encoding="ascii") as lines:
+        free = next(int(line.split()[1]) * 1024 for line in lines if line.startswith("MemAvailable:"))
+    return max(1, min(len(os.sched_getaffinity(0)), free // MEMORY))
+
+
+def linked(folder, to):
+    """Copies kept work, checked modules by links where these can be made: a check replaces such a file, and changes none."""
+
+    def copy(one, other):
+        try:
+            if one.endswith(".oantt"):
+                return os.link(one, other)
+        except OSError:
+            pass
+        return shutil.copy2(one, other)
+
+    shutil.copytree(folder, to, copy_function=copy)
 
 
 def spent(number):
@@ -113,7 +130,7 @@ class Checks:
             why = next((line for line in ran.said.split("\n") if ": error" in line or "not proved" in line or "no proof" in line), ran.said[-200:])
             raise Fault(f"it is not proved without an edit: {why.strip()[:200]}")
         self.seed = os.path.join(self.room, "seed")
-        self.rt.linked(os.path.join(self.folder, "out", "incremental"), self.seed)
+        linked(os.path.join(self.folder, "out", "incremental"), self.seed)
 
     def below(self):
         """The libraries of the repository below the crate."""
@@ -135,7 +152,7 @@ class Checks:
                 with open(os.path.join(copy, path), "w", encoding="utf-8") as file:
                     file.write(text)
             if self.seed:
-                self.rt.linked(self.seed, kept)
+                linked(self.seed, kept)
             else:
                 os.mkdir(kept)
             log = self.run(copy, kept, name, edits)
