@@ -143,8 +143,9 @@ class Checks:
         are_built = all(os.path.isdir(each.rlib) for each in self.below())
         return are_built and (all(noted is None for noted, _ in stamps) or all(noted == stamp for noted, stamp in stamps))
 
-    def check(self, texts, name="plain", edits=()):
-        """The log of a check with these texts. Its name and that of its edits are for people who keep logs."""
+    def check(self, texts, only=(), name="plain", edits=()):
+        """The log of a check with these texts: of these functions and those that they call alone, if there are any. Its name and that of
+        its edits are for people who keep logs."""
         with tempfile.TemporaryDirectory(prefix="try-", dir=self.room) as room:
             copy, kept = os.path.join(room, "copy"), os.path.join(room, "kept")
             shutil.copytree(self.plain, copy)
@@ -155,7 +156,8 @@ class Checks:
                 linked(self.seed, kept)
             else:
                 os.mkdir(kept)
-            log = self.run(copy, kept, name, edits)
+            log = self.run(copy, kept, only)
+            self.keep(log, name, edits)
             if not self.seed and log.has_verdict():
                 self.seed = os.path.join(self.room, "seed")
                 os.rename(kept, self.seed)
@@ -165,19 +167,23 @@ class Checks:
         """What checks a copy, and where."""
         return self.crate.words(["--jobs", "1"], keeps=False), copy
 
-    def run(self, copy, kept, name, edits):
+    def run(self, copy, kept, only):
         """The log of a check of a copy; one that is killed is run again once, since the memory that it lacked may be free then."""
         words, folder = self.command(copy)
+        words += [word for path in only for word in ("--only", path)]
         for _ in range(2):
             ran = Ran([*self.rt.rtlib.guarded(), self.rt.rtlib.RATTLE, "check", *words, "--incremental", kept, "--progress"], folder)
             self.seconds += ran.seconds
             if ran.status != -signal.SIGKILL:
                 break
+        return Log(ran.status, ran.said, ran.took)
+
+    def keep(self, log, name, edits):
+        """Keeps what a check printed, where people want that."""
         if self.logs:
             os.makedirs(self.logs, exist_ok=True)
             with open(os.path.join(self.logs, f"{self.name}-{name}.log"), "w", encoding="utf-8") as file:
-                file.write(f"edits: {' '.join(edits)}\n{ran.said}")
-        return Log(ran.status, ran.said, ran.took)
+                file.write(f"edits: {' '.join(edits)}\n{log.text}")
 
 
 class DefinitionChecks(Checks):

@@ -78,6 +78,13 @@ class Function:
         """A name for people: modules, type and name."""
         return "::".join([*self.modules, *(each for each in [self.owner.type + self.owner.trait] if each), self.name])
 
+    def path(self):
+        """What names it to `--only` before a log has its name, or None: of a method the end of its name, as its type may be of another module."""
+        of, trait = self.owner.type, self.owner.trait.replace("Drop", "")
+        if not of and trait:
+            return None
+        return f"{of}{trait}::{self.name}" if of else "::".join([*self.modules, self.name])
+
     def fits(self, crate, name):
         """How well a check's name of a function, crate::modules::Owner::name, fits this one; 0 for not at all."""
         *inside, last = name.split("::")

@@ -56,7 +56,7 @@ class Log:
     """A check's log: how it ended, the status of each function and type, the lines about places, and the seconds for each function."""
 
     def __init__(self, status, text, took):
-        self.status, self.took, lines = status, took, text.rstrip("\n").split("\n")
+        self.status, self.text, self.took, lines = status, text, took, text.rstrip("\n").split("\n")
         self.first, self.last, self.of, self.told, self.broken = lines[:6], lines[-1], {}, [], []
         self.stale, self.limit = STALE.search(text), LIMIT.search(text)
         for line in lines:
@@ -70,7 +70,7 @@ class Log:
 
     def has_verdict(self):
         """Whether the prover ran to its end."""
-        return self.status in (0, 1) and self.last.startswith("logic=") and bool(self.of)
+        return self.status in (0, 1) and self.last.startswith(("logic=", "only=")) and bool(self.of)
 
     def why_none(self):
         """Why there is no verdict."""

@@ -30,6 +30,8 @@ class Tries:
     def __init__(self, checks, edits):
         self.checks, self.sources, self.rounds = checks, Sources(checks.text_of), 0
         self.tries, self.names = [], {}
+        # Whether a round checks only what is edited, and what that calls: so it is where nothing is kept that the rest could be taken from.
+        self.is_partial = False
         # (a round that cannot be read as a whole is halved)
         self.most = len(edits)
         for edit in edits:
@@ -79,15 +81,29 @@ class Tries:
             log = self.checks.check({})
             if log.status:
                 raise Fault(f"it is not proved without an edit: {log.why_none() if not log.has_verdict() else log.last}")
+        else:
+            self.is_partial = True
+
+    def only(self, chosen):
+        """The paths of the functions that a round has to check, or none where it checks all."""
+        if not self.is_partial or any(one.functions is None for one in chosen):
+            return []
+        ours = [each for one in chosen for each in one.functions]
+        known = [[name for name in self.names.get(each, ()) if "::fn::" not in name] or [each.path()] for each in ours]
+        return [] if [None] in known else [path for paths in known for path in paths]
 
     def run(self, say):
         """Tries all."""
         while self.left():
             chosen, texts = self.next_round()
             self.rounds += 1
-            log = self.checks.check(texts, f"round-{self.rounds}", [one.edit.name for one in chosen])
+            only = self.only(chosen)
+            log = self.checks.check(texts, only, f"round-{self.rounds}", [one.edit.name for one in chosen])
             why = ""
-            if not log.has_verdict():
+            if only and not log.has_verdict() and not log.broken:
+                # (a path fits no function, or several)
+                self.is_partial, why = False, ", without --only"
+            elif not log.has_verdict():
                 why = self.read_broken(log, chosen)
             elif len(chosen) == 1:
                 chosen[0].judge(*logs.of_crate(log))
