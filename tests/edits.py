@@ -94,7 +94,7 @@ class Counts:
 
 def try_crate(crate, edits, room, given):
     """Tries edits of a crate, and returns the counts."""
-    counts, began = Counts(), time.monotonic()
+    counts, began, before = Counts(), time.monotonic(), 0
     try:
         checks = checks_of(crate, room, given.root)
         checks.logs = given.logs and os.path.abspath(given.logs)
@@ -104,6 +104,7 @@ def try_crate(crate, edits, room, given):
         tries = Tries(checks, new)
         if tries.left():
             tries.base(given.proved)
+            before = checks.seconds
             tries.run(say)
     except Fault as fault:
         say(f"{crate}: NOT JUDGED: {fault}")
@@ -119,7 +120,7 @@ def try_crate(crate, edits, room, given):
     counts.refused = sum(one.verdict == REFUSED for one in tries.tries)
     if counts.tried:
         say(f"{crate}: {counts.refused} of {counts.tried} edits are refused for their meaning, in {tries.rounds} rounds, "
-            f"{checks.seconds:.0f} s of a processor and {time.monotonic() - began:.0f} by the clock")
+            f"{checks.seconds - before:.0f} s of a processor, {before:.0f} before them, and {time.monotonic() - began:.0f} by the clock")
     return counts
 
 

@@ -25,6 +25,15 @@ def callees(text):
     return set(re.findall(r"`([^`]+)`", called[1])) if called else set()
 
 
+def waited_for(log, names):
+    """The functions whose proofs these functions wait for, directly or through others."""
+    found, left = set(), set(names)
+    while left:
+        left = {callee for name in left for callee in callees(log.of.get(name, ""))} - found
+        found |= left
+    return found
+
+
 def is_open(text):
     """Whether a status says that its function is not proved, for a reason of its own."""
     return text.startswith(("not proved", "no proof")) and not callees(text)
@@ -122,7 +131,7 @@ def of_functions(log, names, crate, spans):
     if open_ones:
         verdict, why = by_lines(told)
         return verdict, why or open_ones[0][:170]
-    waits = {name for text in said.values() for name in callees(text)}
+    waits = waited_for(log, names)
     if waits - set(names):
         return WAITS, sorted(waits - set(names))
     return (NOT_JUDGED, f"the log says '{list(said.values())[0]}'") if waits else (LET_THROUGH, "")

@@ -106,7 +106,7 @@ class Tries:
             elif not log.has_verdict():
                 why = self.read_broken(log, chosen)
             elif len(chosen) == 1:
-                chosen[0].judge(*logs.of_crate(log))
+                self.read_alone(log, chosen[0])
             else:
                 why = self.read(log, chosen)
             again = sum(not one.verdict for one in chosen)
@@ -145,7 +145,16 @@ class Tries:
             self.read_one(log, one)
         return ""
 
+    def read_alone(self, log, one):
+        """What a log says of the one edit."""
+        ours = names_of(self.checks.name, self.sources.all(self.checks.files()), log.of)
+        if all(ours[each] for each in one.functions or ()):
+            one.judge(*logs.of_crate(log))
+        else:
+            one.judge(NOT_JUDGED, "the check's log has no line of its function")
+
     def read_one(self, log, one):
+        """What a log says of one of several edits."""
         names = [name for each in one.functions for name in self.names[each]]
         spans = [(each.file, *self.sources.span(each)) for each in one.functions]
         verdict, why = logs.of_functions(log, names, self.checks.name, spans)
