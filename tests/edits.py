@@ -46,7 +46,7 @@ def words_given():
                        "prove none without an edit")
     words.add_argument("--anew", action="store_true", help="try also what was refused before, where nothing has changed since")
     words.add_argument("--apply", action="store_true", help="prove nothing: see only whether each edit can be applied, and has its name alone")
-    words.add_argument("--times", action="store_true", help="write down in tests/edits/seconds what each took, by which --chosen takes the cheapest")
+    words.add_argument("--times", action="store_true", help="write down in tests/edits/seconds what each took: --chosen takes the cheapest")
     words.add_argument("--jobs", type=int, metavar="N", help="so many crates at once")
     words.add_argument("--logs", metavar="FOLDER", help="keep what each check prints there")
     words.add_argument("--root", metavar="FOLDER", default=ROOT, help="the repository (default: this one)")
@@ -114,7 +114,8 @@ def try_crate(crate, edits, room, given):
         if one.verdict == REFUSED:
             passed.add(one.edit)
         if one.verdict != REFUSED or given.verbose:
-            say(f"{crate}/{one.edit.name}: {one.verdict if one.verdict == REFUSED else one.verdict.upper()} ({one.place()}){': ' if one.why else ''}{one.why}")
+            verdict = one.verdict if one.verdict == REFUSED else one.verdict.upper()
+            say(f"{crate}/{one.edit.name}: {verdict} ({one.place()}){': ' if one.why else ''}{one.why}")
     counts.seconds = {f"{crate}/{one.edit.name}": one.seconds for one in tries.tries if one.seconds}
     counts.tried, counts.rounds = len(tries.tries), tries.rounds
     counts.refused = sum(one.verdict == REFUSED for one in tries.tries)

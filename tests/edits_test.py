@@ -91,7 +91,7 @@ class Repository:
         ended, said = self.said(*words)
         lost = [text for text in texts if text not in said]
         if lost or (ended == 0) != (status == 0):
-            print(f"tests/edits_test.py: {' '.join(words) or 'without words'}: status {ended}, and it does not print {lost}; it prints\n{said}")
+            print(f"tests/edits_test.py: {' '.join(words) or 'no words'}: status {ended}, and it does not print {lost}; it prints\n{said}")
             self.bad = 1
 
 
@@ -183,7 +183,8 @@ def main():
         )
         plain.expect(0, "edits: 0 of 0 are refused for their meaning; 3 more were refused before", words=[
             "--edit", "next_is_one_too_many", "--edit", "nothing_is_next", "--edit", "half_is_more"])
-        plain.expect(0, "edits: 1 of 1 are refused for their meaning", words=["--anew", "--proved", "--function", "next", "--edit", "next_is_one_too_many"])
+        words = ["--anew", "--proved", "--function", "next", "--edit", "next_is_one_too_many"]
+        plain.expect(0, "edits: 1 of 1 are refused for their meaning", words=words)
         plain.expect(1, "no edit changes a function last", words=["--function", "last"])
         plain.expect(1, "letters is no crate with edits", words=["letters"])
         plain.plant("whole_is_lost")

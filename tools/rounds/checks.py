@@ -207,10 +207,12 @@ class DefinitionChecks(Checks):
             raise Fault(f"{self.laws.name} is not proved without an edit: {log.why_none() if not log.has_verdict() else log.last}")
 
     def command(self, copy):
-        words, own = self.laws.crate.words(["--jobs", "1"], keeps=False), self.crate
+        words, own, kit_folder = self.laws.crate.words(["--jobs", "1"], keeps=False), self.crate, self.rt.rtlib.KIT
         at = words.index(f"{own.name}={own.rlib}")
-        uses = ",".join(dict.fromkeys(["core", *own.of_kit, *(each.name for each in own.deps)]))
-        return [*words[: at - 1], "--lib", f"{own.name}:{uses}={copy}/src/lib.rt", *words[at + 1 :]], self.laws.plain
+        of_kit = dict.fromkeys(["core", *own.of_kit])
+        more = [word for name in of_kit if name not in self.laws.crate.of_kit for word in ("--extern", f"{name}={kit_folder}/rlibs/{name}.rlib")]
+        uses = ",".join([*of_kit, *(each.name for each in own.deps)])
+        return [*words[: at - 1], *more, "--lib", f"{own.name}:{uses}={copy}/src/lib.rt", *words[at + 1 :]], self.laws.plain
 
 
 # The crates without code, each with the crate whose laws its edits must break.
