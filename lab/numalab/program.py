@@ -10,6 +10,8 @@ from .traces import Bad
 
 HERE = os.path.dirname(os.path.abspath(__file__))
 CRATES = os.path.join(os.path.dirname(os.path.dirname(HERE)), "crates")
+# The program for sessions: its name, its command, and the variable that names it.
+SESSION = ("numatrace_session", "numatrace-session", "NUMATRACE_SESSION")
 
 
 class Failed(RuntimeError):

@@ -220,6 +220,27 @@ def explained(top, progress=None, wordy=True):
         yield machine.explain(step)
 
 
+class Beside:
+    """The plain model beside a program that plays the same steps: their reasons, as long as both say the same."""
+
+    def __init__(self, top):
+        self.machine, self.told = Explained(top), []
+
+    def reasons(self, steps, lines, number):
+        """The reasons of a step, or None where the model says other lines up to it."""
+        while self.told is not None and len(self.told) <= number:
+            own, reasons = self.machine.explain(steps[len(self.told)])
+            if own != lines[len(self.told)]:
+                self.told = None
+            else:
+                self.told.append(reasons)
+        return self.told and self.told[number]
+
+
+def refusal_text(what, name, text):
+    return f"{what} is refused, {name}: {text}"
+
+
 def hints(top, progress=None):
     """For each step that the model refuses, and each such access in flight: the number, what it is about, and why."""
     for k, (lines, reasons) in enumerate(explained(top, progress, False)):
@@ -228,4 +249,4 @@ def hints(top, progress=None):
             for about, text in reasons:
                 name = errors[about].rsplit(" ", 1)[1]
                 what = top["steps"][k]["op"] if about is None else f"access {about} in flight"
-                yield k, about, f"{what} is refused, {name}: {text}"
+                yield k, about, refusal_text(what, name, text)

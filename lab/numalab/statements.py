@@ -2,8 +2,9 @@
 import re
 
 from .faults import MOST_BYTES, MOST_ENTRIES, Form, step_faults
-from .notation import (FARTHER, FIRST_ADDRESS, LEAST_STEP, MOST, NAME, NEAR, NUMBER, PAGE, Area, Numbers, Word, Wrong, count,
+from .notation import (FARTHER, FIRST_ADDRESS, LEAST_STEP, MOST, NAME, NEAR, NUMBER, PAGE, Area, Numbers, Word, Words, Wrong, count,
                        data_of, guessed, next_free)
+from .traces import Bad
 
 U32 = (1 << 32) - 1
 MOST_STEPS = MOST_BYTES // LEAST_STEP
@@ -15,6 +16,17 @@ def tier_distances(tiers):
     """The rows of the short form: 10 from a node to itself, 20 between two nodes of the first tier, and 10 more for each tier
     that the farther of the two nodes is behind the first."""
     return [[10 if own == to else NEAR + FARTHER * max(tiers[own], tiers[to]) for to in range(len(tiers))] for own in range(len(tiers))]
+
+
+def machine_said(text):
+    """The machine that a text describes, as what follows `nodes` in the notation."""
+    made, words = Translation("nodes"), Words("nodes " + text)
+    words.next("nodes")
+    try:
+        made.say_nodes(words)
+    except Wrong as wrong:
+        raise Bad(f"nodes is {text!r}: {wrong.text}") from None
+    return made.top["machine"]
 
 
 class Translation(Numbers):
@@ -31,7 +43,9 @@ class Translation(Numbers):
         """The trace."""
         version = {"version": 1} if self.run_limit is None else {"version": 2, "run_limit": self.run_limit}
         rows = self.rows or tier_distances(self.tiers)
-        return {**version, "machine": {"nodes": self.nodes, "distance": rows}, "steps": self.steps}
+        names = {node: name for name, nodes in self.node_names.items() for node in nodes}
+        named = {"names": [names.get(node) for node in range(len(self.nodes))]} if names else {}
+        return {**version, "machine": {"nodes": self.nodes, "distance": rows, **named}, "steps": self.steps}
 
     def at(self):
         return {"at": f"{self.name}:{self.line}"}
@@ -71,7 +85,7 @@ class Translation(Numbers):
             self.nodes += [self.page_count(Word(match[2], word.column))] * many
             self.tiers += [tier] * many
             if name:
-                self.node_names[name] = list(range(first, first + many))
+                self.node_names.setdefault(name, []).extend(range(first, first + many))
             joined = words.has("+", ",")
             if not joined:
                 break

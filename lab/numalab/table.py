@@ -1,5 +1,5 @@
 """Steps and their answers side by side, as lines for people."""
-from .answers import answer_of
+from .answers import Refusal, answer_of
 from .notate import MOST_APART, Notator, stretches
 from .report import node_ranges
 from .traces import Bad
@@ -91,7 +91,7 @@ class Table:
             told.setdefault(about, []).append(text)
         found = [self.row(*self.head(k, line, value), str(k))]
         found += [self.because(text) for text in told.get(None, ())]
-        if "error" not in value:
+        if not isinstance(value, Refusal):
             found += self.parts(self.steps[k], line, value, told)
         return found
 
@@ -102,29 +102,28 @@ class Table:
     @staticmethod
     def answer(line, value):
         """The answer of a step on its own line."""
-        if "error" in value or line.op in ("vmstat", "map"):
+        if isinstance(value, Refusal) or line.op in ("vmstat", "map"):
             return line.answer
         if line.op in ("move_pages", "query"):
-            return f"{value['answer']} failed" if line.op == "move_pages" else str(value["answer"])
+            return f"{value.failed} failed" if line.op == "move_pages" else "0"
         if line.op == "read":
             return data_shown(line.answer)
         if line.op == "free":
-            frames = value["frames"]
-            return f"{counted(len(frames), 'free frame')}" + (f": {ranges_text(frames)}" if frames else "")
+            return counted(len(value), "free frame") + (f": {ranges_text(value.frames)}" if value.frames else "")
         if line.op == "pagemap":
-            return counted(len(value["entries"]), "entry", "entries")
-        return counted(len(value["areas"]), "area") if line.op == "numa_maps" else line.answer
+            return counted(len(value.entries), "entry", "entries")
+        return counted(len(value.areas), "area") if line.op == "numa_maps" else line.answer
 
     def parts(self, step, line, value, told):
         """The lines under a step: its entries, its accesses in flight, its pages or its areas."""
         if line.op in ("move_pages", "query"):
-            if len(value["statuses"]) != len(step["pages"]):
+            if len(value.statuses) != len(step["pages"]):
                 raise Bad(f"line {line.number}: expected {counted(len(step['pages']), 'status', 'statuses')}")
-            return self.entries(step, value["statuses"], told) + self.flights(step, line, told)
+            return self.entries(step, value.statuses, told) + self.flights(step, line, told)
         if line.op == "pagemap":
-            if any((entry["frame"] or 0) >= len(self.owner) for entry in value["entries"]):
+            if any((entry.frame or 0) >= len(self.owner) for entry in value.entries):
                 raise Bad(f"line {line.number}: a frame is not in the trace")
-            return self.pagemap(value["entries"])
+            return self.pagemap(value.entries)
         return [self.row("  " + area, "") for area in line.areas]
 
     def entries(self, step, statuses, told):
@@ -161,21 +160,21 @@ class Table:
         """Adjacent pages in adjacent frames share a line."""
         def joins(group, entry):
             last = group[-1]
-            if entry["address"] != last["address"] + PAGE or (entry["frame"] is None) != (last["frame"] is None):
+            if entry.address != last.address + PAGE or (entry.frame is None) != (last.frame is None):
                 return False
-            if entry["frame"] is None:
+            if entry.frame is None:
                 return True
-            return entry["frame"] == last["frame"] + 1 and self.owner[entry["frame"]] == self.owner[last["frame"]]
+            return entry.frame == last.frame + 1 and self.owner[entry.frame] == self.owner[last.frame]
 
         found = []
         for group in stretches(entries, joins):
             first, last = group[0], group[-1]
-            if first["frame"] is None:
+            if first.frame is None:
                 right = "the page of zeros"
             else:
-                frames = f"frame {first['frame']}" if len(group) == 1 else f"frames {first['frame']}..{last['frame']}"
-                right = f"{frames} on node {self.owner[first['frame']]}"
-            found.append(self.row("  " + pages_text(first["address"], last["address"], PAGE, 1), right))
+                frames = f"frame {first.frame}" if len(group) == 1 else f"frames {first.frame}..{last.frame}"
+                right = f"{frames} on node {self.owner[first.frame]}"
+            found.append(self.row("  " + pages_text(first.address, last.address, PAGE, 1), right))
         if len(found) > MOST_ROWS and not self.all_rows:
             found[MOST_ROWS:] = [f"{'':10}and {len(found) - MOST_ROWS:,} more rows, which --all shows"]
         return found

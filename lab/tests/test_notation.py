@@ -95,7 +95,8 @@ MACHINES = [
     ("nodes 4", [4], [[10]]),
     ("nodes cpu 2x8, 4 + cxl 64K + 2x1", [8, 8, 4, 16, 1, 1], [
         [10, 20, 20, 30, 40, 40], [20, 10, 20, 30, 40, 40], [20, 20, 10, 30, 40, 40], [30, 30, 30, 10, 40, 40],
-        [40, 40, 40, 40, 10, 40], [40, 40, 40, 40, 40, 10]]),
+        [40, 40, 40, 40, 10, 40], [40, 40, 40, 40, 40, 10]], "cpu", "cpu", None, "cxl", None, None),
+    ("nodes ram 4, cxl 8, ram 2", [4, 8, 2], [[10, 20, 20], [20, 10, 20], [20, 20, 10]], "ram", "cxl", "ram"),
     ("nodes 4, 8\ndistance 10 255\ndistance 11 10", [4, 8], [[10, 255], [11, 10]]),
     ("distance 10 20 / 30 10\nnodes 2x1", [1, 1], [[10, 20], [30, 10]]),
 ]
@@ -114,9 +115,10 @@ class Notation(Case):
             self.assertEqual(translated((HEAD + text + "\n").encode(), "x.nt")[1], wanted, text)
 
     def test_machines(self):
-        for text, sizes, rows in MACHINES:
+        for text, sizes, rows, *names in MACHINES:
             top, faults = translated(text.encode(), "x.nt")
-            self.assertEqual((top, faults), ({"version": 1, "machine": {"nodes": sizes, "distance": rows}, "steps": []}, []))
+            machine = {"nodes": sizes, "distance": rows, **({"names": names} if names else {})}
+            self.assertEqual((top, faults), ({"version": 1, "machine": machine, "steps": []}, []))
         top, _ = translated(b"run_limit 3\r\nnodes 1\r\n", "x.nt")
         self.assertEqual((top["version"], top["run_limit"]), (2, 3))
 

@@ -53,10 +53,10 @@ def objects(trace, lines, reasons, parted):
     """Each step as a JSON object."""
     for k, line in enumerate(lines):
         step = trace.steps[k]
-        told = {"step": k, "op": line.op, "arguments": {key: value for key, value in step.items() if key not in ("op", "at")}}
+        told = {"step": k, "op": line.op, "arguments": {key: value for key, value in step.items() if key not in ("op", "at", "note", "name")}}
         if "at" in step:
             told["at"] = step["at"]
-        told["answer"] = answer_of(line)
+        told["answer"] = answer_of(line).as_object()
         if reasons:
             told["why"] = [{**about_object(about), "reason": text} for about, text in reasons[k]]
         if k in parted:
