@@ -2,6 +2,7 @@
 expected."""
 import operator
 
+from .names import is_name
 from .notation import Numbers, Word, Wrong
 from .words import PAGE
 
@@ -32,10 +33,14 @@ def truth(what, value):
     raise TypeError(f"{what} is {shown(value)}: expected True or False")
 
 
-def text_or_none(what, value):
-    if value is None or isinstance(value, str):
+def name_or_none(what, value):
+    """A name as the notation has them, or None."""
+    if value is None or is_name(value):
         return value
-    raise TypeError(f"{what} is {shown(value)}: expected a text")
+    expected = "expected a name: a letter or _, and then letters, digits, _ . and -"
+    if isinstance(value, str):
+        raise ValueError(f"{what} is {shown(value)}: {expected}")
+    raise TypeError(f"{what} is {shown(value)}: {expected}")
 
 
 def data_bytes(what, value):

@@ -17,7 +17,7 @@ import os
 import sys
 
 from . import answers, arguments
-from .arguments import addresses, data_bytes, text_or_none, truth, whole
+from .arguments import addresses, data_bytes, name_or_none, truth, whole
 from .faults import MOST_ENTRIES, Form, machine_faults, step_faults
 from .notate import notation_of
 from .notation import FIRST_ADDRESS, next_free
@@ -117,7 +117,7 @@ class Process:
 
     def _area(self, op, pages, name, addr, more):
         place = self.machine._place(pages, addr if addr is None else whole(f"{op}: addr", addr))
-        named = {"name": name} if text_or_none(f"{op}: name", name) else {}
+        named = {"name": name} if name_or_none(f"{op}: name", name) else {}
         answer = self.machine._step(op, named, pid=self.pid, addr=place, pages=pages, **more)
         return Area(self, place, pages, answer.segment if op == "map" else more["segment"], name)
 
@@ -182,7 +182,7 @@ class Machine:
         if distance is not None:
             machine["distance"] = [arguments.items("distance", row, "a list of rows") for row in arguments.items("distance", distance, "a list of rows")]
         if names is not None:
-            machine["names"] = [text_or_none("names", name) for name in arguments.items("names", names, "a name for each node")]
+            machine["names"] = [name_or_none("names", name) for name in arguments.items("names", names, "a name for each node")]
         version = {"version": 1} if run_limit is None else {"version": 2, "run_limit": run_limit}
         self._begin({**version, "machine": machine, "steps": []}, program)
 
@@ -286,7 +286,7 @@ class Machine:
 
     def spawn(self, name=None, home=0, uid=1000, allowed=None, privileged=False, pid=None):
         """A process, which may use the nodes `allowed`, by default all."""
-        named = {"name": name} if text_or_none("spawn: name", name) else {}
+        named = {"name": name} if name_or_none("spawn: name", name) else {}
         number = self._pid + 1 if pid is None else whole("spawn: pid", pid)
         nodes = list(range(len(self._top["machine"]["nodes"]))) if allowed is None else self._words.nodes("spawn: allowed", allowed)
         more = {"privileged": True} if truth("spawn: privileged", privileged) else {}

@@ -4,10 +4,10 @@ import re
 from collections import namedtuple
 
 from .faults import MOST_ENTRIES, close
+from .names import NAME
 from .words import FLAGS, MODES, PAGE, counted
 
 WORD = re.compile(r'"(?:[^"\\]|\\.)*"|[^\s#",]+(?:,[^\s#",]+)*|,|"|#')
-NAME = re.compile(r"[A-Za-z_][A-Za-z0-9_.-]*")
 NUMBER = re.compile(r"0x[0-9A-Fa-f]{1,16}|[0-9]{1,20}")
 PIECE = re.compile(r"[A-Za-z_][A-Za-z0-9_]*|0x[0-9A-Fa-f]{1,16}|[0-9]{1,20}[KMG]?|[-+*%]")
 PLACE = re.compile(r"([^\[\]+]+)(?:\[([^\[\]]*)\])?(?:\+(.+))?")
@@ -245,13 +245,20 @@ def count(pages):
     return max(0, -(-(numbers.stop - numbers.start) // numbers.step))
 
 
+def text_of(word):
+    """What a text in quotes says."""
+    try:
+        text = json.loads(word.text)
+        text.encode()
+        return text
+    except ValueError:
+        raise Wrong(f"{word.text} is not a valid text", word.column) from None
+
+
 def data_of(word):
     """Bytes as hexadecimal digits: they stand for themselves, and a text for its UTF-8."""
     if word.text.startswith('"'):
-        try:
-            return json.loads(word.text).encode().hex()
-        except ValueError:
-            raise Wrong(f"{word.text} is not a valid text", word.column) from None
+        return text_of(word).encode().hex()
     if not re.fullmatch("(?:[0-9A-Fa-f]{2})+", word.text):
         raise Wrong(f"{word.text} is neither a text in quotes nor an even number of hexadecimal digits", word.column)
     return word.text

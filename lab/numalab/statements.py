@@ -2,8 +2,9 @@
 import re
 
 from .faults import MOST_BYTES, MOST_ENTRIES, Form, step_faults
+from .names import is_name
 from .notation import (FARTHER, FIRST_ADDRESS, LEAST_STEP, MOST, NAME, NEAR, NUMBER, PAGE, Area, Numbers, Word, Words, Wrong, count,
-                       data_of, guessed, next_free)
+                       data_of, guessed, next_free, text_of)
 from .traces import Bad
 
 U32 = (1 << 32) - 1
@@ -37,6 +38,7 @@ class Translation(Numbers):
         self.name, self.line, self.form = name, 0, Form()
         self.tiers, self.rows, self.run_limit = [], [], None
         self.steps, self.alive, self.maps, self.next_address = [], [], 0, FIRST_ADDRESS
+        self.most_pid, self.notes = 0, []  # the notes that no step follows yet
 
     @property
     def top(self):
@@ -45,7 +47,8 @@ class Translation(Numbers):
         rows = self.rows or tier_distances(self.tiers)
         names = {node: name for name, nodes in self.node_names.items() for node in nodes}
         named = {"names": [names.get(node) for node in range(len(self.nodes))]} if names else {}
-        return {**version, "machine": {"nodes": self.nodes, "distance": rows, **named}, "steps": self.steps}
+        noted = {"note_at_end": "\n".join(self.notes)} if self.notes else {}
+        return {**version, "machine": {"nodes": self.nodes, "distance": rows, **named}, **noted, "steps": self.steps}
 
     def at(self):
         return {"at": f"{self.name}:{self.line}"}
@@ -54,6 +57,8 @@ class Translation(Numbers):
         if len(self.steps) >= MOST_STEPS:
             raise Wrong(f"the trace would have more than {MOST_BYTES:,} bytes", 1)
         step = {**keys, **self.at()}
+        if self.notes:
+            step["note"], self.notes = "\n".join(self.notes), []
         if keys["op"] in WITH_LISTS:
             for fault in step_faults(self.form, step, self.run_limit or MOST_ENTRIES):
                 raise Wrong(fault.text, 1)
@@ -62,7 +67,7 @@ class Translation(Numbers):
     def new_name(self, words, what):
         """A name for something new."""
         word = words.next(what)
-        if not NAME.fullmatch(word.text) or word.text in ("all", "none"):
+        if not is_name(word.text):
             raise Wrong(f"{word.text} is not a name", word.column)
         return word.text
 
@@ -115,10 +120,10 @@ class Translation(Numbers):
     # ---- processes and areas
 
     def say_spawn(self, words):
-        word, keys = words.next("a name"), {}
+        word, keys, named = words.next("a name"), {}, {}
         if not NUMBER.fullmatch(word.text):
             words.taken -= 1
-            self.new_name(words, "a name")
+            named = {"name": self.new_name(words, "a name")}
         while words.peek() is not None:
             option = words.has("pid", "uid", "home", "allowed", "privileged", "unprivileged")
             if option in ("pid", "uid"):
@@ -132,15 +137,15 @@ class Translation(Numbers):
             else:
                 words.done("pid", "uid", "home", "allowed", "privileged", "unprivileged")
         pid = keys.get("pid", self.number(word, U32) if NUMBER.fullmatch(word.text) else self.free_pid())
-        self.processes[word.text] = pid
+        self.processes[word.text], self.most_pid = pid, max(pid, self.most_pid)
         flag = {"privileged": keys["privileged"]} if "privileged" in keys else {}
         self.step(op="spawn", pid=pid, uid=keys.get("uid", 1000), home=keys.get("home", 0),
-                  allowed=keys.get("allowed", list(range(len(self.nodes)))), **flag)
+                  allowed=keys.get("allowed", list(range(len(self.nodes)))), **flag, **named)
         if pid not in self.alive:
             self.alive.append(pid)
 
     def free_pid(self):
-        return min(max([0, *self.processes.values()]) + 1, U32)
+        return min(self.most_pid + 1, U32)
 
     def area_options(self, words, more):
         """What may follow a new area."""
@@ -170,7 +175,7 @@ class Translation(Numbers):
         words.has("pages")
         keys = self.area_options(words, ("shared", "private"))
         flag = {"shared": keys["shared"]} if "shared" in keys else {}
-        self.step(op="map", pid=pid, addr=self.new_area(name, keys, pages, self.maps, 0), pages=pages, **flag)
+        self.step(op="map", pid=pid, addr=self.new_area(name, keys, pages, self.maps, 0), pages=pages, **flag, name=name)
         self.maps += 1
 
     def say_attach(self, words):
@@ -188,7 +193,7 @@ class Translation(Numbers):
             keys = self.area_options(words, ("offset", "pages"))
             offset, pages = keys.get("offset", 0), keys.get("pages", 1)
         address = self.new_area(name, keys, pages, segment, offset)
-        self.step(op="attach", pid=pid, addr=address, segment=segment, offset=offset, pages=pages)
+        self.step(op="attach", pid=pid, addr=address, segment=segment, offset=offset, pages=pages, name=name)
 
     def say_unmap(self, words):
         pid = self.pid(words.next("a process"))
@@ -333,6 +338,16 @@ class Translation(Numbers):
         for pid in pids:
             self.step(op=op, pid=pid)
 
+    def say_note(self, words):
+        word = words.next('a text, such as "the second phase"')
+        if not word.text.startswith('"'):
+            raise Wrong(f'{word.text} is not a text in quotes, such as "the second phase"', word.column)
+        words.done()
+        text = text_of(word)
+        for name, number in self.variables.items():
+            text = text.replace("{" + name + "}", str(number))
+        self.notes.append(text)
+
     def say_vmstat(self, words):
         words.done()
         self.step(op="vmstat")
@@ -353,6 +368,6 @@ STEPS = {
     "write": Translation.say_access, "move_pages": Translation.say_move_pages, "query": Translation.say_query,
     "migrate_pages": Translation.say_migrate_pages, "mbind": Translation.say_mbind, "offline": Translation.say_node,
     "online": Translation.say_node, "free": Translation.say_node, "pagemap": Translation.say_process,
-    "numa_maps": Translation.say_process, "vmstat": Translation.say_vmstat, "look": Translation.say_look,
+    "numa_maps": Translation.say_process, "vmstat": Translation.say_vmstat, "look": Translation.say_look, "note": Translation.say_note,
 }
 BLOCKS = ("repeat", "end")

@@ -5,9 +5,8 @@ import random
 import unittest
 
 from support import EXAMPLES, TRACES, Case, loaded, read, run
-from numalab.commands.write import without_places
 from numalab.faults import Form, verdict
-from numalab.notate import known_keys, notation_of
+from numalab.notate import SAID as SAID_KEYS, known_keys, notation_of
 from numalab.traces import json_text
 from numalab.translate import translated
 
@@ -53,10 +52,36 @@ SAID = [
     ("repeat 0\nlook\nend", []),
 ]
 
+# A file with names of all kinds, as numalab writes it.
+NAMED = """nodes ram 2x4 + cxl 8, 2
+spawn app uid 100 home 0 allowed ram
+note "begins"
+map app heap 4
+spawn db uid 1000 home 1
+map db log 2 shared
+attach app seen segment 1 offset 0 pages 2
+note "pages"
+write app heap[*] "a"
+pin app heap[0]
+move_pages app heap[1:3] to cxl, heap[3] to 3 during
+    run 0 read db log[0]
+end
+query db of app seen[*]
+migrate_pages db of app from ram to cxl
+mbind app heap[*] MPOL_BIND ram
+offline cxl
+free all
+numa_maps db
+unmap db log[*]
+note "ends"
+"""
+
 # Lines after the head, and what is said of them: line, column and words.
 WRONG = [
     ("wirte p A 61", [(4, 1, "wirte is not a statement: did you mean write?")]),
     ("read q A", [(4, 6, "there is no process q")]),
+    ("note x", [(4, 6, 'x is not a text in quotes, such as "the second phase"')]), ("note", [(4, 5, 'a text, such as "the second phase" is missing')]),
+    ('note "\\ud800"', [(4, 6, '"\\ud800" is not a valid text')]),
     ("read p B", [(4, 8, "there is no area B")]),
     ("read p A[4]", [(4, 8, "A[4] is past the last of 4 pages")]),
     ("read p A[0:5]", [(4, 8, "A[0:5] is not a range of pages of the area")]),
@@ -108,7 +133,7 @@ class Notation(Case):
     def test_said(self):
         for text, steps in SAID:
             top, faults = translated((HEAD + text + "\n").encode(), "x.nt")
-            self.assertEqual((without_places(top)["steps"][2:], faults), (steps, []), text)
+            self.assertEqual((known_keys(Form(), top)["steps"][2:], faults), (steps, []), text)
 
     def test_wrong(self):
         for text, wanted in WRONG:
@@ -173,7 +198,7 @@ class Back(Case):
         form = Form()
         back, faults = translated(notation_of(form, top).encode(), "x.nt")
         self.assertEqual(faults, [], what)
-        self.assertEqual(without_places(back), known_keys(form, top), what)
+        self.assertEqual(known_keys(form, back), known_keys(form, top), what)
 
     def test_traces(self):
         for path in TRACES:
@@ -189,7 +214,31 @@ class Back(Case):
         for path in EXAMPLES:
             with open(path[: -len("json")] + "nt", "rb") as file:
                 top, faults = translated(file.read(), "x.nt")
-            self.assertEqual((without_places(top), faults), (json.loads(read(path)), []), path)
+            self.assertEqual((known_keys(Form(), top), faults), (json.loads(read(path)), []), path)
+
+    def test_names(self):
+        for text in (NAMED, NAMED.replace("spawn db", "exit app\nspawn app").replace("db", "app")):
+            top, faults = translated(text.encode(), "x.nt")
+            self.assertEqual(faults, [])
+            again, _ = translated(notation_of(Form(), top).encode(), "x.nt")
+            self.assertEqual(known_keys(Form(), again, SAID_KEYS), known_keys(Form(), top, SAID_KEYS))
+        self.assertEqual(notation_of(Form(), translated(NAMED.encode(), "x.nt")[0]), NAMED)
+
+    def test_names_that_occur_again(self):
+        top, _ = translated(b"nodes 2x4\nspawn a\nmap a h 2\nspawn b\nmap b h 2\nread b h\nexit b\nspawn b pid 9\nunmap a h\nmap a h 1\n", "x.nt")
+        top["steps"][0]["name"], top["steps"][1]["name"] = "all", ["h"]
+        self.assertEqual(notation_of(Form(), top), (
+            "nodes 2x4\nspawn p1 uid 1000 home 0\nmap p1 A 2\nspawn b uid 1000 home 0\nmap b h 2\nread b h[*]\nexit b\n"
+            "spawn b pid 9 uid 1000 home 0\nunmap p1 0x20000 pages 2\nmap p1 h 1\n"))
+        top["steps"][0]["name"], top["steps"][1]["name"] = "b", "h"
+        self.assertEqual(notation_of(Form(), top).splitlines()[1:5], [
+            "spawn b uid 1000 home 0", "map b h 2", "spawn b_2 uid 1000 home 0", "map b_2 h_2 2"])
+
+    def test_notes(self):
+        text = 'nodes 4\nrepeat 2 as i\nnote "turn {i}, \\"{j}\\""\nfree 0\nend\nnote "a"\nnote "b"\n'
+        top, faults = translated(text.encode(), "x.nt")
+        self.assertEqual((faults, [step["note"] for step in top["steps"]], top["note_at_end"]), ([], ['turn 0, "{j}"', 'turn 1, "{j}"'], "a\nb"))
+        self.assertEqual(notation_of(Form(), top), 'nodes 4\nnote "turn 0, \\"{j}\\""\nfree all\nnote "turn 1, \\"{j}\\""\nfree all\nnote "a"\nnote "b"\n')
 
     def test_ten_lines(self):
         text = read("examples/half_demoted.nt")
@@ -207,7 +256,7 @@ class Command(Case):
         source = self.written("a.nt", HEAD + "read p A[0]\n")
         self.assertEqual(run("write", "a.nt", "-o", "b.json", folder=self.there), (0, "", ""))
         self.assertEqual(run("write", "b.json", "-o", "c.nt", folder=self.there), (0, "", ""))
-        self.assertEqual(read(os.path.join(self.there, "c.nt")), HEAD.replace(" p", " p1").replace("100", "100 home 0") + "read p1 A[0]\n")
+        self.assertEqual(read(os.path.join(self.there, "c.nt")), HEAD.replace("100", "100 home 0") + "read p A[0]\n")
         self.assertIn('"at":"a.nt:4"', read(os.path.join(self.there, "b.json")))
         self.assertEqual(run("write", "--no-places", given=HEAD), run("write", "--no-places", "-", given=HEAD))
         self.assertEqual(run("write", source, source)[0], 2)

@@ -57,19 +57,23 @@ def objects(trace, lines, reasons, parted):
         if "at" in step:
             told["at"] = step["at"]
         told["answer"] = answer_of(line).as_object()
+        for key in ("name", "note"):
+            if key in step:
+                told[key] = step[key]
         if reasons:
-            told["why"] = [{**about_object(about), "reason": text} for about, text in reasons[k]]
+            told["why"] = [{**about_object(reason.about), "reason": reason.text} for reason in reasons[k]]
         if k in parted:
             told["kernel"] = {"lines": parted[k].lines, "rows": parted[k].rows}
         yield json.dumps(told, separators=(",", ":"))
 
 
 def rows(trace, lines, reasons, parted, all_rows):
-    table = Table(trace.top, all_rows)
-    for k, line in enumerate(lines):
-        yield from table.lines(k, line, reasons and reasons[k])
-        if k in parted:
-            yield from parted[k].texts
+    told = 0
+    for k, row in Table(trace.top, all_rows).rows(lines, reasons):
+        for past in range(told, k):
+            yield from parted[past].texts if past in parted else ()
+        told = max(told, k)
+        yield row
 
 
 def show(one, asked, file, jsonl):

@@ -20,10 +20,10 @@ def arguments(words):
     words.add_argument("-o", metavar="OUT", dest="out", help="a file, .json or .nt, or a folder; standard output if none is named")
 
 
-def without_places(top):
-    """The trace without the keys that say where each step was written."""
+def without(keys, top):
+    """The trace without some of the keys that are for people in its steps."""
     def bare(step):
-        step = {key: value for key, value in step.items() if key != "at"}
+        step = {key: value for key, value in step.items() if key not in keys}
         return {**step, "during": [bare(access) for access in step["during"]]} if "during" in step else step
 
     return {**top, "steps": [bare(step) for step in top["steps"]]}
@@ -36,7 +36,7 @@ def text_of(path, asked, ending):
     top = Trace(path, data).check().top if back else trace_from(data, path)
     if ending == ".nt":
         return notation_of(Form(), top)
-    return json_text(without_places(top) if asked.no_places else top)
+    return json_text(without(("at",), top) if asked.no_places else top)
 
 
 def run(asked):
