@@ -41,9 +41,19 @@ def stretches(values, may_join):
 
 def tiers_of(rows):
     """The tier of each node where the distances are those of the short form, or None."""
-    tiers = [(min(row[to] for to in range(len(row)) if to != own) - NEAR) // FARTHER if len(row) > 1 else 0 for own, row in enumerate(rows)]
-    short = tiers == sorted(tiers) and tier_distances(tiers) == rows and sorted(set(tiers)) == list(range(tiers[-1] + 1))
-    return tiers if short else None
+    nearest = [(min(row[to] for to in range(len(row)) if to != own) - NEAR) // FARTHER if len(row) > 1 else 0 for own, row in enumerate(rows)]
+    # A node that is alone in the first tier is as far from all others as they are from each other.
+    for tiers in (nearest, [0, *nearest[1:]]):
+        if tiers == sorted(tiers) and tier_distances(tiers) == rows and sorted(set(tiers)) == list(range(tiers[-1] + 1)):
+            return tiers
+    return None
+
+
+def node_labels(top):
+    """For each node what a picture calls it: its number, and its name, or its tier where that is not the first."""
+    tiers = tiers_of(top["machine"]["distance"])
+    names = [name or (f"tier {tiers[node] + 1}" if tiers and tiers[node] else None) for node, name in enumerate(node_names(top))]
+    return [f"node {node}" + (f" ({name})" if name else "") for node, name in enumerate(names)]
 
 
 class Notator:
