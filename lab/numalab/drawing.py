@@ -24,7 +24,7 @@ COLOURS = ["#7fb3e6", "#f2b35e", "#7fcf9f", "#e39ac4", "#cdb94f", "#a79be8", "#6
 UNTOLD, TAKEN, FREE, INK, PALE, PIN = "#9db8d2", "#c6c6c6", "#eef5e6", "#222222", "#6b6b6b", "#7a1fa2"
 # The stripes of a frame that nobody can take, as its node is offline.
 HATCHED = ('<defs><pattern id="offline" width="6" height="6" patternUnits="userSpaceOnUse" patternTransform="rotate(45)">'
-           '<rect width="6" height="6" fill="#e4e4e4"/><rect width="2" height="6" fill="#8a8a8a"/></pattern></defs>')
+           '<rect width="6" height="6" fill="#ececec"/><rect width="2" height="6" fill="#c4c4c4"/></pattern></defs>')
 
 Band = namedtuple("Band", "name frames node")  # its frames in ascending order; the node is None where it is not known
 Grid = namedtuple("Grid", "across width height")  # how many squares a row has, and how wide and high one is

@@ -144,6 +144,19 @@ class Manual(Case):
         self.run_here(code)
         self.assertEqual(len(load(os.path.join(self.there, "trace.json")).steps), 4)
 
+    def test_epochs(self):
+        whole = read("examples/epochs.py")
+        code, = blocks("from numalab import Machine\n\nwith")
+        self.assertEqual(whole.split("\n", 1)[1].strip(), code.strip())
+        self.assertLessEqual(len([line for line in code.splitlines() if line]), 20)
+        told, = re.findall("It prints `(.*?)`", read("docs/MANUAL.md"))
+        with mock.patch("builtins.print") as prints:
+            self.run_here(code)
+        self.assertEqual(str(prints.call_args[0][0]), told)
+        out = subprocess.run([COMMAND, "show", "--why", "epochs.nt"], cwd=self.there, capture_output=True, check=False)
+        self.assertEqual((out.returncode, out.stderr, out.stdout.count(b"# epoch ")), (0, b"", 20))
+        self.assertLess(len(out.stdout.splitlines()), 800)
+
     def test_earlier_calls(self):
         # What the manual showed before: keywords, and no `with`.
         self.run_here('from numalab import Machine\nm = Machine(nodes=[4, 4])\np = m.spawn(home=0)\na = p.map(pages=3)\np.write(a[0], b"a")\n'

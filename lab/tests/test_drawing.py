@@ -478,7 +478,7 @@ def check_shown():
     """The picture in docs/ is what is drawn."""
     path, example = (os.path.join(ROOT, name) for name in SHOWN)
     with open(path, encoding="utf-8") as file:
-        if file.read() != picture_of(example + ".report", example + ".json"):
+        if file.read() != picture_of(example + ".report", example + ".nt"):
             fail(f"{SHOWN[0]} is not what numalab picture draws of {SHOWN[1]}.report with its trace")
 
 
