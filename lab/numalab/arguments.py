@@ -89,12 +89,12 @@ class Words:
         except Wrong as wrong:
             raise ValueError(f"{what} is {shown(text)}: {wrong.text}") from None
 
-    def nodes(self, what, nodes):
-        """Nodes from a number, a set as numactl writes it, or several numbers."""
+    def nodes(self, what, nodes, allowed=None):
+        """Nodes from a number, a set as numactl writes it, or several numbers; `allowed` are those that the process may use."""
         if type(nodes) is int or hasattr(nodes, "__index__"):
             return [whole(what, nodes)]
         if isinstance(nodes, str):
-            return self.said(what, self.numbers.node_list, nodes)
+            return self.said(what, lambda word: self.numbers.node_list(word, allowed=allowed), nodes)
         return [whole(f"{what}[{k}]", node) for k, node in enumerate(items(what, nodes, "a node, a list of nodes, or a set such as \"0-2\""))]
 
     def node(self, what, node):

@@ -10,7 +10,7 @@ from difflib import get_close_matches
 from itertools import groupby
 
 from .jsontext import Other, first_fault, line_and_column
-from .words import FLAGS, MODES, counted, elements
+from .words import FLAGS, MODES, counted, elements, left_out_text
 
 HERE = os.path.dirname(os.path.abspath(__file__))
 # The schema is in docs/ of the repository; an installed package holds a copy.
@@ -155,6 +155,9 @@ def op_faults(path, ops, value):
     name, one_of = name_of(path + ("op",)), f"expected one of {', '.join(ops)}"
     if "op" not in value:
         return [Fault(path, f"{name} is missing: {one_of}")]
+    left_out = left_out_text(value["op"])
+    if left_out:
+        return [Fault(path + ("op",), f"{name} is {shown(value['op'])}: {left_out}")]
     return [Fault(path + ("op",), f"{name} is {shown(value['op'])}: {one_of}", close(value["op"], ops))]
 
 

@@ -26,7 +26,7 @@ from .reasons import Beside, refusal_text
 from .session import Fault, Session
 from .statements import machine_said, tier_distances
 from .traces import Bad, Trace, json_text, load, write_file
-from .words import PAGE
+from .words import PAGE, left_out_text
 
 MOVE, MOVE_ALL, STRICT = 2, 4, 1
 HERE = os.path.dirname(os.path.abspath(__file__))
@@ -90,11 +90,19 @@ class Area:
         return f"<area {self.name or ''} of {self.pages:,} pages at {self.address:#x}>".replace("  ", " ")
 
 
-class Process:
+class Modelled:
+    """What has calls as methods: asked for one that the model leaves out, it says so."""
+
+    def __getattr__(self, name):
+        left_out = left_out_text(name)
+        raise AttributeError(f"{type(self).__name__} has no {name}" + (f": {left_out}" if left_out else ""))
+
+
+class Process(Modelled):
     """A process, and the calls about it."""
 
-    def __init__(self, machine, pid, name):
-        self.machine, self.pid, self.name = machine, pid, name
+    def __init__(self, machine, pid, name=None, allowed=None):
+        self.machine, self.pid, self.name, self.allowed = machine, pid, name, allowed
 
     def __repr__(self):
         return f"<process {self.name + ', ' if self.name else ''}pid {self.pid}>"
@@ -158,7 +166,7 @@ class Process:
         address, length = (area.address, area.pages * PAGE) if isinstance(area, Area) else (area, length)
         words = self.machine._words
         return self.machine._step("mbind", caller=self.pid, addr=whole("mbind: area", address), len=whole("mbind: length", length),
-                                  mode=words.mode("mbind: mode", mode), nodes=words.nodes("mbind: nodes", nodes),
+                                  mode=words.mode("mbind: mode", mode), nodes=words.nodes("mbind: nodes", nodes, self.allowed),
                                   flags=words.flags("mbind: flags", flags))
 
     def pagemap(self):
@@ -168,7 +176,7 @@ class Process:
         return self._step("numa_maps")
 
 
-class Machine:
+class Machine(Modelled):
     """A machine of nodes, and the calls made on it so far. The nodes are their numbers of frames, such as [1200, 1200, 4096], or
     what follows `nodes` in the notation, such as "2x1200 + cxl 4096"; `names` names them. `program` is the path of numatrace_session
     where it is not the one in this repository or on the PATH."""
@@ -292,22 +300,23 @@ class Machine:
         more = {"privileged": True} if truth("spawn: privileged", privileged) else {}
         self._step("spawn", named, pid=number, uid=whole("spawn: uid", uid), home=self._words.node("spawn: home", home), allowed=nodes, **more)
         self._pid = max(self._pid, number)
-        self.processes.append(Process(self, number, name))
+        self.processes.append(Process(self, number, name, nodes))
         return self.processes[-1]
 
     def move_pages(self, process, pages, node=None, nodes=None, caller=None, flags=MOVE, during=None):
         """A batch: pages of a process to one node, or to several in turn, or with `nodes` each to its own. An element of during is
         (run, process, address, what), where what is the bytes to write or the length of a read."""
+        target = self._target(process, caller)
         pages = addresses("move_pages: pages", pages)
         if nodes is None:
-            turns = self._words.nodes("move_pages: node", node)
+            turns = self._words.nodes("move_pages: node", node, process.allowed)
             if not turns:
                 raise ValueError("move_pages: node is an empty set of nodes, which cannot be a target")
             nodes = turns * len(pages) if len(turns) == 1 else [turns[k % len(turns)] for k in range(len(pages))]
         else:
-            nodes = self._words.nodes("move_pages: nodes", nodes)
+            nodes = self._words.nodes("move_pages: nodes", nodes, process.allowed)
         more = {} if during is None else {"during": [self._flight(*access) for access in during]}
-        return self._step("move_pages", **self._target(process, caller), pages=pages, nodes=nodes,
+        return self._step("move_pages", **target, pages=pages, nodes=nodes,
                           flags=self._words.flags("move_pages: flags", flags), **more)
 
     @staticmethod
@@ -337,8 +346,9 @@ class Machine:
         return found
 
     def migrate_pages(self, process, old, new, caller=None):
-        return self._step("migrate_pages", **self._target(process, caller), old=self._words.nodes("migrate_pages: old", old),
-                          new=self._words.nodes("migrate_pages: new", new))
+        target = self._target(process, caller)
+        return self._step("migrate_pages", **target, old=self._words.nodes("migrate_pages: old", old, process.allowed),
+                          new=self._words.nodes("migrate_pages: new", new, process.allowed))
 
     def offline(self, node):
         return self._step("offline", node=self._words.node("offline: node", node))

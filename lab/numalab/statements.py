@@ -30,6 +30,14 @@ def machine_said(text):
     return made.top["machine"]
 
 
+def parts_of(word):
+    """Pages that are joined by commas without spaces, each with its column."""
+    column = word.column
+    for part in word.text.split(","):
+        yield part, column
+        column += len(part) + 1
+
+
 class Translation(Numbers):
     """A file in the notation, statement by statement, and the trace that it makes."""
 
@@ -39,6 +47,7 @@ class Translation(Numbers):
         self.tiers, self.rows, self.run_limit = [], [], None
         self.steps, self.alive, self.maps, self.next_address = [], [], 0, FIRST_ADDRESS
         self.most_pid, self.notes = 0, []  # the notes that no step follows yet
+        self.allowed = {}  # by pid: the nodes that the process may use
 
     @property
     def top(self):
@@ -136,6 +145,9 @@ class Translation(Numbers):
                 keys["privileged"] = option == "privileged"
             else:
                 words.done("pid", "uid", "home", "allowed", "privileged", "unprivileged")
+        alive = self.processes.get(word.text)
+        if alive in self.alive and "pid" not in keys and named:
+            raise Wrong(f"{word.text} is a process already, with pid {alive}: give this one another name, or the pid that it has", word.column)
         pid = keys.get("pid", self.number(word, U32) if NUMBER.fullmatch(word.text) else self.free_pid())
         self.processes[word.text], self.most_pid = pid, max(pid, self.most_pid)
         flag = {"privileged": keys["privileged"]} if "privileged" in keys else {}
@@ -143,6 +155,7 @@ class Translation(Numbers):
                   allowed=keys.get("allowed", list(range(len(self.nodes)))), **flag, **named)
         if pid not in self.alive:
             self.alive.append(pid)
+            self.allowed[pid] = self.steps[-1]["allowed"]
 
     def free_pid(self):
         return min(self.most_pid + 1, U32)
@@ -249,16 +262,17 @@ class Translation(Numbers):
         caller = self.pid(words.next("a process"))
         return caller, self.pid(words.next("a process")) if words.has("of") else 0
 
-    def entries(self, words, targets):
-        """The addresses of a batch, and their nodes where it has targets."""
+    def entries(self, words, targets, pid=None):
+        """The addresses of a batch, and their nodes where it has targets; the pages are those of a process."""
         addresses, nodes = [], []
         if words.has("none"):
             return addresses, nodes
         while True:
             word = words.next("a page")
-            addresses += self.addresses(word)
+            for part, column in parts_of(word):
+                addresses += self.addresses(Word(part, column))
             if targets and words.has("to"):
-                found = self.node_list(words.next("a node"))
+                found = self.node_list(words.next("a node"), allowed=self.allowed.get(pid))
                 if not found:
                     raise Wrong("an empty set of nodes cannot be a target", words.words[words.taken - 1].column)
                 nodes += [found[k % len(found)] for k in range(len(addresses) - len(nodes))]
@@ -272,7 +286,7 @@ class Translation(Numbers):
 
     def say_move_pages(self, words, during=None):
         caller, pid = self.target(words)
-        pages, nodes = self.entries(words, True)
+        pages, nodes = self.entries(words, True, pid or caller)
         flags = self.flags(words.next("flags")) if words.has("flags") else 2
         words.has("during")
         words.done("flags", "during")
@@ -298,10 +312,11 @@ class Translation(Numbers):
 
     def say_migrate_pages(self, words):
         caller, pid = self.target(words)
+        allowed = self.allowed.get(pid or caller)
         words.need("from")
-        old = self.node_list(words.next("a set of nodes"))
+        old = self.node_list(words.next("a set of nodes"), allowed=allowed)
         words.need("to")
-        new = self.node_list(words.next("a set of nodes"))
+        new = self.node_list(words.next("a set of nodes"), allowed=allowed)
         words.done()
         self.step(op="migrate_pages", caller=caller, pid=pid, old=old, new=new)
 
@@ -318,7 +333,7 @@ class Translation(Numbers):
             if length > MOST:
                 raise Wrong(f"{word.text} has more than 2^64 bytes", word.column)
         mode = self.mode(words.next("a mode, such as MPOL_BIND"))
-        nodes = self.node_list(words.next("a set of nodes")) if words.peek() not in (None, "flags") else []
+        nodes = self.node_list(words.next("a set of nodes"), allowed=self.allowed.get(caller)) if words.peek() not in (None, "flags") else []
         flags = self.flags(words.next("flags")) if words.has("flags") else 0
         words.done("flags")
         self.step(op="mbind", caller=caller, addr=address, len=length, mode=mode, nodes=nodes, flags=flags)

@@ -5,7 +5,7 @@ from .answers import Refusal, answer_of
 from .names import Names, notes_of
 from .notate import BY_PAGE, MOST_APART, Notator, stretches
 from .report import is_refused, node_ranges
-from .traces import Bad
+from .traces import Bad, left_out_of
 from .words import PAGE, counted, status_text
 
 WIDTH, MOST_BYTES, MOST_RANGES, MOST_ROWS, MOST_ENTRIES = 58, 24, 12, 64, 16
@@ -145,6 +145,7 @@ class Table:
     def rows(self, lines, reasons=None):
         """The lines for all steps, those of equal steps together; after each step its number."""
         group = []
+        yield from ((0, self.note(f"left out when it was recorded: {what}")) for what in left_out_of(self.top))
         for k, line in enumerate(lines):
             if group and not self.continues(group, k, lines):
                 yield from self.told(group, lines, reasons)

@@ -75,6 +75,21 @@ class Calls(Case):
             self.assertEqual(caught.exception.errno, number)
         self.assertEqual([process.pid for process in m.processes], [1])
 
+    def test_relative_nodes(self):
+        m = self.machine("4 + cxl 4, 4")
+        p = m.spawn(allowed="!cxl")
+        a = p.map(2)
+        p.touch(a, write=True)
+        self.assertEqual((p.allowed, m.move_pages(p, a, node="0").statuses), ([0, 2], [0, 0]))
+        q = m.spawn(allowed=[1, 2])
+        b = q.map(2, addr=0x80000)
+        self.assertEqual(q.touch(b, write=True), [1, 1])
+        self.assertEqual(m.move_pages(q, b, node="+1").statuses, [2, 2])
+        self.assertEqual(m.migrate_pages(q, "+1", "+0"), answers.Migrated(0))
+        self.assertEqual(q.mbind(b, "MPOL_BIND", "+0", "MPOL_MF_STRICT"), answers.Bound())
+        with self.assertRaisesRegex(ValueError, r"move_pages: node is '\+2': \+2 is past the last of the 2 nodes that the process may use"):
+            m.move_pages(q, b, node="+2")
+
     def test_no_calls(self):
         m, p, a = self.three_pages()
         for call, kind, words in [
@@ -186,6 +201,13 @@ class Calls(Case):
         top = load(os.path.join(self.there, "x.json")).check().top
         self.assertEqual((top["machine"]["names"], top["note_at_end"]), (["dram", "cxl"], "end"))
         self.assertEqual([(step.get("name"), step.get("note")) for step in top["steps"]], [("app", None), ("heap", "before\nthe heap")])
+
+    def test_left_out(self):
+        m, p, _ = self.three_pages()
+        with self.assertRaisesRegex(AttributeError, "Process has no set_mempolicy: the model leaves out the policy of a process: docs/LINUX.md"):
+            p.set_mempolicy("MPOL_BIND", 1)
+        with self.assertRaisesRegex(AttributeError, "^Machine has no move_page$"):
+            m.move_page(p, 0)
 
     def test_look(self):
         m, _, _ = self.three_pages()

@@ -40,6 +40,16 @@ SAID = [
     ("move_pages p A[0] to 1 during # now\n  read p A[0]\n\n  run 0 write p A[1] 61 # and\nend", [
         {"op": "move_pages", "caller": 1, "pid": 0, "pages": [0x10000], "nodes": [1], "flags": 2, "during": [
             {"run": 0, "op": "read", "pid": 1, "addr": 0x10000, "len": 1}, {"run": 0, "op": "write", "pid": 1, "addr": 0x11000, "data": "61"}]}]),
+    ("move_pages p A[-1],A[:-3] to 1", [
+        {"op": "move_pages", "caller": 1, "pid": 0, "pages": [0x13000, 0x10000], "nodes": [1, 1], "flags": 2}]),
+    ("spawn q allowed 1\nmove_pages p of q A[0] to +0", [{"op": "spawn", "pid": 2, "uid": 1000, "home": 0, "allowed": [1]}, {
+        "op": "move_pages", "caller": 1, "pid": 2, "pages": [0x10000], "nodes": [1], "flags": 2}]),
+    ("migrate_pages p from +0 to +1\nmbind p A MPOL_BIND !+0", [
+        {"op": "migrate_pages", "caller": 1, "pid": 0, "old": [0], "new": [1]},
+        {"op": "mbind", "caller": 1, "addr": 0x10000, "len": 16384, "mode": 2, "nodes": [1], "flags": 0}]),
+    ("query p A[-3:-1]", [{"op": "query", "caller": 1, "pid": 0, "pages": [0x11000, 0x12000], "flags": 0}]),
+    ("exit p\nspawn p", [{"op": "exit", "pid": 1}, {"op": "spawn", "pid": 2, "uid": 1000, "home": 0, "allowed": [0, 1]}]),
+    ("spawn p pid 1", [{"op": "spawn", "pid": 1, "uid": 1000, "home": 0, "allowed": [0, 1]}]),
     ("query p none", [{"op": "query", "caller": 1, "pid": 0, "pages": [], "flags": 0}]),
     ("migrate_pages p from all to !0", [{"op": "migrate_pages", "caller": 1, "pid": 0, "old": [0, 1], "new": [1]}]),
     ("mbind p A[0:2] MPOL_LOCAL", [{"op": "mbind", "caller": 1, "addr": 0x10000, "len": 8192, "mode": 4, "nodes": [], "flags": 0}]),
@@ -79,12 +89,22 @@ note "ends"
 # Lines after the head, and what is said of them: line, column and words.
 WRONG = [
     ("wirte p A 61", [(4, 1, "wirte is not a statement: did you mean write?")]),
+    ("read p A[0:9]", [(4, 8, "A[0:9] ends past the last page: A has 4 pages, A[0] to A[3]")]),
+    ("read p A[4]", [(4, 8, "A[4] is past the last page: A has 4 pages, A[0] to A[3]")]),
+    ("read p A[-5]", [(4, 8, "A[-5] is before the first page: A has 4 pages, A[0] to A[3]")]),
+    ("read p 0x10000[-1]", [(4, 8, "0x10000[-1] counts from an end, which only an area with a name has")]),
+    ("move_pages p A[0] to 1,A[1] to 0", [(4, 22, "A[1] is not a node: further pages follow after a comma and a space")]),
+    ("spawn p home 1", [(4, 7, "p is a process already, with pid 1: give this one another name, or the pid that it has")]),
+    ("set_mempolicy p MPOL_BIND 1", [(4, 1, "set_mempolicy is not a statement: the model leaves out the policy of a process: docs/LINUX.md, 'Left out'")]),
+    ("fork p", [(4, 1, "fork is not a statement: the model leaves out fork and copy on write: docs/LINUX.md, 'Left out'")]),
+    ("hugepages p A", [(4, 1, "hugepages is not a statement: the model leaves out huge pages: docs/LINUX.md, 'Left out'")]),
+    ("migrate_pages p from +0 to +2", [(4, 28, "+2 is past the last of the 2 nodes that the process may use")]),
+    ("free +0", [(4, 6, "+0 counts the nodes that a process may use, and here no process is known")]),
     ("read q A", [(4, 6, "there is no process q")]),
     ("note x", [(4, 6, 'x is not a text in quotes, such as "the second phase"')]), ("note", [(4, 5, 'a text, such as "the second phase" is missing')]),
     ('note "\\ud800"', [(4, 6, '"\\ud800" is not a valid text')]),
     ("read p B", [(4, 8, "there is no area B")]),
-    ("read p A[4]", [(4, 8, "A[4] is past the last of 4 pages")]),
-    ("read p A[0:5]", [(4, 8, "A[0:5] is not a range of pages of the area")]),
+    ("read p A[4:4:0]", [(4, 8, "A[4:4:0] is not a range of pages of the area")]),
     ("read p A[0:2]+1", [(4, 8, "A[0:2]+1 has a byte offset for more than one page")]),
     ("read p 0x10000[*]", [(4, 8, "[*] is only for an area with a name")]),
     ("read p A[0", [(4, 8, "A[0 does not name pages")]),
@@ -110,7 +130,7 @@ WRONG = [
     ("end", [(4, 1, "end without a block")]),
     ("repeat 3\nread q A\nend", [(5, 6, "there is no process q")]),
     ("move_pages p A[0] to 1 during\npin p A[0]\nend", [(5, 1, "pin is neither read nor write")]),
-    ("look now\nread p A[9]\nlok", [(4, 6, "now is not expected here"), (5, 8, "A[9] is past the last of 4 pages"),
+    ("look now\nread p A[9]\nlok", [(4, 6, "now is not expected here"), (5, 8, "A[9] is past the last page: A has 4 pages, A[0] to A[3]"),
                                      (6, 1, "lok is not a statement: did you mean look?")]),
     ("write p 0[0:99999999999999] 61", [(4, 9, "the trace would have more than 16,777,216 bytes")]),
     ("read p 18446744073709551615[0:2]", [(4, 8, "18446744073709551615[0:2] is past the last address")]),

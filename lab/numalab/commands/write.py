@@ -32,7 +32,7 @@ def without(keys, top):
 def text_of(path, asked, ending):
     """The text to write for a file."""
     data = read_file(path)
-    back = asked.back or path.endswith(".json")
+    back = asked.back or path.endswith(".json") or path == "-" and data.lstrip()[:1] in (b"{", b"[")
     top = Trace(path, data).check().top if back else trace_from(data, path)
     if ending == ".nt":
         return notation_of(Form(), top)
