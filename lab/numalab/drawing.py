@@ -14,7 +14,7 @@ from itertools import groupby
 from .notate import node_labels
 from .report import Layout, moments_of, read_report
 from .traces import Bad
-from .words import printable
+from .words import PAGE, printable
 
 MOST_SQUARES = 200000
 MOST_TOLD, MOST_LETTERS = 20, 60  # how many accesses in flight a tooltip lists, and how much of each
@@ -87,11 +87,18 @@ def process_text(process, names):
     return names.process_text(process) if names else f"process {process}"
 
 
+def place_text(process, number, names):
+    """A page by its area, where that has a name, or by its number."""
+    named = names and names.area_at(process, number * PAGE)
+    return names.place(process, number * PAGE) if named else f"page {number:x}"
+
+
 def seen_texts(pages, names=None):
     """Where pages are seen, each once. With the trace, a process that the report looks at twice counts as one."""
     pages = sorted(set(pages), key=lambda page: (page[0] or 0, page[1], page[2] or 0))
-    seen = [(number, f"the process of step {step}" if process is None else process_text(process, names)) for process, number, step in pages]
-    return ", ".join(f"page {number:x} of {process}" for number, process in seen)
+    seen = [(place_text(process, number, names), f"the process of step {step}" if process is None else process_text(process, names))
+            for process, number, step in pages]
+    return ", ".join(f"{place} of {process}" for place, process in seen)
 
 
 def square_of(moment, frame, node, names):

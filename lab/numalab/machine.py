@@ -256,23 +256,26 @@ class Machine(Modelled):
         return self._answered(lines)
 
     def _steps(self, steps):
-        """Makes several calls, which are sent in blocks; raises the first refusal when all are made."""
-        for step in steps:
-            for fault in step_faults(self._form, step, MOST_ENTRIES):
-                raise Bad(fault.text)
+        """Makes several calls, which are sent in blocks; raises what is wrong with the first that is none, or else the first
+        refusal, when all are made."""
         self._session.check()
         try:
             replies = self._session.steps(steps)
-        finally:
+        except BaseException:
             self._record(steps)
-        refusals = []
-        for lines in replies:
+            raise
+        self._record([step for step, lines in zip(steps, replies) if not isinstance(lines, Fault)])
+        wrong, refusals = [], []
+        for step, lines in zip(steps, replies):
             try:
-                self._answered(lines)
+                if isinstance(lines, Fault):
+                    wrong.append(self._no_step(step))
+                else:
+                    self._answered(lines)
             except Refused as refusal:
                 refusals.append(refusal)
-        if refusals:
-            raise refusals[0]
+        for error in [*wrong, *refusals]:
+            raise error
 
     def _answered(self, lines):
         """Notes the lines of a step, and returns its answer."""

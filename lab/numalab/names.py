@@ -32,17 +32,21 @@ class Names:
 
     def __init__(self, top):
         self.nodes = node_names(top)
-        # The name of a process by its pid, and the areas with a name of each, the latest first, as (name, address, pages).
-        self.processes, self.areas = {}, {}
+        # The name of a process by its pid, those that have ended, and the areas of each, the latest first, as (name, address, pages).
+        self.processes, self.gone, self.areas = {}, set(), {}
 
     def made(self, step):
         """Notes a step that was made."""
         if step["op"] == "spawn":
+            self.gone.discard(step["pid"])
             self.areas.pop(step["pid"], None)
             self.processes[step["pid"]] = step["name"] if is_name(step.get("name")) else None
+        elif step["op"] == "exit":
+            self.gone.add(step["pid"])
         elif step["op"] in ("map", "attach"):
             name = step["name"] if is_name(step.get("name")) else None
-            if step["pages"] < MOST_NAMED and step["addr"] % PAGE == 0:
+            # (an area without a name counts only where it may cover one that has a name)
+            if (name or step["pid"] in self.areas) and step["pages"] < MOST_NAMED and step["addr"] % PAGE == 0:
                 self.areas.setdefault(step["pid"], []).insert(0, (name, step["addr"], step["pages"]))
 
     def process(self, pid):
@@ -50,7 +54,8 @@ class Names:
         name = self.processes.get(pid)
         if name is None:
             return str(pid)
-        return name if list(self.processes.values()).count(name) == 1 else f"{name} ({pid})"
+        others = [other for other, one in self.processes.items() if one == name and other != pid and other not in self.gone]
+        return f"{name} ({pid})" if others else name
 
     def process_text(self, pid):
         """A process in a sentence."""

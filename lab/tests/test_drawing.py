@@ -425,7 +425,7 @@ def check_named(there):
     svg = ElementTree.fromstring(picture_of(written(there, "named.report", report), written(there, "named.nt", text)))
     check_geometry("names", svg)
     told = [f"{square.kind} {square.tip}" for square in in_columns(squares_of(svg))]
-    if told != ["held frame 0: page 10 of app (process 1); pinned", "free frame 1: free, number 1 of its node's list",
+    if told != ["held frame 0: heap[0] of app (process 1); pinned", "free frame 1: free, number 1 of its node's list",
                 "offline frame 2: free, number 1 of its node's list, but the node is offline",
                 "offline frame 3: free, number 2 of its node's list, but the node is offline"]:
         fail(f"names, pins and nodes that are offline are drawn as {told}")

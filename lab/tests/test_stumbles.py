@@ -112,7 +112,11 @@ class Installed(Case):
         code = "import numalab\nwith numalab.Machine([4]) as m:\n    print(numalab.__file__, m.free(0).frames)"
         told = started("-c", code, command=sys.executable, environment=self.environment, folder="/")
         self.assertEqual(told, (0, f"{self.prefix}/lib/numatrace/lab/numalab/__init__.py [0, 1, 2, 3]\n", ""))
-        self.assertTrue(os.path.exists(os.path.join(self.prefix, "share/man/man1/numalab.1.gz")))
+        page = os.path.join(self.prefix, "share/man/man1/numalab.1.gz")
+        self.assertTrue(os.path.exists(page))
+        if shutil.which("man"):
+            told = started("-w", "numalab", command="man", environment={**self.environment, "MANPATH": os.path.join(self.prefix, "share/man")})
+            self.assertEqual(told[1], page + "\n")
         bin_of = os.path.join(self.prefix, "bin")
         self.assertIn("plays a trace step by step", started("--help", command=f"{bin_of}/numatrace-session")[1].lower())
         self.assertEqual(started("--hlep", command=f"{bin_of}/numatrace-session"), (
