@@ -19,7 +19,7 @@ import sys
 from . import answers, arguments
 from .arguments import addresses, data_bytes, name_or_none, truth, whole
 from .faults import MOST_ENTRIES, Form, machine_faults, step_faults
-from .notate import notation_of
+from .notate import head_of, notation_of
 from .notation import FIRST_ADDRESS, next_free
 from .program import Failed, played
 from .reasons import Beside, refusal_text
@@ -64,8 +64,9 @@ def refused(number, machine, step):
 class Area:
     """Adjacent pages of a process: a[0] is the address of the first; a[:], a[::2], a[range(3)] and a[[5, 7]] are lists of addresses."""
 
-    def __init__(self, process, address, pages, segment, name):
-        self.process, self.address, self.pages, self.segment, self.name = process, address, pages, segment, name
+    def __init__(self, process, address, pages, segment, offset=0, name=None):
+        self.process, self.address, self.pages, self.name = process, address, pages, name
+        self.segment, self.offset = segment, offset
 
     def __len__(self):
         return self.pages
@@ -116,10 +117,10 @@ class Process(Modelled):
         return self._area("map", whole("map: pages", pages), name, addr, more)
 
     def attach(self, segment, pages=None, offset=0, addr=None, name=None):
-        """An area over a shared segment, given by its number or by an area that shows it from its first page on."""
+        """An area over a shared segment, given by its number, or over the pages that an area shows; the offset is in pages."""
         offset = whole("attach: offset", offset)
         if isinstance(segment, Area):
-            pages, segment = segment.pages - offset if pages is None else pages, segment.segment
+            pages, offset, segment = segment.pages - offset if pages is None else pages, segment.offset + offset, segment.segment
         more = {"segment": whole("attach: segment", segment), "offset": offset}
         return self._area("attach", whole("attach: pages", pages), name, addr, more)
 
@@ -127,7 +128,7 @@ class Process(Modelled):
         place = self.machine._place(pages, addr if addr is None else whole(f"{op}: addr", addr))
         named = {"name": name} if name_or_none(f"{op}: name", name) else {}
         answer = self.machine._step(op, named, pid=self.pid, addr=place, pages=pages, **more)
-        return Area(self, place, pages, answer.segment if op == "map" else more["segment"], name)
+        return Area(self, place, pages, answer.segment if op == "map" else more["segment"], more.get("offset", 0), name)
 
     def unmap(self, pages, count=None):
         """Unmaps an area, or `count` pages from an address on."""
@@ -198,7 +199,7 @@ class Machine(Modelled):
     def of_trace(cls, path, program=None):
         """The machine that a trace or a file in the notation has, on which no call is made yet."""
         machine = cls.__new__(cls)
-        machine._begin({**load(str(path)).check().top, "steps": []}, program)
+        machine._begin(head_of(Form(), load(str(path)).check().top), program)
         return machine
 
     def _begin(self, top, program):

@@ -312,6 +312,11 @@ def known_keys(form, top, said=()):
     return {**kept(top, form.top, limit), "machine": kept(top["machine"], form.top["properties"]["machine"]), "steps": steps}
 
 
+def head_of(form, top):
+    """The machine of a good trace, with names, as a trace without steps."""
+    return known_keys(form, {**top, "steps": []}, ("names",))
+
+
 def notation_of(form, top):
     """The notation of a good trace, which gives the same trace again, except for keys that the program ignores."""
     return Notator(known_keys(form, top, SAID)).whole()

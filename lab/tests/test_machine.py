@@ -134,6 +134,11 @@ class Calls(Case):
         b = q.attach(a, addr=0x70000)
         c = p.map(2)
         p.write(a[0], b"x")
+        last = q.attach(a, offset=1, addr=0x90000)
+        again = p.attach(last, addr=0xa0000)
+        self.assertEqual((last.pages, last.offset, again.segment, again.offset), (1, 1, 0, 1))
+        for area in (last, again):
+            self.assertEqual(area.process.unmap(area), answers.Done())
         self.assertEqual((bytes(q.read(b[0])), a.segment, len(b), list(b)), (b"x", 0, 2, [0x70000, 0x71000]))
         p.pin(a[0])
         self.assertEqual(m.move_pages(p, a, nodes=[2, 2], caller=q, flags="MPOL_MF_MOVE_ALL"), answers.Moved(1, [-16, -2], []))
@@ -185,10 +190,11 @@ class Calls(Case):
         self.assertEqual(m.why(m.vmstat()), [])
 
     def test_a_machine_of_a_file(self):
-        path = self.written("machine.nt", "nodes dram 2x4 + cxl 8\nspawn p\n")
+        path = self.written("machine.nt", "nodes dram 2x4 + cxl 8\nspawn p\nnote \"ends\"\n")
         m = Machine.of_trace(path, program=PROGRAM)
         self.addCleanup(m.close)
         self.assertEqual((m.trace()["machine"]["names"], m.free("cxl").frames[0], len(m.trace()["steps"])), (["dram", "dram", "cxl"], 8, 1))
+        self.assertEqual(set(m.trace()), {"version", "machine", "steps"})
 
     def test_names_and_notes(self):
         m = self.machine([4, 4], names=["dram", "cxl"])

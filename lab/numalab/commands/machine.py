@@ -9,7 +9,7 @@ import os
 from ..faults import MOST_FRAMES, Form, machine_faults
 from ..machine_picture import picture_of
 from ..machines import NODES, checked_scale, of_bytes, of_folder, scaled
-from ..notate import Notator, known_keys
+from ..notate import Notator, head_of
 from ..traces import Bad, json_text, looks_like_trace, read_file, trace_of, write_file
 
 SUMMARY = "a trace's machine from numactl -H, hwloc or sysfs, or its picture"
@@ -31,7 +31,7 @@ def top_of(asked):
         data = read_file(asked.file)
         if looks_like_trace(asked.file, data) and not data.lstrip().startswith((b"available", b"node ")):
             top = trace_of(asked.file, data).check().top
-            return {**known_keys(Form(), top, ("names",)), "steps": []}, []
+            return head_of(Form(), top), []
         machine, notes = scaled(of_bytes(data, asked.file), asked.scale, asked.frames)
     top = {"version": 1, "machine": machine, "steps": []}
     for fault in machine_faults(Form(), top):
