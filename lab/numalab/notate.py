@@ -159,6 +159,8 @@ class Notator:
 
     def tell_spawn(self, step):
         pid, usual = step["pid"], self.most_pid + 1
+        if pid in self.gone:
+            self.areas.pop(pid, None)
         self.gone.discard(pid)
         name = self.free_name(step, f"p{pid}", [name for other, name in self.pids.items() if other != pid and other not in self.gone])
         self.pids = {**{other: one for other, one in self.pids.items() if one != name}, pid: name}
@@ -170,10 +172,7 @@ class Notator:
 
     def new_area(self, step):
         """Gives an area a name."""
-        taken = [area[0] for pid, areas in self.areas.items() if pid not in self.gone for area in areas]
-        name = self.free_name(step, area_name(self.named), taken)
-        for pid in self.gone:
-            self.areas[pid] = [area for area in self.areas.get(pid, []) if area[0] != name]
+        name = self.free_name(step, area_name(self.named), [area[0] for area in self.areas.get(step["pid"], ())])
         self.named += name == area_name(self.named)
         if step["pages"] < MOST_NAMED and step["addr"] % PAGE == 0:
             self.areas.setdefault(step["pid"], []).insert(0, (name, step["addr"], step["pages"]))

@@ -91,7 +91,8 @@ class Numbers:
 
     def __init__(self):
         self.nodes, self.node_names = [], {}
-        self.processes, self.areas, self.variables = {}, {}, {}
+        # Areas by their names, and the same of each process, by pid and name.
+        self.processes, self.areas, self.own_areas, self.variables = {}, {}, {}, {}
 
     def number(self, word, most=MOST):
         """A number: sums and products of numbers, sizes and what `repeat` counts."""
@@ -199,13 +200,13 @@ class Numbers:
 
     # ---- places
 
-    def place(self, word):
-        """Pages, or one address: A, A[*], A[3], A[0:10:2], 0x10000, 0x10000[0:5]; after a page, +N is a byte of it."""
+    def place(self, word, pid=None):
+        """Pages of a process, or one address: A, A[*], A[3], A[0:10:2], 0x10000, 0x10000[0:5]; after a page, +N is a byte of it."""
         match = PLACE.fullmatch(word.text)
         if not match:
             raise Wrong(f"{word.text} does not name pages", word.column)
         base, inside, offset = match.groups()
-        area = self.areas.get(base)
+        area = self.own_areas.get((pid, base), self.areas.get(base))
         if area is None and not NUMBER.fullmatch(base):
             raise Wrong(f"there is no area {base}{guessed(base, self.areas)}", word.column)
         address = area.address if area else self.number(Word(base, word.column))
@@ -252,16 +253,16 @@ class Numbers:
             raise Wrong(f"{word.text} ends past the last page: {pages_told(word, area)}", word.column)
         return range(first or 0, max(end, first or 0), step or 1), False
 
-    def addresses(self, word):
+    def addresses(self, word, pid=None):
         """The addresses of a place, at most as many as a batch may have."""
-        pages = self.place(word)
+        pages = self.place(word, pid)
         if count(pages) > MOST_ENTRIES:
             raise Wrong(f"{word.text} is {counted(count(pages), 'page')}, and a batch has at most {MOST_ENTRIES:,}", word.column)
         return [pages.address + number * PAGE for number in pages.numbers]
 
-    def stretch(self, word):
+    def stretch(self, word, pid=None):
         """The first address and the number of pages of a place without gaps."""
-        pages = self.place(word)
+        pages = self.place(word, pid)
         if pages.numbers.step != 1:
             raise Wrong(f"{word.text} has gaps, where adjacent pages are expected", word.column)
         return pages.address + pages.numbers.start * PAGE, count(pages)

@@ -156,6 +156,7 @@ class Translation(Numbers):
         if pid not in self.alive:
             self.alive.append(pid)
             self.allowed[pid] = self.steps[-1]["allowed"]
+            self.own_areas = {key: area for key, area in self.own_areas.items() if key[0] != pid}
 
     def free_pid(self):
         return min(self.most_pid + 1, U32)
@@ -175,10 +176,10 @@ class Translation(Numbers):
                 words.done(*known)
         return keys
 
-    def new_area(self, name, keys, pages, segment, offset):
-        """Gives an area its name and its address, which is a new one where none is given."""
-        address = keys.get("at", self.next_address)
-        self.areas[name] = Area(address, pages, segment, offset)
+    def new_area(self, pid, name, keys, area):
+        """Gives an area of a process its name and its address, which is a new one where none is given."""
+        address, pages = keys.get("at", self.next_address), area.pages
+        self.areas[name] = self.own_areas[pid, name] = area._replace(address=address)
         self.next_address = next_free(address, pages, self.next_address)
         return address
 
@@ -188,7 +189,7 @@ class Translation(Numbers):
         words.has("pages")
         keys = self.area_options(words, ("shared", "private"))
         flag = {"shared": keys["shared"]} if "shared" in keys else {}
-        self.step(op="map", pid=pid, addr=self.new_area(name, keys, pages, self.maps, 0), pages=pages, **flag, name=name)
+        self.step(op="map", pid=pid, addr=self.new_area(pid, name, keys, Area(0, pages, self.maps, 0)), pages=pages, **flag, name=name)
         self.maps += 1
 
     def say_attach(self, words):
@@ -205,17 +206,17 @@ class Translation(Numbers):
             segment = self.number(words.next("the number of a segment"))
             keys = self.area_options(words, ("offset", "pages"))
             offset, pages = keys.get("offset", 0), keys.get("pages", 1)
-        address = self.new_area(name, keys, pages, segment, offset)
+        address = self.new_area(pid, name, keys, Area(0, pages, segment, offset))
         self.step(op="attach", pid=pid, addr=address, segment=segment, offset=offset, pages=pages, name=name)
 
     def say_unmap(self, words):
         pid = self.pid(words.next("a process"))
         word = words.next("pages")
         if words.has("pages"):
-            place = self.place(word)
+            place = self.place(word, pid)
             address, pages = place.address + place.numbers.start * PAGE, self.page_count(words.next("a number of pages"))
         else:
-            address, pages = self.stretch(word)
+            address, pages = self.stretch(word, pid)
         words.done("pages")
         self.step(op="unmap", pid=pid, addr=address, pages=pages)
 
@@ -238,12 +239,12 @@ class Translation(Numbers):
     def say_pin(self, words):
         op, pid, word = words.words[0].text, self.pid(words.next("a process")), words.next("a page")
         words.done()
-        self.each(self.place(word), word.column, op=op, pid=pid, addr=0)
+        self.each(self.place(word, pid), word.column, op=op, pid=pid, addr=0)
 
     def access(self, op, words):
         """The keys of a read or a write without its address, and its pages."""
         pid, word = self.pid(words.next("a process")), words.next("a page")
-        pages = self.place(word)
+        pages = self.place(word, pid)
         if op == "read":
             more = {"len": self.number(words.next("a number of bytes")) if words.has("len") else 1}
         else:
@@ -270,7 +271,7 @@ class Translation(Numbers):
         while True:
             word = words.next("a page")
             for part, column in parts_of(word):
-                addresses += self.addresses(Word(part, column))
+                addresses += self.addresses(Word(part, column), pid)
             if targets and words.has("to"):
                 found = self.node_list(words.next("a node"), allowed=self.allowed.get(pid))
                 if not found:
@@ -305,7 +306,7 @@ class Translation(Numbers):
 
     def say_query(self, words):
         caller, pid = self.target(words)
-        pages, _ = self.entries(words, False)
+        pages, _ = self.entries(words, False, pid or caller)
         flags = self.flags(words.next("flags")) if words.has("flags") else 0
         words.done("flags")
         self.step(op="query", caller=caller, pid=pid, pages=pages, flags=flags)
@@ -323,12 +324,12 @@ class Translation(Numbers):
     def say_mbind(self, words):
         caller, word = self.pid(words.next("a process")), words.next("pages")
         if words.has("len"):
-            pages = self.place(word)
+            pages = self.place(word, caller)
             if not pages.single:
                 raise Wrong(f"{word.text} is more than one page: len takes a single address", word.column)
             address, length = pages.address + pages.numbers[0] * PAGE, self.number(words.next("a number of bytes"))
         else:
-            address, length = self.stretch(word)
+            address, length = self.stretch(word, caller)
             length *= PAGE
             if length > MOST:
                 raise Wrong(f"{word.text} has more than 2^64 bytes", word.column)

@@ -84,9 +84,13 @@ def is_notation(path, data=b""):
     return path.endswith(".nt") or path == "-" and (data.lstrip()[:1].isalpha() or data.lstrip()[:1] == b"#")
 
 
+def looks_like_json(data):
+    return data.lstrip()[:1] in (b"{", b"[")
+
+
 def looks_like_trace(path, data):
     """Whether a file is a trace, and not a report: a report begins with a digit."""
-    return is_notation(path, data) or data.lstrip()[:1] in (b"{", b"[")
+    return is_notation(path, data) or looks_like_json(data)
 
 
 def trace_of(path, data):

@@ -48,6 +48,10 @@ SAID = [
         {"op": "migrate_pages", "caller": 1, "pid": 0, "old": [0], "new": [1]},
         {"op": "mbind", "caller": 1, "addr": 0x10000, "len": 16384, "mode": 2, "nodes": [1], "flags": 0}]),
     ("query p A[-3:-1]", [{"op": "query", "caller": 1, "pid": 0, "pages": [0x11000, 0x12000], "flags": 0}]),
+    ("spawn q\nmap q A 1\nmap q B 1\nquery p A[3]\nquery p B\nquery q A", [
+        {"op": "spawn", "pid": 2, "uid": 1000, "home": 0, "allowed": [0, 1]}, {"op": "map", "pid": 2, "addr": 0x20000, "pages": 1},
+        {"op": "map", "pid": 2, "addr": 0x30000, "pages": 1}, {"op": "query", "caller": 1, "pid": 0, "pages": [0x13000], "flags": 0},
+        {"op": "query", "caller": 1, "pid": 0, "pages": [0x30000], "flags": 0}, {"op": "query", "caller": 2, "pid": 0, "pages": [0x20000], "flags": 0}]),
     ("exit p\nspawn p", [{"op": "exit", "pid": 1}, {"op": "spawn", "pid": 2, "uid": 1000, "home": 0, "allowed": [0, 1]}]),
     ("spawn p pid 1", [{"op": "spawn", "pid": 1, "uid": 1000, "home": 0, "allowed": [0, 1]}]),
     ("query p none", [{"op": "query", "caller": 1, "pid": 0, "pages": [], "flags": 0}]),
@@ -249,10 +253,10 @@ class Back(Case):
         top["steps"][0]["name"], top["steps"][1]["name"] = "all", ["h"]
         self.assertEqual(notation_of(Form(), top), (
             "nodes 2x4\nspawn p1 uid 1000 home 0\nmap p1 A 2\nspawn b uid 1000 home 0\nmap b h 2\nread b h[*]\nexit b\n"
-            "spawn b pid 9 uid 1000 home 0\nunmap p1 0x20000 pages 2\nmap p1 h 1\n"))
+            "spawn b pid 9 uid 1000 home 0\nunmap p1 A[*]\nmap p1 h 1\n"))
         top["steps"][0]["name"], top["steps"][1]["name"] = "b", "h"
         self.assertEqual(notation_of(Form(), top).splitlines()[1:5], [
-            "spawn b uid 1000 home 0", "map b h 2", "spawn b_2 uid 1000 home 0", "map b_2 h_2 2"])
+            "spawn b uid 1000 home 0", "map b h 2", "spawn b_2 uid 1000 home 0", "map b_2 h 2"])
 
     def test_notes(self):
         text = 'nodes 4\nrepeat 2 as i\nnote "turn {i}, \\"{j}\\""\nfree 0\nend\nnote "a"\nnote "b"\n'

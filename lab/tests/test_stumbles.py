@@ -42,7 +42,7 @@ class Commands(Case):
         self.assertEqual(self.said("why", "-", given=text), (0, "good"))
         self.assertEqual(self.said("why", given=HEAD + "raed p A\n"), (2, "-:4:1: raed is not a statement: did you mean read?"))
         self.assertEqual(run("write", "--no-places", given=text)[1], run("write", "--no-places", f"{ROOT}/examples/three_pages.nt")[1])
-        self.assertEqual(json.loads(run("write", given=read("examples/three_pages.json"))[1]), json.loads(read("examples/three_pages.json")))
+        self.assertEqual(run("write", given=read("examples/three_pages.json")), run("write", "--from", f"{ROOT}/examples/three_pages.json"))
         self.assertTrue(run("picture", "-", report, given=text)[1].startswith("<svg"))
 
     def test_pages_of_an_area(self):
