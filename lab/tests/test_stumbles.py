@@ -98,7 +98,8 @@ class Installed(Case):
             os.makedirs(os.path.join(self.clone, "crates", name, "out"))
             path = self.written(f"clone/crates/{name}/out/{name}", f'#!/bin/sh\nexec {sys.executable} {PROGRAM}\n' if "session" in name else "#!/bin/sh\ncat\n")
             os.chmod(path, stat.S_IRWXU)
-        self.environment = {**os.environ, "PYTHONUSERBASE": self.prefix, "PYTHONDONTWRITEBYTECODE": "1"}
+        self.environment = {**os.environ, "PYTHONUSERBASE": self.prefix, "PYTHONDONTWRITEBYTECODE": "1",
+                            "PATH": os.path.dirname(sys.executable) + os.pathsep + os.environ["PATH"]}
         for name in ("NUMATRACE", "NUMATRACE_SESSION", "PYTHONPATH", "PYTHONNOUSERSITE"):
             self.environment.pop(name, None)
 
