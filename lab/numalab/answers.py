@@ -1,5 +1,6 @@
 """The answers of calls as values, each with a type of its own, from the lines of a report."""
 import re
+from collections import Counter
 from dataclasses import dataclass, fields
 from typing import NamedTuple, Optional
 
@@ -15,9 +16,11 @@ MOST_SHOWN = 8
 
 
 def shortened(value):
-    """A value for people: of a long list its first elements, and how many there are."""
-    if isinstance(value, (list, tuple)) and not hasattr(value, "_fields") and len(value) > MOST_SHOWN:
-        return f"[{', '.join(map(repr, value[:MOST_SHOWN]))}, .. {len(value):,} in all]"
+    """A value for people: of a long list its first elements, how many there are, and how often each occurs where they are few."""
+    if isinstance(value, list) and len(value) > MOST_SHOWN:
+        kinds = Counter(value).most_common() if isinstance(value[0], int) else []
+        tally = ", ".join(f"{count:,} × {kind}" for kind, count in kinds)
+        return f"[{', '.join(map(repr, value[:MOST_SHOWN]))}, .. {len(value):,} in all{': ' + tally if 0 < len(kinds) <= MOST_SHOWN else ''}]"
     if isinstance(value, bytes) and len(value) > 4 * MOST_SHOWN:
         return f"{value[:4 * MOST_SHOWN]!r}.. {len(value):,} bytes"
     return repr(value)
@@ -143,6 +146,9 @@ class Entry(NamedTuple):
     address: int
     frame: Optional[int]
 
+    def __repr__(self):
+        return f"Entry(address={self.address:#x}, frame={self.frame})"
+
 
 @dataclass(repr=False)
 class Pagemap(Answer):
@@ -163,6 +169,10 @@ class AreaMap(NamedTuple):
     anon: int
     mapmax: int
     nodes: dict
+
+    def __repr__(self):
+        told = f", anon={self.anon}, mapmax={self.mapmax}, nodes={self.nodes}" if self.anon else ""
+        return f"AreaMap(address={self.address:#x}, policy={self.policy!r}{told})"
 
     def as_object(self):
         return self._asdict() if self.anon else {"address": self.address, "policy": self.policy}

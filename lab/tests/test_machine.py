@@ -168,7 +168,9 @@ class Calls(Case):
         self.assertEqual(m.where(p, heap[::15]), [0, 1])
         self.assertEqual(m.where(p, 0x90000), [-14])
         self.assertEqual(m.move_pages(p, heap[4:6], node="all").statuses, [-12, 1])
-        self.assertTrue(repr(m.query(p, heap)).endswith("1, 1, 1, 1, .. 30 in all])"))
+        self.assertEqual(repr(m.query(p, heap)), "Queried(statuses=[0, 0, 0, 0, 1, 1, 1, 1, .. 30 in all: 26 × 1, 4 × 0])")
+        self.assertEqual([repr(p.pagemap())[:48], repr(p.numa_maps())], [
+            "Pagemap(entries=[Entry(address=0x10000, frame=0)", "Maps(areas=[AreaMap(address=0x10000, policy='default', anon=30, mapmax=1, nodes={0: 4, 1: 26})])"])
 
     def test_refused_among_many(self):
         m = self.machine([4])
