@@ -19,7 +19,7 @@ def shortened(value):
     """A value for people: of a long list its first elements, how many there are, and how often each occurs where they are few."""
     if isinstance(value, list) and len(value) > MOST_SHOWN:
         kinds = Counter(value).most_common() if isinstance(value[0], int) else []
-        tally = ", ".join(f"{count:,} × {kind}" for kind, count in kinds)
+        tally = ", ".join(f"{count:,} x {kind}" for kind, count in kinds)
         return f"[{', '.join(map(repr, value[:MOST_SHOWN]))}, .. {len(value):,} in all{': ' + tally if 0 < len(kinds) <= MOST_SHOWN else ''}]"
     if isinstance(value, bytes) and len(value) > 4 * MOST_SHOWN:
         return f"{value[:4 * MOST_SHOWN]!r}.. {len(value):,} bytes"

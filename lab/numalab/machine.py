@@ -140,26 +140,34 @@ class Process(Modelled):
         self.machine.processes.remove(self)
         return answer
 
+    def _each(self, op, addr, **keys):
+        """A call for an address; or one for each of several pages, sent in blocks, whose answers are a list. A refusal among several
+        is raised when all are made."""
+        if type(addr) is int or hasattr(addr, "__index__"):
+            return self._step(op, addr=whole(f"{op}: addr", addr), **keys)
+        return self.machine._steps([{"op": op, "pid": self.pid, "addr": address, **keys} for address in addresses(f"{op}: addr", addr)])
+
     def read(self, addr, length=1):
-        """The bytes at an address."""
-        return self._step("read", addr=whole("read: addr", addr), len=whole("read: length", length))
+        """The bytes at an address, or at each of several."""
+        return self._each("read", addr, len=whole("read: length", length))
 
     def write(self, addr, data):
-        return self._step("write", addr=whole("write: addr", addr), data=data_bytes("write: data", data).hex())
+        return self._each("write", addr, data=data_bytes("write: data", data).hex())
 
     def touch(self, pages, write=False):
-        """Reads a byte of each page, or writes a zero there, and returns the node of each page as `where` does. A refusal is raised
-        when all pages were touched."""
+        """Reads a byte of each page, or writes a zero there, and returns the node of each page as `where` does."""
         places = addresses("touch: pages", pages)
-        op, more = ("write", {"data": "00"}) if truth("touch: write", write) else ("read", {"len": 1})
-        self.machine._steps([{"op": op, "pid": self.pid, "addr": address, **more} for address in places])
+        if truth("touch: write", write):
+            self.write(places, b"\0")
+        else:
+            self.read(places)
         return self.machine.where(self, places)
 
     def pin(self, addr):
-        return self._step("pin", addr=whole("pin: addr", addr))
+        return self._each("pin", addr)
 
     def unpin(self, addr):
-        return self._step("unpin", addr=whole("unpin: addr", addr))
+        return self._each("unpin", addr)
 
     def mbind(self, area, mode, nodes=(), flags=0, length=None):
         """Sets the policy of an area, or of `length` bytes from an address on. Mode and flags are numbers or names, such as
@@ -257,8 +265,8 @@ class Machine(Modelled):
         return self._answered(lines)
 
     def _steps(self, steps):
-        """Makes several calls, which are sent in blocks; raises what is wrong with the first that is none, or else the first
-        refusal, when all are made."""
+        """Makes several calls, which are sent in blocks, and returns their answers; raises what is wrong with the first that is
+        none, or else the first refusal, when all are made."""
         self._session.check()
         try:
             replies = self._session.steps(steps)
@@ -266,17 +274,18 @@ class Machine(Modelled):
             self._record(steps)
             raise
         self._record([step for step, lines in zip(steps, replies) if not isinstance(lines, Fault)])
-        wrong, refusals = [], []
+        found, wrong, refusals = [], [], []
         for step, lines in zip(steps, replies):
             try:
                 if isinstance(lines, Fault):
                     wrong.append(self._no_step(step))
                 else:
-                    self._answered(lines)
+                    found.append(self._answered(lines))
             except Refused as refusal:
                 refusals.append(refusal)
         for error in [*wrong, *refusals]:
             raise error
+        return found
 
     def _answered(self, lines):
         """Notes the lines of a step, and returns its answer."""

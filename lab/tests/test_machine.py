@@ -102,6 +102,7 @@ class Calls(Case):
                 (lambda: m.free("0-1"), ValueError, "free: node is '0-1': expected one node, and that is 2"),
                 (lambda: m.free("clx"), ValueError, "free: node is 'clx': clx is not a node"),
                 (lambda: m.free(None), TypeError, "free: node is None: expected a node"),
+                (lambda: p.write("heap", b"a"), TypeError, "write: addr is 'heap': expected an area"),
                 (lambda: p.write(a[0], "a"), TypeError, "write: data is 'a': expected bytes"),
                 (lambda: p.mbind(a, "MPOL_BID", 1), ValueError, "mbind: mode is 'MPOL_BID': MPOL_BID is not a mode: did you mean MPOL_BIND?"),
                 (lambda: p.mbind(a[0], 2, 1), TypeError, "mbind: length is None: expected a whole number"),
@@ -168,9 +169,22 @@ class Calls(Case):
         self.assertEqual(m.where(p, heap[::15]), [0, 1])
         self.assertEqual(m.where(p, 0x90000), [-14])
         self.assertEqual(m.move_pages(p, heap[4:6], node="all").statuses, [-12, 1])
-        self.assertEqual(repr(m.query(p, heap)), "Queried(statuses=[0, 0, 0, 0, 1, 1, 1, 1, .. 30 in all: 26 × 1, 4 × 0])")
+        self.assertEqual(repr(m.query(p, heap)), "Queried(statuses=[0, 0, 0, 0, 1, 1, 1, 1, .. 30 in all: 26 x 1, 4 x 0])")
         self.assertEqual([repr(p.pagemap())[:48], repr(p.numa_maps())], [
             "Pagemap(entries=[Entry(address=0x10000, frame=0)", "Maps(areas=[AreaMap(address=0x10000, policy='default', anon=30, mapmax=1, nodes={0: 4, 1: 26})])"])
+
+    def test_several_pages(self):
+        m, p, a = self.three_pages()
+        self.assertEqual(p.write(a[:2], b"xy"), [answers.Done()] * 2)
+        self.assertEqual(p.read(a, 2), [answers.Read(b"xy"), answers.Read(b"xy"), answers.Read(b"c\0")])
+        self.assertEqual([answer.step for answer in p.pin(a)], [10, 11, 12])
+        self.assertEqual(m.move_pages(p, a, node=1).statuses, [-16] * 3)
+        p.unpin([a[0]])
+        self.assertEqual(m.move_pages(p, a, node=1).statuses, [1, -16, -16])
+        with self.assertRaises(Refused) as caught:
+            p.unpin(a)
+        self.assertEqual((caught.exception.name, m.move_pages(p, a, node=1).statuses), ("EINVAL", [1] * 3))
+        self.assertEqual(p.read([]), [])
 
     def test_refused_among_many(self):
         m = self.machine([4])
