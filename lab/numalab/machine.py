@@ -29,7 +29,7 @@ from .traces import Bad, Trace, json_text, load, write_file
 from .words import PAGE, left_out_text
 
 MOVE, MOVE_ALL, STRICT = 2, 4, 1
-HERE = os.path.dirname(os.path.abspath(__file__))
+HERE = os.path.dirname(os.path.abspath(__file__)) + os.sep
 
 
 class Refused(OSError):
@@ -258,7 +258,7 @@ class Machine(Modelled):
             lines = self._session.step(step)
         except Fault:
             raise self._no_step(step) from None
-        except Failed:
+        except BaseException:
             self._record([step])
             raise
         self._record([{**step, **named} if named else step])
