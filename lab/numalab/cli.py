@@ -15,8 +15,8 @@ from .program import Failed
 from .traces import Bad
 from .words import printable
 
-COMMANDS = {"write": write, "why": why, "show": show, "picture": picture, "replay": replay, "compare": compare, "predict": predict, "record": record,
-            "machine": machine}
+COMMANDS = {"write": write, "why": why, "show": show, "picture": picture, "machine": machine, "replay": replay, "compare": compare,
+            "predict": predict, "record": record}
 ABOUT = "Traces for numatrace that a person can write, and its reports as a person can read them."
 PROMISE = ("Every report but those of replay and predict comes from the program numatrace, which is proved. Nothing that numalab itself "
            "says is proved.")

@@ -12,7 +12,7 @@ from ..machines import NODES, checked_scale, of_bytes, of_folder, scaled
 from ..notate import Notator, head_of
 from ..traces import Bad, json_text, looks_like_trace, read_file, trace_of, write_file
 
-SUMMARY = "a trace's machine from numactl -H, hwloc or sysfs, or its picture"
+SUMMARY = "a trace's machine from numactl, hwloc or sysfs"
 
 
 def arguments(words):
