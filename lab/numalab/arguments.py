@@ -72,11 +72,11 @@ def addresses(what, pages):
 
 
 class Words:
-    """Nodes, flags and modes by their names, as the notation has them."""
+    """Nodes, flags and modes by their names, as the notation has them; a name, or None, is given for each node."""
 
-    def __init__(self, count, names):
+    def __init__(self, names):
         self.numbers = Numbers()
-        self.numbers.nodes = [1] * count
+        self.numbers.nodes = [1] * len(names)
         for node, name in enumerate(names):
             if name:
                 self.numbers.node_names.setdefault(name, []).append(node)

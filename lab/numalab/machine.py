@@ -19,6 +19,7 @@ import sys
 from . import answers, arguments
 from .arguments import addresses, data_bytes, name_or_none, truth, whole
 from .faults import MOST_ENTRIES, Form, machine_faults, step_faults
+from .names import node_names
 from .notate import head_of, notation_of
 from .notation import FIRST_ADDRESS, next_free
 from .program import Failed, played
@@ -214,7 +215,7 @@ class Machine(Modelled):
         self._top, self._form = top, Form()
         for fault in machine_faults(self._form, top):
             raise Bad(fault.text)
-        self._words = arguments.Words(len(top["machine"]["nodes"]), top["machine"].get("names", ()))
+        self._words = arguments.Words(node_names(top))
         self._lines, self._notes, self._beside = [], [], None
         self._next, self._pid = FIRST_ADDRESS, 0
         self.processes = []

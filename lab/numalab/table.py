@@ -6,7 +6,7 @@ from .names import Names, notes_of
 from .notate import BY_PAGE, MOST_APART, Notator, stretches
 from .report import is_refused, node_ranges
 from .traces import Bad, left_out_of
-from .words import PAGE, counted, status_text
+from .words import PAGE, counted, printable, status_text
 
 WIDTH, MOST_BYTES, MOST_RANGES, MOST_ROWS, MOST_ENTRIES = 58, 24, 12, 64, 16
 # What may differ between reasons that are told as one.
@@ -220,7 +220,7 @@ class Table:
 
     @staticmethod
     def note(text):
-        return f"{'':6}  # {text}"
+        return f"{'':6}  # {printable(text)}"
 
     @staticmethod
     def answer(line, value):
