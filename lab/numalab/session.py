@@ -9,6 +9,7 @@ A reply is the step's lines of the report, so a script can choose its next step 
 session goes on as it was. This is the thin layer under `Machine`, whose calls are methods and whose answers are values. Nothing
 of this module is proved."""
 import json
+import os
 import subprocess
 import weakref
 
@@ -40,8 +41,10 @@ def failure(path, process):
     return Bad(told) if process.returncode == 2 else Failed(f"{path} has ended: {told} (status {process.returncode})")
 
 
-def ended(process):
-    """Ends a program that nobody will ask any more."""
+def ended(process, owner):
+    """Ends a program that nobody will ask any more, unless this is a copy of the process that started it."""
+    if os.getpid() != owner:
+        return
     if process.poll() is None:
         process.kill()
     process.communicate()
@@ -71,7 +74,7 @@ class Session:
             self._process = subprocess.Popen([self._path], stdin=subprocess.PIPE, stdout=subprocess.PIPE, stderr=subprocess.PIPE)
         except OSError as error:
             raise Failed(f"{self._path}: {error.strerror}") from error
-        self._at_end = weakref.finalize(self, ended, self._process)
+        self._at_end = weakref.finalize(self, ended, self._process, os.getpid())
         # A good top has no reply. An empty line is no step and changes nothing, but is replied to.
         self._replies((line + "\n\n").encode(), 1)
 
@@ -130,7 +133,7 @@ class Session:
         except (Bad, Failed):
             raise
         except BaseException:
-            ended(process)
+            ended(process, os.getpid())
             raise
         self._process = process
         return replies

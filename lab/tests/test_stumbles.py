@@ -69,10 +69,10 @@ class Commands(Case):
         self.assertEqual(self.said("why", "x.json"), (2, f'x.json:3:7: bad step 1: op is "set_mempolicy": the model leaves out the policy of a process: {SEE}'))
 
     def test_what_a_recording_leaves_out(self):
-        self.written("x.json", read("examples/three_pages.json").replace('"version":1', '"version":1,"left_out":["2 mappings of files"]'))
+        self.written("x.json", read("examples/three_pages.json").replace('"version":1', '"version":1,"left_out":["2 mappings of files\\u001b"]'))
         report = f"{ROOT}/examples/three_pages.report"
-        self.assertEqual(run("show", "x.json", report, folder=self.there)[1].splitlines()[0], "        # left out when it was recorded: 2 mappings of files")
-        self.assertEqual(run("why", "--strict", "x.json", folder=self.there), (0, "x.json: left out when it was recorded: 2 mappings of files\ngood\n", ""))
+        self.assertEqual(run("show", "x.json", report, folder=self.there)[1].splitlines()[0], "        # left out when it was recorded: 2 mappings of files?")
+        self.assertEqual(run("why", "--strict", "x.json", folder=self.there), (0, "x.json: left out when it was recorded: 2 mappings of files?\ngood\n", ""))
 
     def test_no_program_for_sessions(self):
         self.assertIn("there is no program numatrace_session: ./build makes it (the first call of ./numatrace does not)", started(
