@@ -4,7 +4,6 @@ import re
 from collections import namedtuple
 
 from .faults import MOST_ENTRIES, close
-from .names import NAME
 from .words import FLAGS, MODES, PAGE, counted
 
 WORD = re.compile(r'"(?:[^"\\]|\\.)*"|[^\s#",]+(?:,[^\s#",]+)*|,|"|#')

@@ -2,8 +2,8 @@
 import re
 
 from .faults import MOST_BYTES, MOST_ENTRIES, Form, step_faults
-from .names import is_name
-from .notation import (FARTHER, FIRST_ADDRESS, LEAST_STEP, MOST, NAME, NEAR, NUMBER, PAGE, Area, Numbers, Word, Words, Wrong, count,
+from .names import NAME, is_name
+from .notation import (FARTHER, FIRST_ADDRESS, LEAST_STEP, MOST, NEAR, NUMBER, PAGE, Area, Numbers, Word, Words, Wrong, count,
                        data_of, guessed, next_free, text_of)
 from .traces import Bad
 

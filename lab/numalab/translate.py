@@ -1,6 +1,7 @@
 """From a file in the notation to a trace: lines, blocks and faults."""
 from .faults import MOST_BYTES, machine_faults
-from .notation import NAME, Words, Wrong, guessed
+from .names import NAME
+from .notation import Words, Wrong, guessed
 from .progress import Progress
 from .statements import BLOCKS, MACHINE, STEPS, Translation
 from .traces import Bad

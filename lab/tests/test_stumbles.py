@@ -1,20 +1,34 @@
 """Where new users stumble: each with the very command or call, and what it says."""
 import json
 import os
+import pty
 import shutil
 import stat
 import subprocess
 import sys
 import unittest
 
-from support import COMMAND, ROOT, Case, read, run, started
-from numalab import program
+from support import ROOT, Case, read, run, started
 from test_machine import PROGRAM
 
 HEAD = "nodes 2x4\nspawn p\nmap p A 3\n"
 # What the repository's ./install takes, without the crates.
 INSTALLED = ("VERSION", "README.md", "CHANGELOG.md", "install", "numalab", "packaging", "completions", "docs", "examples", "lab")
 SEE = "docs/LINUX.md, 'Left out'"
+
+
+def at_terminal(command):
+    """The status of a command of the shell, and what it writes to a standard error that is a terminal."""
+    ours, theirs = pty.openpty()
+    with subprocess.Popen(command, shell=True, stdin=subprocess.DEVNULL, stdout=subprocess.DEVNULL, stderr=theirs) as process:
+        os.close(theirs)
+        told = b""
+        while True:
+            try:
+                told += os.read(ours, 4096)
+            except OSError:  # Nobody writes to it any more.
+                os.close(ours)
+                return process.wait(), told.decode().replace("\r", "")
 
 
 class Commands(Case):
@@ -125,6 +139,18 @@ class Installed(Case):
         self.assertEqual(started("--version", command=f"{bin_of}/numalab", environment=self.environment)[0], 0)
         self.assertEqual(self.install("--uninstall")[0], 0)
         self.assertEqual(os.path.exists(self.prefix), False)
+
+    def test_notation_given_to_the_program(self):
+        path = self.written("clone/crates/numatrace/out/numatrace", "#!/bin/sh\ncat > /dev/null\necho 'numatrace: not JSON' >&2\nexit 2\n")
+        os.chmod(path, stat.S_IRWXU)
+        self.assertEqual(self.install()[0], 0)
+        command, trace = os.path.join(self.prefix, "bin/numatrace"), f"{ROOT}/examples/three_pages.nt"
+        told = at_terminal(f"{command} < {trace}")
+        self.assertEqual(told, (2, "numatrace: not JSON\nnumatrace: numalab why TRACE says all that is wrong with a trace, and where; "
+                                   "NAME.nt is played by: numalab write NAME.nt | numatrace\n"))
+        self.assertEqual(at_terminal(f"{command} --help"), (2, "numatrace: not JSON\n"))
+        ran = subprocess.run(f"{command} < {trace}", shell=True, capture_output=True, check=False)
+        self.assertEqual((ran.returncode, ran.stderr), (2, b"numatrace: not JSON\n"))
 
     def test_elsewhere(self):
         self.environment["PYTHONUSERBASE"] = os.path.join(self.there, "other")
