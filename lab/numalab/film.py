@@ -10,7 +10,7 @@ from .notate import node_labels
 from .reasons import Explained
 from .report import KEEPS, LATE, Layout, is_refused, moments_of, node_ranges
 from .table import Table
-from .traces import Bad
+from .traces import Bad, left_out_of
 from .words import PAGE
 
 MOST_STEPS, MOST_CHANGES, MOST_ROWS = 20000, 2000000, 200
@@ -234,4 +234,4 @@ def film_of(name, top, lines, steps=None, progress=None):
             "changes": changes, "steps": texts_of(film, top, lines), "notes": notes_in(top, film.first, film.last),
             "processes": sorted({step["pid"] for step in top["steps"] if step["op"] == "spawn"}),
             "names": {pid: name for pid, name in names.items() if name}, "areas": areas_of(top, lines),
-            "total": len(top["steps"]), "lines": len(lines)}
+            "left": left_out_of(top), "total": len(top["steps"]), "lines": len(lines)}

@@ -89,6 +89,7 @@ class Changes(Case):
             ["node 0", "node 1 (cxl)"], {1: "app"}, [[1, 16, 2, "heap", 1]], [[1, "begins"], [8, "ends"]]])
         self.assertEqual([change.get("p") for change in told["changes"]], [None] * 5 + [{0: 1}, {0: 2}, None, {0: 1}][:4])
         self.assertEqual([change.get("o") for change in told["changes"]], [None] * 7 + [[1], None])
+        self.assertEqual((told["left"], self.film({**top, "left_out": ["files", 3]})["left"]), ([], ["files"]))
         part = self.film(top, (7, 7))
         self.assertEqual([(change.get("p"), change.get("o")) for change in part["changes"]], [({0: 2}, [1]), ({0: 1}, None)])
         self.assertEqual((part["notes"], self.film(top, (1, 2))["notes"]), ([[1, "ends"]], [[0, "begins"]]))
