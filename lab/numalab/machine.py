@@ -18,12 +18,16 @@ import sys
 
 from . import answers, arguments
 from .arguments import addresses, data_bytes, name_or_none, truth, whole
+from .drawing import picture_of
 from .faults import MOST_ENTRIES, Form, machine_faults, step_faults
+from .film import Differs
 from .names import node_names
 from .notate import head_of, notation_of
 from .notation import FIRST_ADDRESS, next_free
+from .page import page_of
 from .program import Failed, played
 from .reasons import Beside, refusal_text
+from .report import read_report
 from .session import Fault, Session
 from .statements import machine_said, tier_distances
 from .traces import Bad, Trace, json_text, load, write_file
@@ -432,10 +436,20 @@ class Machine(Modelled):
         return report
 
     def trace(self):
-        """The calls so far as a trace."""
-        return self._top
+        """The calls so far as a trace, with the notes after them."""
+        return {**self._top, "note_at_end": "\n".join(self._notes)} if self._notes else self._top
 
     def save(self, path):
         """Writes the calls so far as a trace, or as notation where the path ends in .nt."""
-        top = {**self._top, "note_at_end": "\n".join(self._notes)} if self._notes else self._top
-        write_file(str(path), notation_of(self._form, top) if str(path).endswith(".nt") else json_text(top))
+        write_file(str(path), notation_of(self._form, self.trace()) if str(path).endswith(".nt") else json_text(self.trace()))
+
+    def picture(self, path):
+        """Draws the calls so far: a page with a slider where the path ends in .html, and otherwise an SVG of what was looked at."""
+        name, report = os.path.basename(str(path)), self.report().encode()
+        if not name.endswith((".html", ".htm")):
+            write_file(str(path), picture_of(report, name, self.trace()))
+            return
+        try:
+            write_file(str(path), page_of(name, self.trace(), read_report(report, name)))
+        except Differs as differs:
+            raise Failed(f"the plain model's answer to step {differs} differs, so there is no page") from None

@@ -231,6 +231,16 @@ class Calls(Case):
         with self.assertRaisesRegex(AttributeError, "^Machine has no move_page$"):
             m.move_page(p, 0)
 
+    def test_pictures(self):
+        m, _, _ = self.three_pages()
+        m.look()
+        m.note("ends")
+        for name, begins in [("x.html", "<!DOCTYPE html>"), ("x.svg", "<svg")]:
+            m.picture(os.path.join(self.there, name))
+            self.assertTrue(read(os.path.join(self.there, name)).startswith(begins))
+        self.assertIn('"notes":[[9,"ends"]]', read(os.path.join(self.there, "x.html")))
+        self.assertIn("steps 5 to 8", read(os.path.join(self.there, "x.svg")))
+
     def test_look(self):
         m, _, _ = self.three_pages()
         m.look()
