@@ -142,21 +142,20 @@ class Table:
         text = self.plain.text(step if step["op"] != "move_pages" else {key: step[key] for key in step if key != "during"})
         return text, self.answer(line, value or answer_of(line))
 
-    def rows(self, lines, reasons=None):
-        """The lines for all steps, those of equal steps together; after each step its number."""
+    def groups(self, lines, reasons=None):
+        """The lines for all steps, each time with the steps that they are for, which are several where these are alike."""
+        yield [], [self.note(f"left out when it was recorded: {what}") for what in left_out_of(self.top)]
         group = []
-        yield from ((0, self.note(f"left out when it was recorded: {what}")) for what in left_out_of(self.top))
         for k, line in enumerate(lines):
             if group and not self.continues(group, k, lines):
-                yield from self.told(group, lines, reasons)
+                yield group, self.told(group, lines, reasons)
                 group = []
             if not group:
                 self.passes(k, line)
             group.append(k)
-        if group:
-            yield from self.told(group, lines, reasons)
+        yield group, self.told(group, lines, reasons) if group else []
         if len(lines) == len(self.steps):
-            yield from ((len(lines), self.note(text)) for text in notes_of(self.top, "note_at_end"))
+            yield [], [self.note(text) for text in notes_of(self.top, "note_at_end")]
 
     def continues(self, group, k, lines):
         """Whether a step differs from those before it only in its page."""
@@ -168,15 +167,12 @@ class Table:
     def told(self, group, lines, reasons):
         """The lines for steps that are shown together."""
         first, last = group[0], group[-1]
-        for text in notes_of(self.steps[first]):
-            yield first, self.note(text)
+        notes = [self.note(text) for text in notes_of(self.steps[first])]
         if first == last:
-            yield from ((last, line) for line in self.lines(first, lines[first], reasons and reasons[first]))
-            return
+            return notes + self.lines(first, lines[first], reasons and reasons[first])
         text = self.plain.merged([self.steps[k] for k in group])
-        yield last, self.row(text, self.answer(lines[first], answer_of(lines[first])), f"{first}..{last}")
-        if reasons:
-            yield from ((last, line) for line in self.reasons_of_pages(group, reasons))
+        row = self.row(text, self.answer(lines[first], answer_of(lines[first])), f"{first}..{last}")
+        return [*notes, row, *(self.reasons_of_pages(group, reasons) if reasons else ())]
 
     def reasons_of_pages(self, group, reasons):
         """The reasons of steps that are shown together; where they are not all alike, each with its pages."""

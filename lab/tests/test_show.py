@@ -155,6 +155,21 @@ class Show(Case):
         trace, report = self.written("named.nt", NAMED), self.written("named.report", model.report(trace_from(NAMED.encode(), "named.nt")))
         self.assertEqual(run("show", "--why", trace, report), (0, NAMED_ROWS, ""))
 
+    def test_areas_that_touch(self):
+        text = 'nodes 8\nspawn p\nmap p A 2 at 0x10000\nmap p B 2 at 0x12000\nrepeat 4 as i\nread p 0x10000[i]\nend\n'
+        trace, report = self.written("x.nt", text), self.written("x.report", model.report(trace_from(text.encode(), "x.nt")))
+        self.assertEqual(run("show", trace, report)[1].splitlines()[3:], [
+            "  3..4  read p A[*] len 1                                     00", "  5..6  read p B[*] len 1                                     00"])
+
+    def test_kernels_beside_steps(self):
+        text = read("lab/scenarios/move-pinned.nt").split("pagemap")[0]
+        text = text.replace("write", "read p A[*]\nwrite", 1)
+        trace, report = self.written("x.nt", text), self.written("x.report", model.report(trace_from(text.encode(), "x.nt")))
+        status, out, err = run("show", "--why", "--kernel", "6.1", trace, report)
+        rows = out.splitlines()
+        self.assertEqual((status, err, rows[-2]), (0, "", "           on Linux 6.1: 1: - - -"))
+        self.assertIn("read p A[*] len 1", next(row for row in rows if ".." in row))
+
     def test_few_lines(self):
         text = read("examples/half_demoted.nt")
         trace, report = self.written("x.nt", text), self.written("x.report", model.report(trace_from(text.encode(), "x.nt")))

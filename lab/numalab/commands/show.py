@@ -68,12 +68,10 @@ def objects(trace, lines, reasons, parted):
 
 
 def rows(trace, lines, reasons, parted, all_rows):
-    told = 0
-    for k, row in Table(trace.top, all_rows).rows(lines, reasons):
-        for past in range(told, k):
-            yield from parted[past].texts if past in parted else ()
-        told = max(told, k)
-        yield row
+    for group, told in Table(trace.top, all_rows).groups(lines, reasons):
+        yield from told
+        for k in group:
+            yield from parted[k].texts if k in parted else ()
 
 
 def show(one, asked, file, jsonl):
