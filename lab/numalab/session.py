@@ -24,6 +24,16 @@ class Fault(Bad):
     """What the program says of something that is no step. It has changed nothing."""
 
 
+def line_of(call):
+    """A step as the program reads it."""
+    return (json.dumps(call) + "\n").encode()
+
+
+def told(lines):
+    """The lines of a reply, or a Fault where they are one."""
+    return Fault(lines[0][len("fault: "):]) if lines and lines[0].startswith("fault: ") else lines
+
+
 def read_reply(stream):
     """The lines of a reply, without the empty one at its end; None if the stream ends before that."""
     reply = []
@@ -36,9 +46,9 @@ def read_reply(stream):
 
 def failure(path, process):
     """Waits for the end of a program, and returns what it means as an error."""
-    told = process.communicate()[1].decode("utf-8", "replace").strip()
-    told = told.split("\n", maxsplit=1)[0] or "it says nothing"
-    return Bad(told) if process.returncode == 2 else Failed(f"{path} has ended: {told} (status {process.returncode})")
+    said = process.communicate()[1].decode("utf-8", "replace").strip()
+    said = said.split("\n", maxsplit=1)[0] or "it says nothing"
+    return Bad(said) if process.returncode == 2 else Failed(f"{path} has ended: {said} (status {process.returncode})")
 
 
 def ended(process, owner):
@@ -80,17 +90,17 @@ class Session:
 
     def step(self, call):
         """Makes a step, and returns its lines of the report."""
-        reply, = self.steps([call])
-        if isinstance(reply, Fault):
+        reply = told(*self._replies(line_of(call), 1))
+        if type(reply) is Fault:
             raise reply
         return reply
 
     def steps(self, calls):
         """Makes several steps, which are sent in blocks, and returns for each its lines, or a Fault where it is none."""
         replies = []
-        for block in blocks_of([(json.dumps(call) + "\n").encode() for call in calls]):
+        for block in blocks_of(map(line_of, calls)):
             replies += self._replies(b"".join(block), len(block))
-        return [Fault(lines[0][len("fault: "):]) if lines and lines[0].startswith("fault: ") else lines for lines in replies]
+        return [told(lines) for lines in replies]
 
     def close(self):
         """Ends the program. A session that has ended stays so."""
