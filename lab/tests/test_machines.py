@@ -5,7 +5,7 @@ import re
 import unittest
 import xml.etree.ElementTree as ElementTree
 
-from support import ROOT, Case, run
+from support import ROOT, Case, read, run
 from numalab import Machine
 from numalab.faults import verdict
 from test_machine import PROGRAM
@@ -80,6 +80,10 @@ class Machines(Case):
     def test_numactl(self):
         self.assertEqual(self.told("x", NUMACTL), (0, FROM_NUMACTL, ""))
         self.assertEqual(run("machine", "-", given=NUMACTL), (0, FROM_NUMACTL, ""))
+
+    def test_manual(self):
+        shown = read("docs/MANUAL.md").split("    # one frame stands for 4,096 pages")[1].split("\n\n")[0].splitlines()[1:]
+        self.assertEqual([line.strip() for line in shown], [line for line in FROM_NUMACTL.splitlines()[1:] if "left out" not in line])
 
     def test_hwloc(self):
         self.assertEqual(self.told("x.xml", HWLOC, "--scale", "2"), (0, FROM_HWLOC, ""))

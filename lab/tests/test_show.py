@@ -179,6 +179,9 @@ class Show(Case):
         for line in ["           because: heap[0:1999:2] (1,000 pages): a new page, frames 0..999: node 0, first in the order 0 1 2 (interleave:0-1)",
                      "          heap[1:2000:2] (1,000 pages)                        frames 1200..2199 on node 1"]:
             self.assertIn(line, out.splitlines())
+        shown = [line[4:] for line in read("docs/MANUAL.md").splitlines() if "..2002 " in line or "heap[0:1999:2]" in line or "heap[1:2000:2]" in line]
+        self.assertEqual([line for line in out.splitlines() if line in shown], shown)
+        self.assertEqual(len(shown), 3)
         self.assertGreater(len(run("show", "--why", "--all", trace, report)[1].splitlines()), 4000)
 
     def test_numa_maps_stands_under_its_step(self):
