@@ -15,6 +15,7 @@ from numalab.machine import Process
 from numalab.traces import Trace, json_text, load
 
 TRACES, CALLS, MOST_SECONDS = 2000, 10000, 1.0
+TRIES, MOST_WAIT = 8, 600
 
 
 class Calls:
@@ -95,19 +96,25 @@ class Beside(Case):
                 self.assertEqual(m.play(), report)
         self.assertGreater(refusals, TRACES)
 
+    def seconds_for(self, count):
+        """How long so many calls take, each of which is asked for its answer."""
+        with Machine(nodes=[4, 4]) as m:
+            p = m.spawn()
+            a = p.map(1)
+            p.write(a[0], b"a")
+            begun = time.monotonic()
+            for k in range(count):
+                self.assertEqual(m.move_pages(p, a[0], node=1 - k % 2).statuses, [1 - k % 2])
+            return time.monotonic() - begun
+
     def test_calls_are_quick(self):
-        taken = []
-        for count in (CALLS // 4, CALLS):
-            with Machine(nodes=[4, 4]) as m:
-                p = m.spawn()
-                a = p.map(1)
-                p.write(a[0], b"a")
-                begun = time.monotonic()
-                for k in range(count):
-                    self.assertEqual(m.move_pages(p, a[0], node=1 - k % 2).statuses, [1 - k % 2])
-                taken.append(time.monotonic() - begun)
-        self.assertLess(taken[1], 2 * MOST_SECONDS)  # (this machine may be busy)
-        self.assertLess(taken[1], 12 * taken[0])
+        # The best of some tries counts, as this machine may be busy.
+        best = {CALLS // 4: MOST_WAIT, CALLS: MOST_WAIT}
+        for _ in range(TRIES):
+            best = {count: min(seconds, self.seconds_for(count)) for count, seconds in best.items()}
+            if best[CALLS] <= MOST_SECONDS and best[CALLS] < 6 * best[CALLS // 4]:
+                return
+        self.fail(f"calls take, by their number, {best} seconds")
 
     def test_differs(self):
         path = self.written("program", "#!/bin/sh\nprintf '0 spawn ok\\n1 free 4: 3 2 1 0\\n'\n")
