@@ -15,6 +15,7 @@ ValueError or a TypeError, and changes nothing. The steps are kept, and can be s
 import errno
 import os
 import sys
+from contextlib import AbstractContextManager
 
 from . import answers, arguments
 from .arguments import addresses, data_bytes, name_or_none, truth, whole
@@ -190,7 +191,7 @@ class Process(Modelled):
         return self._step("numa_maps")
 
 
-class Machine(Modelled):
+class Machine(Modelled, AbstractContextManager):
     """A machine of nodes, and the calls made on it so far. The nodes are their numbers of frames, such as [1200, 1200, 4096], or
     what follows `nodes` in the notation, such as "2x1200 + cxl 4096"; `names` names them. `program` is the path of numatrace_session
     where it is not the one in this repository or on the PATH."""
@@ -224,9 +225,6 @@ class Machine(Modelled):
         self._next, self._pid = FIRST_ADDRESS, 0
         self.processes = []
         self._session = Session(top, program)
-
-    def __enter__(self):
-        return self
 
     def __exit__(self, *kind):
         self._session.__exit__(*kind)

@@ -12,6 +12,7 @@ import json
 import os
 import subprocess
 import weakref
+from contextlib import AbstractContextManager
 
 from .program import SESSION, Failed, found
 from .traces import Bad
@@ -73,7 +74,7 @@ def blocks_of(lines):
         yield block
 
 
-class Session:
+class Session(AbstractContextManager):
     """A machine, and the steps that are made on it. `top` is a trace, whose steps are not played; `program` is the path of
     numatrace_session, where it is not the one in this repository or on the PATH."""
 
@@ -109,9 +110,6 @@ class Session:
             error = failure(self._path, process)
             if process.returncode:
                 raise error
-
-    def __enter__(self):
-        return self
 
     def __exit__(self, kind, *_):
         try:
