@@ -7,11 +7,12 @@ from collections import namedtuple
 
 from .faults import MOST_FRAMES
 from .names import is_name
+from .notation import NEAR
 from .traces import Bad
 from .words import PAGE, counted
 
 NODES = "/sys/devices/system/node"
-MOST_NODES, LEAST_APART, MOST_APART = 64, 11, 255
+MOST_NODES, OWN, LEAST_APART, MOST_APART = 64, 10, 11, 255
 NO_PROCESSORS = "cpuless"
 
 # A node as it is described: its number there, its size in pages of 4 KiB, its name or None, and its distances by number.
@@ -58,7 +59,7 @@ def of_hwloc(data, name):
 
 
 def hwloc_distances(top, numbers):
-    """The rows of distances between nodes; 10 and 20 where the file has none."""
+    """The rows of distances between nodes, which are empty where the file has none."""
     count = len(numbers)
     for part in top.iter("distances2"):
         if part.get("type") == "NUMANode" and "Latency" in part.get("name", "Latency"):
@@ -70,7 +71,7 @@ def hwloc_distances(top, numbers):
         if int(part.get("nbobjs", 0)) == count:
             values = [round(float(one.get("value")) * float(part.get("latency_base", 10))) for one in part.iter("latency")]
             return [values[own * count:(own + 1) * count] for own in range(count)]
-    return [[10 if own == to else 20 for to in range(count)] for own in range(count)]
+    return [[] for _ in numbers]
 
 
 def of_folder(folder):
@@ -131,11 +132,13 @@ def scaled(nodes, scale=None, most=MOST_FRAMES):
     size = next(f"{scale * 4 >> shift} {unit}" for shift, unit in ((20, "GiB"), (10, "MiB"), (0, "KiB")) if scale * 4 >> shift << shift == scale * 4)
     notes.append(f"one frame stands for {counted(scale, 'page')} of 4 KiB" + (f", {size}" if scale > 1 else ""))
     notes += [f"node {node} has no memory and is left out" for node in empty]
+    if len(nodes) > 1 and not any(node.distances for node in nodes):
+        notes.append(f"no distances are given: it is {NEAR} from each node to another")
     notes += [f"node {node.number} of the machine is node {k}" for k, node in enumerate(nodes) if node.number != k]
     rows = []
     for own, node in enumerate(nodes):
-        row = [node.distances.get(other.number, 20) for other in nodes]
-        far = [10 if own == to else min(max(value, LEAST_APART), MOST_APART) for to, value in enumerate(row)]
+        row = [node.distances.get(other.number, OWN if other is node else NEAR) for other in nodes]
+        far = [OWN if own == to else min(max(value, LEAST_APART), MOST_APART) for to, value in enumerate(row)]
         notes += [f"the distance from node {own} to {to} is {row[to]} there, and {far[to]} here" for to in range(len(row)) if row[to] != far[to]]
         rows.append(far)
     names = [node.name if is_name(node.name) else None for node in nodes]

@@ -89,6 +89,11 @@ class Machines(Case):
         self.assertEqual(self.told("x.xml", HWLOC, "--scale", "2"), (0, FROM_HWLOC, ""))
         self.assertEqual(self.told("x.xml", OLD_HWLOC)[1], "# one frame stands for 1 page of 4 KiB\nnodes 1000, 500\ndistance 10 21\ndistance 21 10\n")
 
+    def test_no_distances(self):
+        text = re.sub("(?s)<distances.*?</distances>", "", OLD_HWLOC)
+        self.assertEqual(self.told("x.xml", text)[1].splitlines()[1:], ["# no distances are given: it is 20 from each node to another", "nodes 1000, 500"])
+        self.assertEqual(self.told("x.xml", HWLOC.replace("NUMALatency", "NUMABandwidth"))[1].splitlines()[1][:24], "# no distances are given")
+
     def folder(self):
         for name, text in [("online", "0-2\n"), ("has_memory", "0,2\n"), ("node0/meminfo", "Node 0 MemTotal:       8000 kB\n"), ("node0/cpulist", "0-3\n"),
                            ("node0/distance", "10 20 30\n"), ("node2/meminfo", "Node 2 MemTotal:       4000 kB\nNode 2 MemFree: 1 kB\n"),
