@@ -8,12 +8,13 @@ import os
 import sys
 
 from . import __version__
-from .commands import compare, picture, predict, record, replay, show, why, write
+from .commands import compare, picture, policies, predict, record, replay, show, why, write
 from .program import Failed
 from .traces import Bad
 from .words import printable
 
-COMMANDS = {"write": write, "why": why, "show": show, "picture": picture, "replay": replay, "compare": compare, "predict": predict, "record": record}
+COMMANDS = {"write": write, "why": why, "show": show, "picture": picture, "replay": replay, "compare": compare, "predict": predict, "record": record,
+            "policies": policies}
 ABOUT = "Traces for numatrace that a person can write, and its reports as a person can read them."
 PROMISE = ("Every report but those of replay and predict comes from the program numatrace, which is proved. Nothing that numalab itself "
            "says is proved.")

@@ -1,0 +1,96 @@
+"""What `numalab policies` does: one comparison, or a sweep, and where its results go."""
+import os
+import sys
+
+from ..progress import Progress
+from ..traces import Bad, write_file
+from ..words import printable
+from . import listing, page, results, setups, sweeps
+from .job import job_of, run_job
+from .spec import number_of
+
+MOST_TRACE = 16777216
+
+
+def endings(asked):
+    """The form of the output file, refused before anything is run."""
+    ending = os.path.splitext(asked.out or "")[1]
+    if asked.out and ending not in (".html", ".htm", ".jsonl", ".csv"):
+        raise Bad(f"{asked.out}: expected a name that ends in .html, .jsonl or .csv")
+    if asked.jsonl and asked.csv:
+        raise Bad("--jsonl and --csv do not go together")
+    return ending
+
+
+def save_traces(found, asked):
+    """Writes the trace of each policy."""
+    folder = os.path.isdir(asked.save_trace) or asked.save_trace.endswith(os.sep) or len(found.traces) > 1
+    if folder:
+        os.makedirs(asked.save_trace, exist_ok=True)
+    paths = {}
+    for label, text in found.traces.items():
+        name = "".join(letter if letter.isalnum() or letter in "-_." else "-" for letter in label) + ".json"
+        paths[label] = os.path.join(asked.save_trace, name) if folder else asked.save_trace
+        if len(text) > MOST_TRACE:
+            print(f"numalab: {paths[label]} has {len(text):,} bytes, and numatrace reads at most {MOST_TRACE:,}: fewer epochs make a shorter one", file=sys.stderr)
+        write_file(paths[label], text)
+    return paths
+
+
+def one_comparison(asked, job, ending):
+    films = [] if ending.startswith(".htm") else None
+    with Progress("accesses counted") as progress:
+        found = run_job(job, asked.program, progress, bool(asked.save_trace), films)
+    paths = save_traces(found, asked) if asked.save_trace else {}
+    if ending.startswith(".htm"):
+        write_file(asked.out, page.page_of(found, films, paths))
+    elif asked.out:
+        write_file(asked.out, results.csv_text(found) if ending == ".csv" else "".join(line + "\n" for line in results.json_lines(found)))
+    if asked.jsonl:
+        lines = list(results.json_lines(found))
+    elif asked.csv:
+        lines = results.csv_text(found).splitlines()
+    else:
+        lines = [*results.about(found), "", *(results.epoch_table_of(found) + [""] if asked.each_epoch else []), *results.table_of(found)]
+    print("\n".join(map(printable, lines)))
+    for error in found.errors:
+        print(f"numalab: {printable(error)}", file=sys.stderr)
+    return 1 if found.errors else 0
+
+
+def sweep(asked, job, ending):
+    if asked.save_trace or asked.each_epoch:
+        raise Bad("--save-trace and --each-epoch are for a single comparison: repeat one combination without --sweep and --seeds")
+    seeds = number_of(asked.seeds or "1", "--seeds")
+    jobs = number_of(asked.jobs, "--jobs") if asked.jobs else os.cpu_count() or 1
+    if seeds < 1 or jobs < 1:
+        raise Bad("--seeds and --jobs are 1 or more")
+    todo = sweeps.combinations(job, asked.sweep, seeds)
+    runner = sweeps.on_dask(asked.dask, asked.program) if asked.dask else sweeps.on_processes(jobs, asked.program)
+    with sweeps.Kept(asked.keep, asked.program) as kept, Progress("combinations done") as progress:
+        done = sweeps.swept(todo, runner, kept, progress)
+    if ending.startswith(".htm"):
+        write_file(asked.out, page.sweep_page_of(todo, done))
+    elif asked.out:
+        write_file(asked.out, sweeps.csv_text(todo, done) if ending == ".csv" else "".join(line + "\n" for line in sweeps.json_lines(todo, done)))
+    lines = sweeps.json_lines(todo, done) if asked.jsonl else sweeps.csv_text(todo, done).splitlines() if asked.csv else sweeps.table_of(todo, done)
+    print("\n".join(map(printable, lines)))
+    errors = sweeps.errors_of(todo, done)
+    for error in errors:
+        print(f"numalab: {printable(error)}", file=sys.stderr)
+    return 1 if errors else 0
+
+
+def run(asked):
+    if asked.list:
+        print(listing.text())
+        return 0
+    if not asked.machine or not asked.workload:
+        raise Bad("--machine and --workload say what to compare on; --list names workloads and policies")
+    ending = endings(asked)
+    job = job_of(setups.setup_of(asked.machine), asked)
+    if asked.sweep or asked.seeds:
+        return sweep(asked, job, ending)
+    if asked.jobs or asked.dask or asked.keep:
+        raise Bad("--jobs, --dask and --keep are for a sweep: --sweep or --seeds makes one")
+    return one_comparison(asked, job, ending)

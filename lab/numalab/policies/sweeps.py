@@ -1,0 +1,240 @@
+"""Sweeps: every combination of some values and seeds, shared among processes or the workers of a Dask cluster. What is done is kept
+as it comes. The rows are the same whoever computes them."""
+import concurrent.futures
+import csv
+import gc
+import hashlib
+import io
+import itertools
+import json
+import multiprocessing
+import os
+import statistics
+from collections import namedtuple
+
+from .. import __version__
+from ..program import found
+from ..traces import Bad
+from .job import run_job, setup_of_job, workload_of
+from .results import BOUNDS, UNKNOWN, above_text, aligned, cost_text, share_text
+from .spec import number_of
+from .streams import FORMATS
+
+CACHE = os.path.join("~", ".cache", "numalab", "sweeps")
+
+# A combination: the values by their names as they were given, the seed, and the job.
+Combination = namedtuple("Combination", "values seed job")
+
+
+# ---- what to run
+
+
+def values_of(text):
+    """A sweep such as a=0.8,1.0,1.2."""
+    name, sign, values = text.partition("=")
+    found_values = values.split(",")
+    if not sign or not name or not all(found_values) or len(set(found_values)) < len(found_values):
+        raise Bad(f"--sweep {text}: expected a name and different values, such as a=0.8,1.0")
+    return name, found_values
+
+
+def with_value(job, name, value):
+    """A job with another value: of a node's frames, or of a parameter of the workload."""
+    setup = setup_of_job(job)
+    if name in setup.names or name.startswith("node"):
+        sized = setup.sized(name, number_of(value, f"--sweep {name}"))
+        if sized:
+            return {**job, "machine": {**job["machine"], "top": sized.top}}
+    words, given = job["workload"].split(" "), f"{name}={value}"
+    places = [k for k, word in enumerate(words) if word.startswith(name + "=")]
+    if not places and words[0] == "mix":
+        raise Bad(f"--sweep {name}: no part of the mix has this parameter")
+    for k in places:
+        words[k] = given
+    return {**job, "workload": " ".join(words if places else [*words, given])}
+
+
+def combinations(job, sweeps, seeds):
+    """All combinations, each refused before any is run."""
+    named = [values_of(text) for text in sweeps]
+    if len({name for name, _ in named}) < len(named):
+        raise Bad("--sweep names something twice")
+    todo = []
+    for chosen in itertools.product(*(values for _, values in named)):
+        values, now = dict(zip((name for name, _ in named), chosen)), job
+        for name, value in values.items():
+            now = with_value(now, name, value)
+        if now["workload"].split()[0] not in FORMATS:
+            workload_of(now["workload"], setup_of_job(now), job["seed"])
+        todo += [Combination(values, job["seed"] + k, {**now, "seed": job["seed"] + k}) for k in range(seeds)]
+    return todo
+
+
+# ---- running
+
+
+def run_combination(job, program=None):
+    """The rows of a combination, as plain values."""
+    results = run_job(job, program)
+    rows = [row for label in results.labels() for row in results.rows_of(label)]
+    gc.collect()  # (the command looks for no cycles by itself)
+    return {"rows": rows, "totals": results.totals(), "errors": results.errors}
+
+
+def on_processes(jobs, program):
+    """Runs jobs in processes of this machine; gives each one's number and rows as they come."""
+    def runner(todo):
+        with concurrent.futures.ProcessPoolExecutor(jobs) as pool:
+            futures = {pool.submit(run_combination, job, program): number for number, job in todo}
+            try:
+                for future in concurrent.futures.as_completed(futures):
+                    yield futures[future], future.result()
+            except BaseException:
+                pool.shutdown(wait=False, cancel_futures=True)
+                for process in multiprocessing.active_children():
+                    process.terminate()
+                raise
+    return runner
+
+
+def on_dask(address, program):
+    """The same on the workers of a Dask cluster, which need numalab and the program."""
+    try:
+        import distributed
+    except ImportError:
+        raise Bad("--dask needs Python's module distributed, which is not installed (Debian's package python3-distributed)") from None
+
+    def runner(todo):
+        try:
+            client = distributed.Client(address, timeout=10, set_as_default=False)
+        except (OSError, ValueError) as error:
+            raise Bad(f"--dask {address}: no scheduler answers there ({type(error).__name__})") from error
+        with client:
+            futures = {client.submit(run_combination, job, program, pure=False): number for number, job in todo}
+            for future in distributed.as_completed(list(futures)):
+                try:
+                    yield futures[future], future.result()
+                except ModuleNotFoundError as error:
+                    raise Bad(f"--dask {address}: a worker has no module {error.name}: pip install ./lab there") from error
+    return runner
+
+
+class Kept:
+    """A file with what is done, a line for each combination, by a digest of all that its rows come from."""
+
+    def __init__(self, path, program):
+        with open(found(program, "numatrace_session", "numatrace-session", "NUMATRACE_SESSION"), "rb") as file:
+            self.front = __version__ + hashlib.sha256(file.read()).hexdigest()
+        self.path = path or os.path.join(os.path.expanduser(CACHE), "done.jsonl")
+        self.done, self.file = {}, None
+
+    def __enter__(self):
+        try:
+            os.makedirs(os.path.dirname(os.path.abspath(self.path)), exist_ok=True)
+            self.file = open(self.path, "a+", encoding="utf-8")
+        except OSError as error:
+            raise Bad(f"{self.path}: {error.strerror}") from error
+        self.file.seek(0)
+        whole = True
+        for line in self.file:
+            whole = line.endswith("\n")
+            try:
+                one = json.loads(line)
+                self.done[one["key"]] = one["found"]
+            except (ValueError, KeyError, TypeError):
+                continue  # A line that an interrupt cut off.
+        if not whole:
+            self.file.write("\n")
+        return self
+
+    def __exit__(self, *_):
+        self.file.close()
+
+    def key(self, job):
+        return hashlib.sha256((self.front + json.dumps(job, sort_keys=True)).encode()).hexdigest()
+
+    def get(self, job):
+        return self.done.get(self.key(job))
+
+    def put(self, job, what):
+        self.file.write(json.dumps({"key": self.key(job), "found": what}) + "\n")
+        self.file.flush()
+
+
+def swept(todo, runner, kept, progress):
+    """What each combination gave, in their order; those that are not kept are run."""
+    done = [kept.get(one.job) for one in todo]
+    missing = [(number, one.job) for number, one in enumerate(todo) if done[number] is None]
+    progress.at(len(todo) - len(missing), len(todo))
+    for count, (number, what) in enumerate(runner(missing) if missing else (), len(todo) - len(missing) + 1):
+        done[number] = json.loads(json.dumps(what))  # As it is read back, whoever computed it.
+        if not what["errors"]:
+            kept.put(todo[number].job, what)
+        progress.at(count, len(todo))
+    return done
+
+
+# ---- as text
+
+
+def values_text(values):
+    return " ".join(f"{name}={value}" for name, value in values.items()) or "all"
+
+
+def errors_of(todo, done):
+    return [f"{values_text(one.values)} seed={one.seed}: {error}" for one, what in zip(todo, done) for error in what["errors"]]
+
+
+def json_lines(todo, done):
+    """The rows of all combinations: by epoch, and then over all epochs."""
+    for one, what in zip(todo, done):
+        front = {**one.values, "seed": one.seed}
+        for row in what["rows"]:
+            yield json.dumps({**front, **row})
+        for total in what["totals"]:
+            yield json.dumps({**front, "total": True, **total})
+
+
+def csv_text(todo, done):
+    """A row for each combination, seed and policy."""
+    names, keys = list(todo[0].values), ["fast_share", "mean_cost", "mean_cost_with_moves", "moved", "refused", "above_static", "above_each_epoch"]
+    out = io.StringIO()
+    writer = csv.writer(out, lineterminator="\n")
+    writer.writerow([*names, "seed", "policy", "accesses", *keys])
+    for one, what in zip(todo, done):
+        for total in what["totals"]:
+            writer.writerow([*one.values.values(), one.seed, total["policy"], total["accesses"], *(total[key] for key in keys)])
+    return out.getvalue()
+
+
+def spread(values, text):
+    """A mean, and what it varies by where there are several."""
+    values = [value for value in values if value is not None]
+    if not values:
+        return UNKNOWN
+    more = f" ±{text(statistics.stdev(values)).lstrip('+')}" if len(values) > 1 else ""
+    return text(statistics.mean(values)) + more
+
+
+def grouped(todo, done):
+    """Combinations without their seeds: the values, and for each policy its totals by seed."""
+    groups = {}
+    for one, what in zip(todo, done):
+        policies = groups.setdefault(tuple(one.values.items()), {})
+        for total in what["totals"]:
+            policies.setdefault(total["policy"], []).append(total)
+    return groups
+
+
+def table_of(todo, done):
+    """Means over the seeds, with their standard deviations."""
+    heads = [*(todo[0].values or ["combination"]), "policy", "fast", "mean cost", "moved", "above static", "above each epoch"]
+    lines = []
+    for values, policies in grouped(todo, done).items():
+        for policy, totals in policies.items():
+            column = {key: [total[key] for total in totals] for key in ("fast_share", "mean_cost", "moved", "above_static", "above_each_epoch")}
+            lines.append([*(value for _, value in values or (("", "all"),)), policy, spread(column["fast_share"], share_text),
+                          spread(column["mean_cost"], cost_text),
+                          UNKNOWN if policy in BOUNDS else spread(column["moved"], lambda value: f"{value:,.0f}"),
+                          spread(column["above_static"], above_text), spread(column["above_each_epoch"], above_text)])
+    return aligned(heads, lines)

@@ -1,0 +1,347 @@
+"""The laboratory for placement policies, by arithmetic: shares that can be computed by hand, counts that add up, bounds, and policies
+that break their rules."""
+import itertools
+import json
+import os
+import random
+import unittest
+from collections import Counter
+from unittest import mock
+
+from support import Case, run
+from laboratory import EXAMPLES, PROGRAM, RECENT, compared, setup_with, total
+from numalab.policies import arrays
+from numalab.policies.bounds import EPOCHS, STATIC, Bounds
+from numalab.policies.builtin import POLICIES, HotCold, WeightedInterleave
+from numalab.policies.costs import Costs
+from numalab.traces import Bad
+
+KINDS = ["zipf pages=60", "uniform pages=60", "scan pages=60", "phases pages=60 every=2", "gups pages=60 processes=2",
+         "stencil pages=60 border=4 homes=0,1", "mix zipf pages=30 share=0.7 + scan pages=30 share=0.3 pinned=0.1"]
+COMMON = " accesses=3001 epochs=5"
+
+
+def harmonic(count, exponent=1.0):
+    return sum(rank ** -exponent for rank in range(1, count + 1))
+
+
+class Arithmetic(Case):
+    """Shares that follow from the workload alone."""
+
+    def exact(self, counts):
+        """A workload with that many accesses to each page, at one time, and all again in a second epoch."""
+        lines = [f"{time},1,{0x10000 + 4096 * page},r\n" for time in (0, 1) for page, count in enumerate(counts) for _ in range(count)]
+        return f"csv {self.written('exact.csv', ''.join(lines))} epochs=2"
+
+    def test_zipf_exactly(self):
+        # 2520 / k accesses to the page of rank k are whole numbers up to 10, and the shares ratios of harmonic sums.
+        results = compared(setup_with(4, 10), self.exact([2520 // rank for rank in range(1, 11)]), "first-touch")
+        for bound in (STATIC, EPOCHS):
+            self.assertAlmostEqual(total(results, bound)["fast_share"], harmonic(4) / harmonic(10), 12)
+        self.assertEqual(total(results, STATIC)["by_node"][0], 2 * (2520 + 1260 + 840 + 630))
+
+    def test_uniform_exactly(self):
+        results = compared(setup_with(6, 10), self.exact([50] * 15), "first-touch", "interleave")
+        for label in (STATIC, EPOCHS, "first-touch"):
+            self.assertEqual(total(results, label)["fast_share"], 6 / 15)
+        # Interleaved pages take turns: every second one of the first 12 is on node 0, and the three that follow find it full.
+        self.assertEqual(total(results, "interleave")["fast_share"], 6 / 15)
+
+    def test_zipf_drawn(self):
+        # Of 200,000 draws a share near 0.76 has a standard deviation of 0.001; the best placement gains some 0.001 from chance.
+        for exponent in (0.8, 1.2):
+            results = compared(setup_with(50, 200), f"zipf pages=200 a={exponent} accesses=2e5 epochs=2", "first-touch")
+            self.assertAlmostEqual(total(results, STATIC)["fast_share"], harmonic(50, exponent) / harmonic(200, exponent), delta=0.006)
+
+    def test_uniform_drawn(self):
+        # Pages have 10,000 accesses, give or take 100: the better half of them has 0.004 more than a half. First touch knows nothing.
+        results = compared(setup_with(10, 20), "uniform pages=20 accesses=2e5 epochs=2", "first-touch")
+        self.assertAlmostEqual(total(results, STATIC)["fast_share"], 0.504, delta=0.006)
+        self.assertAlmostEqual(total(results, "first-touch")["fast_share"], 0.5, delta=0.006)
+
+    def test_scan_gives_least_recent_use_nothing(self):
+        # Of 80 pages 40 fit. Each epoch reads the next 20: the first 40 by first touch, and from then on those that have left.
+        results = compared(setup_with(40, 80), "scan pages=80 accesses=240 epochs=12", RECENT, "first-touch")
+        self.assertEqual([row["fast_share"] for row in results.rows_of("least_recent.py:LeastRecent")], [1, 1] + [0] * 10)
+        # Pages that stay are found again: two epochs of four.
+        self.assertEqual([row["fast_share"] for row in results.rows_of("first-touch")], [1, 1, 0, 0] * 3)
+
+    def test_phases(self):
+        # Of 100 pages 10 are hot, with 0.9 of the accesses; a node of 10 frames holds just these, known beforehand.
+        results = compared(setup_with(10, 100), "phases pages=100 hot=0.1 heat=0.9 every=1 accesses=1e5 epochs=5", "first-touch")
+        self.assertAlmostEqual(total(results, EPOCHS)["fast_share"], 0.9, delta=0.005)
+        # Five phases have five hot sets, of which one fits: its fifth, and of the others' epochs a tenth of the cold accesses and more.
+        cold = 4 / 5 * 0.1 / 90 * 10
+        self.assertAlmostEqual(total(results, STATIC)["fast_share"], 0.9 / 5 + cold, delta=0.01)
+
+    def test_costs(self):
+        results = compared(setup_with(6, 10), self.exact([50] * 15), "first-touch", latency="0=90,1=250", move_cost="7")
+        self.assertAlmostEqual(total(results, "first-touch")["mean_cost"], (6 * 90 + 9 * 250) / 15, 9)
+        costs = Costs(setup_with(2, 2), "0=90,1=250,1:0=300,1:1=80")
+        self.assertEqual(costs.rows, [[90, 250], [300, 80]])
+        for text, words in [("0=90", "nothing is said of node 1"), ("0", "not of the form"), ("7=1", "not there"), ("0=x", "expected a number")]:
+            with self.assertRaisesRegex(Bad, words):
+                Costs(setup_with(2, 2), text)
+
+    def test_moves_cost(self):
+        results = compared(setup_with(40, 80), "scan pages=80 accesses=240 epochs=12", RECENT, move_cost="3")
+        found = total(results, "least_recent.py:LeastRecent")
+        # Epochs 2 to 10 each bring 20 pages and send 20 away; after the last the policy is not asked.
+        self.assertEqual((found["moved"], found["cost_of_moves"]), (9 * 40, 3 * 9 * 40))
+        self.assertAlmostEqual(found["mean_cost_with_moves"], found["mean_cost"] + 3 * 9 * 40 / 240, 9)
+
+
+class Adding(Case):
+    """Every count adds up, for each kind of workload and each policy."""
+
+    def check(self, results, accesses):
+        for label in results.labels():
+            rows = results.rows_of(label)
+            self.assertEqual(sum(row["accesses"] for row in rows), accesses)
+            for row in rows:
+                self.assertEqual(sum(row["by_node"]) + row["refused"], row["accesses"])
+                self.assertEqual(sum(row["by_distance"].values()) + row["refused"], row["accesses"])
+
+    def test_all(self):
+        for workload in KINDS:
+            films, setup = [], setup_with(20, 24, 30)
+            results = compared(setup, workload + COMMON, films=films)
+            self.assertEqual((results.errors, len(results.labels())), ([], len(POLICIES) + 2))
+            self.check(results, 3001)
+            for label, epoch, nodes in films:
+                used = Counter(node for node in nodes if node is not None)
+                row = results.rows_of(label)[epoch]
+                self.assertTrue(all(used[node] <= frames for node, frames in enumerate(setup.frames)))
+                self.assertTrue(all(count == 0 or used[node] for node, count in enumerate(row["by_node"])))
+            for one in results.totals():
+                self.assertGreaterEqual(one["above_each_epoch"], -1e-12, (workload, one["policy"]))
+
+    def test_bound_of_what_stays(self):
+        for workload in KINDS[:3]:
+            results = compared(setup_with(20, 24, 30), workload + COMMON, "first-touch", "interleave", "weighted-interleave")
+            for one in results.totals()[:3]:
+                self.assertGreaterEqual(one["above_static"], -1e-12)
+
+    def test_no_frame(self):
+        policy = self.written("greedy.py", "from numalab.policies import Policy\nclass Greedy(Policy):\n    def start(self, view):\n"
+                                           "        view.mbind(view.areas[0].pages, 'MPOL_BIND', [0])\n")
+        results = compared(setup_with(10, 20), "scan pages=15 accesses=60 epochs=2", policy + ":Greedy", "first-touch")
+        found = total(results, "greedy.py:Greedy")
+        self.assertEqual((found["refused"], found["by_node"]), (5 * 4, [10 * 4, 0]))
+        self.check(results, 60)
+
+    def test_free_and_steps(self):
+        results = compared(setup_with(20, 24, 30), KINDS[0] + COMMON, "first-touch")
+        rows = results.rows_of("first-touch")
+        self.assertEqual(rows[-1]["free"], [0, 0, 14])
+        self.assertTrue(all(one["last_step"] + 1 == other["first_step"] for one, other in zip(rows, rows[1:])))
+
+
+class Statuses(Case):
+    """What did not move, and why."""
+
+    def stayed(self, workload, flags):
+        text = ("from numalab.policies import MOVE, MOVE_ALL, Policy\nclass All(Policy):\n    def epoch(self, view):\n"
+                f"        self.answer = view.move_pages(view.pages, 1, {flags})\n        assert view.answers == self.last\n"
+                "        self.last = [self.answer]\n    last = []\n")
+        results = compared(setup_with(30, 12), workload, self.written("all.py", text) + ":All")
+        self.assertEqual(results.errors, [])
+        return total(results, "all.py:All")
+
+    def test_shared(self):
+        workload = "scan pages=10 processes=2 accesses=60 epochs=3"
+        self.assertEqual(self.stayed(workload, "MOVE")["stayed"], {"EACCES": 20})
+        found = self.stayed(workload, "MOVE_ALL")
+        self.assertEqual((found["stayed"], found["moved"]), ({}, 10))
+
+    def test_pinned_and_full(self):
+        found = self.stayed("scan pages=20 accesses=40 epochs=2 pinned=0.25", "MOVE")
+        self.assertEqual((found["stayed"], found["moved"]), ({"EBUSY": 5, "ENOMEM": 3}, 12))
+
+
+class Best(unittest.TestCase):
+    """The bounds, beside all placements that there are."""
+
+    def cheapest(self, costs, homes, free, places):
+        pages = sorted({place // len(homes) for place in places})
+        slots = [node for node, count in enumerate(free) for _ in range(count)]
+        return min(sum(count * costs.rows[homes[place % len(homes)]][chosen[pages.index(place // len(homes))]] for place, count in places.items())
+                   for chosen in itertools.permutations(slots, len(pages)))
+
+    def test_small_machines(self):
+        drawn = random.Random(5)
+        for turn in range(60):
+            free = [drawn.randint(1, 2) for _ in range(3)]
+            homes = [0, 1, 2][: drawn.randint(1, 3)]
+            costs = Costs(setup_with(4, 4, 4), ",".join(f"{home}:{node}={drawn.randint(1, 9)}" for home in range(3) for node in range(3)))
+            pages = drawn.randint(1, min(4, sum(free)))
+            places = {page * len(homes) + process: drawn.randint(1, 9) for page in range(pages) for process in range(len(homes))}
+            placement = Bounds(costs, homes, free, range(3)).placement(places)
+            self.assertTrue(all(list(placement.values()).count(node) <= free[node] for node in range(3)))
+            cost = sum(count * costs.rows[homes[place % len(homes)]][placement[place // len(homes)]] for place, count in places.items())
+            self.assertEqual(cost, self.cheapest(costs, homes, free, places), (turn, homes, free, places))
+
+
+class Parts(unittest.TestCase):
+    """Thresholds and weights by hand."""
+
+    def test_threshold(self):
+        # Two pages with 8 to 15 samples, three with 2 or 3, four with 1, one with none.
+        heat = {page: power for page, power in enumerate([4, 4, 2, 2, 2, 1, 1, 1, 1, 0])}
+        self.assertEqual([HotCold.threshold(heat, room) for room in (1, 2, 4, 5, 8, 9, 10)], [5, 3, 3, 2, 2, 1, 1])
+
+    def test_weights(self):
+        self.assertEqual(WeightedInterleave.by_frames([1000, 4000]), [1, 4])
+        self.assertEqual(WeightedInterleave.by_frames([100, 100]), [1, 1])
+
+    def test_weighted_pages(self):
+        films = []
+        compared(setup_with(100, 100), "scan pages=10 accesses=10 epochs=1", "weighted-interleave weights=2,3", films=films)
+        self.assertEqual(films[0][2], [0, 0, 1, 1, 1] * 2)
+
+
+class Broken(Case):
+    """A policy that breaks its rules ends with one error; what was measured until then is there."""
+
+    def broken(self, body):
+        text = "from numalab.policies import Policy\n\nclass Mine(Policy):\n    def epoch(self, view):\n        if view.epoch == 2:\n            " + body + "\n"
+        return compared(setup_with(20, 60), KINDS[0] + COMMON, self.written("mine.py", text) + ":Mine", "first-touch")
+
+    def test_rules(self):
+        for body, words in [("view.move_pages([60], 0)", "there is no page 60: the last is 59"), ("view.node_of(-1)", "there is no page -1"),
+                            ("view.move_pages([1], 2)", "there is no node 2: the last is 1"), ("view.hint(['a'])", "there is no page 'a'"),
+                            ("view.migrate_pages([0], [1], 4)", "there is no process 4"), ("view.mbind([1, 3], 'MPOL_BIND', [0])", "mbind: expected adjacent pages"),
+                            ("view.mbind([1, 2], 'BIND', [0])", "mbind: BIND is not a mode"), ("{}['x']", "KeyError: 'x'"),
+                            ("view.move_pages([1, 2], [0])", "move_pages has 2 pages and 1 nodes")]:
+            results = self.broken(body)
+            self.assertEqual(len(results.errors), 1)
+            self.assertTrue(results.errors[0].startswith(f"policy mine.py:Mine in epoch 2: {words}"), results.errors)
+            self.assertTrue(results.errors[0].endswith("mine.py:6)"))
+            self.assertEqual([len(results.rows_of(label)) for label in ("mine.py:Mine", "first-touch", STATIC)], [3, 5, 5])
+            self.assertIsNone(total(results, "mine.py:Mine")["above_static"])
+
+    def test_start(self):
+        text = "from numalab.policies import Policy\nclass Mine(Policy):\n    def start(self, view):\n        raise OSError('no')\n"
+        results = compared(setup_with(20, 60), KINDS[0] + COMMON, self.written("mine.py", text) + ":Mine", "first-touch")
+        self.assertEqual([len(results.rows_of(label)) for label in ("mine.py:Mine", "first-touch")], [0, 5])
+        self.assertIn("policy mine.py:Mine in its start: OSError: no", results.errors[0])
+
+    def test_refusals_are_answers(self):
+        results = self.broken("assert view.move_pages([1], 0, 64).error == 'EINVAL'")
+        self.assertEqual(results.errors, [])
+        self.assertEqual(results.rows_of("mine.py:Mine")[2]["refused_calls"], {"move_pages EINVAL": 1})
+
+
+class Command(Case):
+    """The command, with the plain model in place of the program."""
+
+    def command(self, *words, folder=None):
+        with mock.patch.dict(os.environ, NUMATRACE_SESSION=PROGRAM):
+            return run("policies", *words, folder=folder)
+
+    def small(self, *words):
+        self.written("cxl.nt", "nodes fast 20 + cxl 60\n")
+        return self.command("--machine", "cxl.nt", "--workload", KINDS[0] + COMMON, *words, folder=self.there)
+
+    def test_table(self):
+        status, out, err = self.small("--policy", "first-touch", "--policy", "hot-cold", "--each-epoch", "--latency", "fast=90,cxl=250")
+        self.assertEqual((status, err), (0, ""))
+        self.assertIn("machine   2 nodes of 20, 60 frames; fast: 0 fast", out)
+        self.assertEqual(len([line for line in out.splitlines() if line.startswith("hot-cold ")]), 6)
+
+    def test_files(self):
+        for name, lines in [("x.csv", 1 + 3 * 5), ("x.jsonl", 3 * 6), ("x.html", 0)]:
+            self.assertEqual(self.small("--policy", "first-touch", "-o", name)[0], 0)
+            with open(os.path.join(self.there, name), encoding="utf-8") as file:
+                text = file.read()
+            self.assertTrue(not lines or text.count("\n") == lines)
+        rows = [json.loads(line) for line in self.small("--policy", "first-touch", "--jsonl")[1].splitlines()]
+        self.assertEqual(sum(row["accesses"] for row in rows if row["policy"] == "first-touch" and "epoch" in row), 3001)
+
+    def test_traces(self):
+        self.assertEqual(self.small("--policy", "first-touch", "--save-trace", "t.json")[0], 0)
+        with open(os.path.join(self.there, "t.json"), encoding="utf-8") as file:
+            top = json.load(file)
+        self.assertEqual(sum(step["op"] == "write" for step in top["steps"]), 60)
+        self.assertEqual(run("why", "t.json", folder=self.there), (0, "good\n", ""))
+        self.assertEqual(self.small("--save-trace", "all")[0], 0)
+        self.assertEqual(sorted(os.listdir(os.path.join(self.there, "all"))), sorted(name + ".json" for name in POLICIES))
+
+    def test_broken(self):
+        self.written("mine.py", "from numalab.policies import Policy\nclass Mine(Policy):\n    def epoch(self, view):\n        view.free(9)\n")
+        status, out, err = self.small("--policy", "mine.py:Mine", "--policy", "first-touch")
+        self.assertEqual((status, err), (1, "numalab: policy mine.py:Mine in epoch 0: there is no node 9: the last is 1 (mine.py:4)\n"))
+        self.assertIn("\nfirst-touch ", out)
+
+    def test_faults(self):
+        self.written("cxl.nt", "nodes fast 20 + cxl 60\n")
+        self.written("mine.py", "from numalab.policies import Policy\nclass Mine(Policy):\n    pass\n")
+        self.written("wrong.py", "x = \n")
+        for words, text in [
+            (["--workload", "zipf"], "--machine and --workload say what"), (["--workload", "zpf"], "there is no workload zpf"),
+            (["--workload", "zipf page=3"], "has no parameter page: did you mean pages?"), (["--workload", "zipf pages=x"], "expected a whole number"),
+            (["--workload", "zipf pages=99"], "has 99 pages, and its processes may use 80 frames"), (["--workload", "lackey none"], "none: No such file"),
+            (["--workload", "lackey"], "expected the name of a file"), (["--workload", "zipf pages=0"], "expected 1 to 16,384"),
+            (["--workload", "mix"], "expected parts with shares"), (["--workload", "zipf homes=4"], "a node that is not there"),
+            (["--workload", "zipf pages=9", "--policy", "hint"], "there is no policy hint: did you mean hints?"),
+            (["--workload", "zipf pages=9", "--policy", "mine.py:Min"], "there is no class Min that is a Policy: did you mean Mine?"),
+            (["--workload", "zipf pages=9", "--policy", "wrong.py:Mine"], "SyntaxError"),
+            (["--workload", "zipf pages=9", "--policy", "hints sacn=1"], "unexpected keyword argument 'sacn'"),
+            (["--workload", "zipf pages=9", "--policy", "hints", "--policy", "hints"], "is named twice"),
+            (["--workload", "zipf pages=9", "-o", "x.svg"], "expected a name that ends in"), (["--workload", "zipf pages=9", "--jobs", "2"], "are for a sweep"),
+            (["--workload", "zipf pages=9", "--sample", "0"], "--sample is 1 or more"), (["--workload", "zipf pages=9", "--sweep", "a"], "expected a name and different values"),
+            (["--workload", "zipf pages=9", "--sweep", "b=1"], "has no parameter b"), (["--workload", "zipf pages=9", "--fast", "slow"], "slow is not a node"),
+        ]:
+            machine = [] if text.startswith("--machine") else ["--machine", "cxl.nt"]
+            status, out, err = self.command(*machine, *words, folder=self.there)
+            self.assertEqual((status, out), (2, ""), words)
+            self.assertTrue(err.startswith("numalab: ") and text in err and err.count("\n") == 1, (words, err))
+
+    def test_list(self):
+        status, out, err = self.command("--list")
+        self.assertEqual((status, err), (0, ""))
+        for name in [*POLICIES, "best static placement", "best for each epoch", "zipf", "lackey"]:
+            self.assertIn("\n" + name, out)
+        self.assertEqual(out.count("Modelled on"), len(POLICIES))
+        self.assertEqual(out.count("Left out"), len(POLICIES))
+
+    def test_machines(self):
+        steps = "nodes fast 20 + cxl 60\nspawn other\nmap other heap 15\nwrite other heap 61\n"
+        self.written("busy.nt", steps)
+        status, out, _ = self.command("--machine", "busy.nt", "--workload", "scan pages=20 accesses=20 epochs=1", "--policy", "first-touch", folder=self.there)
+        self.assertEqual(status, 0)
+        self.assertIn("first-touch            25.00%", out)
+        self.assertIn("best static placement  25.00%", out)
+        for name, text in [("m.json", '{"nodes":[20,60],"distance":[[10,30],[30,10]]}'), ("bad.json", '{"nodes":[20]}'), ("bad.nt", "nodes x\n")]:
+            self.written(name, text)
+            status = self.command("--machine", name, "--workload", "scan pages=20 accesses=20 epochs=1", "--policy", "first-touch", folder=self.there)[0]
+            self.assertEqual(status, 0 if name == "m.json" else 2)
+
+
+class Lengths(unittest.TestCase):
+    """A built-in policy has at most 60 lines, and names its source."""
+
+    def test_lengths(self):
+        import inspect
+        for name, kind in POLICIES.items():
+            self.assertLessEqual(len(inspect.getsource(kind).splitlines()), 60, name)
+            self.assertTrue(kind.__doc__ and kind.modelled_on != "nothing that was published" and kind.left_out != "not said")
+
+    def test_examples_are_short(self):
+        with open(os.path.join(EXAMPLES, "least_recent.py"), encoding="utf-8") as file:
+            text = file.read()
+        self.assertLessEqual(len(text[text.index("class"):].splitlines()), 15)
+
+
+class Draws(unittest.TestCase):
+    """Draws are those of Python's generator."""
+
+    def test_weights(self):
+        draws, table = arrays.Draws("x"), arrays.Table([3, 0, 1])
+        counts = Counter(int(one) for one in draws.take(table, 40000))
+        self.assertEqual(counts[1], 0)
+        self.assertAlmostEqual(counts[0] / 40000, 0.75, delta=0.01)
+
+
+if __name__ == "__main__":
+    unittest.main()
