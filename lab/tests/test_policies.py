@@ -77,11 +77,11 @@ class Arithmetic(Case):
     def test_costs(self):
         results = compared(setup_with(6, 10), self.exact([50] * 15), "first-touch", latency="0=90,1=250", move_cost="7")
         self.assertAlmostEqual(total(results, "first-touch")["mean_cost"], (6 * 90 + 9 * 250) / 15, 9)
-        costs = Costs(setup_with(2, 2), "0=90,1=250,1:0=300,1:1=80")
-        self.assertEqual(costs.rows, [[90, 250], [300, 80]])
+        costs = Costs(setup_with(2, 2), [0, 1], "0=90,1=250,1:0=300,1:1=80")
+        self.assertEqual(costs.rows, {0: [90, 250], 1: [300, 80]})
         for text, words in [("0=90", "nothing is said of node 1"), ("0", "not of the form"), ("7=1", "not there"), ("0=x", "expected a number")]:
             with self.assertRaisesRegex(Bad, words):
-                Costs(setup_with(2, 2), text)
+                Costs(setup_with(2, 2), [0], text)
 
     def test_moves_cost(self):
         results = compared(setup_with(40, 80), "scan pages=80 accesses=240 epochs=12", RECENT, move_cost="3")
@@ -173,7 +173,7 @@ class Best(unittest.TestCase):
         for turn in range(60):
             free = [drawn.randint(1, 2) for _ in range(3)]
             homes = [0, 1, 2][: drawn.randint(1, 3)]
-            costs = Costs(setup_with(4, 4, 4), ",".join(f"{home}:{node}={drawn.randint(1, 9)}" for home in range(3) for node in range(3)))
+            costs = Costs(setup_with(4, 4, 4), homes, ",".join(f"{home}:{node}={drawn.randint(1, 9)}" for home in range(3) for node in range(3)))
             pages = drawn.randint(1, min(4, sum(free)))
             places = {page * len(homes) + process: drawn.randint(1, 9) for page in range(pages) for process in range(len(homes))}
             placement = Bounds(costs, homes, free, range(3)).placement(places)

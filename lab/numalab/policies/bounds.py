@@ -55,7 +55,8 @@ class Bounds:
         for page, weight in sorted(weights.items()):
             if not any(room):
                 break
-            costs = [sum(one * cost for one, cost in zip(weight, choice)) for choice in self.choices]
+            there = [(home, one) for home, one in enumerate(weight) if one]
+            costs = [sum(one * choice[home] for home, one in there) for choice in self.choices]
             chains.add(page, costs, room)
         return chains.at
 
@@ -83,12 +84,14 @@ class Chains:
     def add(self, page, costs, room):
         self.costs[page] = costs
         least, before = list(costs), [None] * self.count
-        for _ in range(self.count):
+        full = [one for one in range(self.count) if not room[one]]
+        moves = [(one, other, move[0]) for one in full for other in range(self.count) if one != other
+                 for move in [self.cheapest(one, other)] if move]
+        for _ in range(self.count if moves else 0):
             changed = False
-            for one, other in self.moves:
-                move = None if room[one] else self.cheapest(one, other)
-                if move and least[one] + move[0] < least[other]:
-                    least[other], before[other], changed = least[one] + move[0], one, True
+            for one, other, cost in moves:
+                if least[one] + cost < least[other]:
+                    least[other], before[other], changed = least[one] + cost, one, True
             if not changed:
                 break
         end = min((choice for choice in range(self.count) if room[choice]), key=lambda choice: (least[choice], choice))

@@ -4,14 +4,15 @@ from .spec import number_of
 
 
 class Costs:
-    """`rows[home][node]` is the cost of an access; `known` says whether latencies were given, as otherwise it is the distance."""
+    """`rows[home][node]` is the cost of an access, for the homes that processes have; `known` says whether latencies were given, as
+    otherwise it is the distance."""
 
-    def __init__(self, setup, latency=None, move=0):
+    def __init__(self, setup, homes, latency=None, move=0):
         self.move, self.known = move, bool(latency)
-        self.rows = [list(map(float, row)) for row in setup.distance]
+        self.rows = {home: list(map(float, setup.distance[home])) for home in sorted(set(homes))}
         if latency:
             self.read(setup, latency)
-        self.worst = max(map(max, self.rows))
+        self.worst = max(map(max, self.rows.values()))
 
     def read(self, setup, text):
         """Latencies such as 0=90,1=140, or with the node of the process before a colon: 0:1=140."""
@@ -29,8 +30,8 @@ class Costs:
                     by_node[node] = cost
                 else:
                     by_pair.update({(home, node): cost for home in ends[0]})
-        for home in setup.nodes:
+        for home in self.rows:
             for node in setup.nodes:
                 if (home, node) not in by_pair and node not in by_node:
-                    raise Bad(f"--latency: nothing is said of node {setup.name_of(node)}")
+                    raise Bad(f"--latency: nothing is said of node {setup.name_of(node)} for processes on node {setup.name_of(home)}")
                 self.rows[home][node] = by_pair.get((home, node), by_node.get(node))

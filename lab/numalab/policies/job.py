@@ -40,5 +40,5 @@ def run_job(job, program=None, progress=None, keep=False, films=None):
     frames = sum(setup.frames[node] for node in workload.processes[0].allowed)
     if workload.pages > frames:
         raise Bad(f"the workload has {workload.pages:,} pages, and its processes may use {frames:,} frames")
-    plan = Plan(Costs(setup, job["latency"], job["move_cost"]), sorted(set(fast)), homes, job["sample"], job["seed"], program)
+    plan = Plan(Costs(setup, homes, job["latency"], job["move_cost"]), sorted(set(fast)), homes, job["sample"], job["seed"], program)
     return compared(job["policies"], setup, workload, plan, progress, keep, films)

@@ -64,11 +64,15 @@ class Machine:
 
     def make(self, step):
         """Makes a step, and returns its answer."""
+        return answer_of(line_of(self.lines(step)))
+
+    def lines(self, step):
+        """Makes a step, and returns its lines of the report."""
         lines = self.session.step(step)
         self.made += 1
         if self.kept is not None:
             self.kept.append(json.dumps(step, separators=(",", ":")))
-        return answer_of(line_of(lines))
+        return lines
 
     def step(self, op, **keys):
         return self.make({"op": op, **keys})
@@ -99,8 +103,8 @@ class Machine:
     # ---- looks and touches
 
     def free(self):
-        """How many frames are free on each node."""
-        return [len(self.step("free", node=node)["frames"]) for node in self.setup.nodes]
+        """How many frames are free on each node: the number before each list."""
+        return [int(self.lines({"op": "free", "node": node})[0].split(":")[0].split()[-1]) for node in self.setup.nodes]
 
     def moved_so_far(self):
         return self.step("vmstat")["pgmigrate_success"]
@@ -117,10 +121,10 @@ class Machine:
 
     def look(self, nodes):
         """Asks where every page is, and enters the node of each in a list by the pages' numbers."""
-        for process, pid in enumerate(self.pids):
-            for entry in self.step("pagemap", pid=pid)["entries"]:
-                page = self.index.page(process, entry["address"])
-                nodes[page] = self.node_at[entry["frame"]]
+        for pages, pid in zip(self.index.pages, self.pids):
+            for entry in self.lines({"op": "pagemap", "pid": pid})[0].partition(":")[2].split():
+                address, frame = entry.split("=")
+                nodes[pages[address]] = self.node_at[int(frame)]
 
     # ---- calls about pages
 
@@ -151,7 +155,7 @@ class Machine:
 
 
 class Index:
-    """Pages by their numbers, and where they are in the processes' addresses."""
+    """Pages by their numbers, and for each process its pages by their addresses, as `pagemap` writes them."""
 
     def __init__(self, workload):
         self.regions, self.addresses, self.owners, self.pages = [], [], [], [{} for _ in workload.processes]
@@ -164,7 +168,7 @@ class Index:
                 self.addresses.append(address)
                 self.owners.append(region.processes[0])
                 for process in region.processes:
-                    self.pages[process][address] = first + k
+                    self.pages[process][f"{address:08x}"] = first + k
 
     def address(self, page):
         return self.addresses[page]
@@ -177,6 +181,3 @@ class Index:
         if page not in self.there:
             self.there.add(page)
             self.owners[page] = process
-
-    def page(self, process, address):
-        return self.pages[process][address]

@@ -1,10 +1,11 @@
 """What was measured: a row for each epoch and policy, and one over all epochs; as a table, as lines of JSON, and as CSV."""
 import csv
 import io
+import itertools
 import json
 from collections import Counter
 
-from ..words import counted
+from ..words import counted, nodes_text
 from .bounds import EPOCHS, STATIC
 
 BOUNDS = (STATIC, EPOCHS)
@@ -161,15 +162,21 @@ def epoch_table_of(results):
     return aligned(heads, lines)
 
 
+def stretches_of(values):
+    """Equal values next to each other, with how many there are."""
+    return [(value, len(list(same))) for value, same in itertools.groupby(values)]
+
+
 def about(results):
     """What was compared, as lines."""
     workload, setup, plan = results.workload, results.setup, results.plan
-    fast = ", ".join(setup.name_of(node) for node in plan.fast)
+    fast = ", ".join(setup.name_of(node) for node in plan.fast) if len(plan.fast) < 5 else nodes_text(plan.fast)
     unit = "the latencies given" if plan.costs.known else "distance, as no latencies were given"
     scale = f", each for {workload.scale} of the program's" if workload.scale > 1 else ""
+    sizes = ", ".join(f"{frames:,}" if many == 1 else f"{many} x {frames:,}" for frames, many in stretches_of(setup.frames))
     lines = [f"workload  {workload.name}: {counted(workload.pages, 'page')}{scale}, {counted(len(workload.processes), 'process', 'processes')}, "
              f"{counted(workload.epochs, 'epoch')}, seed {plan.seed}",
-             f"machine   {counted(len(setup.frames), 'node')} of {', '.join(f'{frames:,}' for frames in setup.frames)} frames; fast: {fast}",
+             f"machine   {counted(len(setup.frames), 'node')} of {sizes} frames; fast: {fast}",
              f"cost      by {unit}; a moved page costs {plan.costs.move:g}"]
     lines += [f"left out  {what}: {count:,}" for what, count in sorted(workload.left_out.items())]
     return lines
