@@ -1,8 +1,11 @@
 """What the tests of the laboratory for policies share: small comparisons, by the plain model in place of the program."""
 import os
 from argparse import Namespace
+from unittest import mock
 
 from support import LAB, ROOT
+from numalab import model
+from numalab.policies import machine
 from numalab.policies.job import job_of, run_job
 from numalab.policies.setups import Setup
 from numalab.statements import tier_distances
@@ -23,9 +26,24 @@ def asked_for(workload, policies, **more):
     return Namespace(**{"workload": workload, "policy": policies, "latency": None, "move_cost": "0", "fast": None, "sample": "100", "seed": "1", **more})
 
 
-def compared(setup, workload, *policies, program=PROGRAM, keep=False, films=None, **more):
-    """The results of a comparison."""
-    return run_job(job_of(setup, asked_for(workload, list(policies), **more)), program, None, keep, films)
+class Here:
+    """A session in this process, which plays by the plain model."""
+
+    def __init__(self, top, _):
+        self.machine = model.Machine(top)
+
+    def step(self, call):
+        return self.machine.play(call)
+
+    def close(self):
+        """There is nothing to end."""
+
+
+def compared(setup, workload, *policies, program=None, keep=False, films=None, **more):
+    """The results of a comparison: by the plain model, or by a program."""
+    job = job_of(setup, asked_for(workload, list(policies), **more))
+    with mock.patch.object(machine, "Session", machine.Session if program else Here):
+        return run_job(job, program, None, keep, films)
 
 
 def total(results, label):
