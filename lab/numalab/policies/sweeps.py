@@ -106,7 +106,7 @@ def on_dask(address, program):
 
     def runner(todo):
         try:
-            client = distributed.Client(address, timeout=10, set_as_default=False)
+            client = distributed.Client(address, timeout=10)
         except (OSError, ValueError) as error:
             raise Bad(f"--dask {address}: no scheduler answers there ({type(error).__name__})") from error
         with client:
