@@ -13,11 +13,12 @@ from numalab.traces import Bad
 
 DATA = os.path.join(LAB, "tests", "data")
 PERF = """# a heading
-           walk  4711 [002]  12.000000:          1 cpu/mem-loads,ldlat=30/P:     7f0000001008 ffffffff81 main+0x1 (walk)
+           walk  4711 [002]  12.000000:          1 cpu/mem-loads,ldlat=30/P:     7f0000001008  5080022 |OP LOAD|LVL L1 hit|
            walk  4711/4712  12.500000:  cpu/mem-stores/P:     7f0000003000
      a b c  4800 [000]  13.000000:  cpu/mem-loads/P:     7f0000001fff
    swapper     0 [000]  13.500000:  cpu/mem-loads/P:     7f0000001000
            walk  4711 [001]  14.000000:  cpu/mem-loads/P:  ffff888000001000
+           walk  4711 [001]  14.500000:          1 page-faults:  56050a4e8424 add+0x40 (walk)
 """
 DAMON = """base_time_absolute: 8 m 59.809 s
 
@@ -64,7 +65,7 @@ class Read(Case):
     def test_perf(self):
         workload = self.workload("perf", PERF, "epochs=2")
         self.assertEqual(self.counted(workload), [{("0x7f0000001000", 4711, "r"): 1}, {("0x7f0000003000", 4711, "w"): 1, ("0x7f0000001000", 4800, "r"): 1}])
-        self.assertEqual(dict(workload.left_out), {"lines that are no sample with an address": 1, "accesses by no process": 1,
+        self.assertEqual(dict(workload.left_out), {"lines that are no sample with an address": 2, "accesses by no process": 1,
                                                    "accesses to addresses of the kernel": 1})
 
     def test_damon(self):

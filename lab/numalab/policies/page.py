@@ -86,5 +86,7 @@ def sweep_page_of(todo, done):
                   "fast": mean([total["fast_share"] for total in totals]), "cost": mean([total["mean_cost"] for total in totals])}
                  for policy, totals in policies.items()]
         plots.append({"values": values_text(dict(values)), "lines": lines})
-    seeds = sorted({one.seed for one in todo})
-    return filled("sweep.html", {"workload": todo[0].job["workload"], "seeds": seeds, "plots": plots})
+    names, last = list(todo[0].values), [list(one.values.values())[-1:] for one in todo]
+    words = [word for word in todo[0].job["workload"].split() if word.partition("=")[0] not in names]
+    return filled("sweep.html", {"workload": " ".join(words), "seeds": sorted({one.seed for one in todo}), "plots": plots,
+                                 "across": sum(1 for k, value in enumerate(last) if value not in last[:k])})

@@ -130,9 +130,9 @@ def stayed_text(stayed):
 
 
 def aligned(heads, lines):
-    """Columns, the first to the left and the others to the right, except for the last if it is words."""
-    widths = [max(len(line[k]) for line in [heads, *lines]) for k in range(len(heads))]
-    return ["  ".join(word.ljust(width) if k == 0 else word.rjust(width) for k, (word, width) in enumerate(zip(line, widths))).rstrip()
+    """Columns: as far as that of the policies to the left, the others to the right."""
+    widths, left = [max(len(line[k]) for line in [heads, *lines]) for k in range(len(heads))], heads.index("policy")
+    return ["  ".join(word.ljust(width) if k <= left else word.rjust(width) for k, (word, width) in enumerate(zip(line, widths))).rstrip()
             for line in [heads, *lines]]
 
 

@@ -20,7 +20,7 @@ READ, WRITE = (0,), (1,)
 BOTH = READ + WRITE
 MOST_PROCESSES, MOST_PID = 64, (1 << 32) - 1
 LACKEY = re.compile(r"(I| [LSM]) {1,2}([0-9a-f]+),[0-9]+")
-PERF = re.compile(r"\s*\S.*?\s([0-9]+)(?:/[0-9]+)?\s+(?:\[[0-9]+\]\s+)?([0-9]+\.[0-9]+):\s+(?:[0-9]+\s+)?(\S+?):\s+([0-9a-f]+)(?:\s.*)?")
+PERF = re.compile(r"\s*\S.*?\s([0-9]+)(?:/[0-9]+)?\s+(?:\[[0-9]+\]\s+)?([0-9]+\.[0-9]+):\s+(?:[0-9]+\s+)?(\S+?):\s+([0-9a-f]+)(?:\s+[0-9a-f]+(?:\s.*)?)?\s*")
 REGION = re.compile(r"\s*([0-9a-f]+)-([0-9a-f]+)\s*\(.*?\)\s*:\s*([0-9]+).*")
 DAMON_KEY = re.compile(r"\s*(monitoring_start|target_id):\s+([0-9.]+)\s*(ns|us|ms|s|m|h)?.*")
 UNITS = {None: 1.0, "ns": 1e-9, "us": 1e-6, "ms": 1e-3, "s": 1.0, "m": 60.0, "h": 3600.0}
@@ -43,7 +43,8 @@ def lackey(lines, left):
 
 
 def perf(lines, left):
-    """perf script of a record by perf mem: process, time, event and address. An event that has `store` in its name writes."""
+    """perf script of a record by perf mem: process, time, event and address, and after that nothing or a number, since a name would
+    mean that the number before it is the place of the instruction. An event that has `store` in its name writes."""
     for line in lines:
         match = PERF.fullmatch(line)
         if not match:
