@@ -10,7 +10,10 @@ NAME, VERSION = "numalab", "1.0.0"
 SUMMARY = "Traces for numatrace that a person can write, and its reports as a person can read them"
 HERE = os.path.dirname(os.path.abspath(__file__))
 INFO = f"{NAME}-{VERSION}.dist-info"
-METADATA = f"Metadata-Version: 2.1\nName: {NAME}\nVersion: {VERSION}\nSummary: {SUMMARY}\nRequires-Python: >=3.9\n"
+# What `pip install './lab[NAME]'` also installs, for `numalab policies`.
+EXTRAS = {"numpy": "numpy", "dask": "distributed"}
+METADATA = (f"Metadata-Version: 2.1\nName: {NAME}\nVersion: {VERSION}\nSummary: {SUMMARY}\nRequires-Python: >=3.9\n"
+            + "".join(f'Provides-Extra: {name}\nRequires-Dist: {module}; extra == "{name}"\n' for name, module in EXTRAS.items()))
 WHEEL = "Wheel-Version: 1.0\nGenerator: wheel_of\nRoot-Is-Purelib: true\nTag: py3-none-any\n"
 COMMANDS = "[console_scripts]\nnumalab = numalab.cli:main\n"
 
