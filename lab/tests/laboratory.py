@@ -39,11 +39,11 @@ class Here:
         """There is nothing to end."""
 
 
-def compared(setup, workload, *policies, program=None, keep=False, films=None, **more):
+def compared(setup, workload, *policies, program=None, keep=False, film=None, **more):
     """The results of a comparison: by the plain model, or by a program."""
     job = job_of(setup, asked_for(workload, list(policies), **more))
     with mock.patch.object(machine, "Session", machine.Session if program else Here):
-        return run_job(job, program, None, keep, films)
+        return run_job(job, program, None, keep, film)
 
 
 def total(results, label):

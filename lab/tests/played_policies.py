@@ -43,12 +43,12 @@ class Seen:
         self.answers = {}
 
     def patched(self):
-        seen, original = self.answers, View._answered
+        seen, original = self.answers, View._note
 
         def answered(view, answer):
             seen.setdefault(id(view), (view, []))[1].append(answer)
             return original(view, answer)
-        return mock.patch.object(View, "_answered", answered)
+        return mock.patch.object(View, "_note", answered)
 
 
 @needs_program

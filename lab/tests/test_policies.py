@@ -14,6 +14,7 @@ from numalab.policies import arrays
 from numalab.policies.bounds import EPOCHS, STATIC, Bounds
 from numalab.policies.builtin import POLICIES, HotCold, WeightedInterleave
 from numalab.policies.costs import Costs
+from numalab.policies.film import ABSENT, Film, stretches
 from numalab.traces import Bad
 
 KINDS = ["zipf pages=60", "uniform pages=60", "scan pages=60", "phases pages=60 every=2", "gups pages=60 processes=2",
@@ -104,12 +105,13 @@ class Adding(Case):
 
     def test_all(self):
         for workload in KINDS:
-            films, setup = [], setup_with(20, 24, 30)
-            results = compared(setup, workload + COMMON, films=films)
+            film, setup = Film(), setup_with(20, 24, 30)
+            results = compared(setup, workload + COMMON, film=film)
             self.assertEqual((results.errors, len(results.labels())), ([], len(POLICIES) + 2))
             self.check(results, 3001)
-            for label, epoch, nodes in films:
-                used = Counter(node for node in nodes if node is not None)
+            self.assertEqual([len(columns) for columns in film.nodes.values()], [5] * len(POLICIES))
+            for label, epoch, nodes in [(label, epoch, nodes) for label, columns in film.nodes.items() for epoch, nodes in enumerate(columns)]:
+                used = Counter(node for node in nodes if node != ABSENT)
                 row = results.rows_of(label)[epoch]
                 self.assertTrue(all(used[node] <= frames for node, frames in enumerate(setup.frames)))
                 self.assertTrue(all(count == 0 or used[node] for node, count in enumerate(row["by_node"])))
@@ -185,6 +187,10 @@ class Best(unittest.TestCase):
 class Parts(unittest.TestCase):
     """Thresholds and weights by hand."""
 
+    def test_stretches(self):
+        self.assertEqual([list(one) for one in stretches(5, 2)], [[0, 1], [2, 3, 4]])
+        self.assertEqual([list(one) for one in stretches(2, 9)], [[0], [1]])
+
     def test_threshold(self):
         # Two pages with 8 to 15 samples, three with 2 or 3, four with 1, one with none.
         heat = {page: power for page, power in enumerate([4, 4, 2, 2, 2, 1, 1, 1, 1, 0])}
@@ -195,9 +201,9 @@ class Parts(unittest.TestCase):
         self.assertEqual(WeightedInterleave.by_frames([100, 100]), [1, 1])
 
     def test_weighted_pages(self):
-        films = []
-        compared(setup_with(100, 100), "scan pages=10 accesses=10 epochs=1", "weighted-interleave weights=2,3", films=films)
-        self.assertEqual(films[0][2], [0, 0, 1, 1, 1] * 2)
+        film = Film()
+        compared(setup_with(100, 100), "scan pages=10 accesses=10 epochs=1", "weighted-interleave weights=2,3", film=film)
+        self.assertEqual(list(film.nodes["weighted-interleave weights=2,3"][0]), [0, 0, 1, 1, 1] * 2)
 
 
 class Broken(Case):

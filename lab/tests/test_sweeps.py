@@ -49,9 +49,9 @@ class Running(Case):
         self.path = os.path.join(self.there, "done.jsonl")
         self.todo = sweeps.combinations(job(), ["a=0.8,1.2", "fast=5,10"], 2)
 
-    def swept(self, runner, path=None):
-        with sweeps.Kept(path or self.path, PROGRAM) as kept, Progress("x") as progress:
-            return sweeps.swept(self.todo, runner, kept, progress)
+    def run_sweep(self, runner, path=None):
+        with sweeps.Store(path or self.path, self.todo[0].job, PROGRAM) as kept, Progress("x") as progress:
+            return sweeps.run_sweep(self.todo, runner, kept, progress)
 
     def here(self, numbers, most=99):
         """Runs in this process, at most so many, and notes which."""
@@ -66,8 +66,8 @@ class Running(Case):
         return runner
 
     def test_same_rows(self):
-        first = self.swept(self.here([]))
-        other = self.swept(sweeps.on_processes(2, PROGRAM), os.path.join(self.there, "other.jsonl"))
+        first = self.run_sweep(self.here([]))
+        other = self.run_sweep(sweeps.on_processes(2, PROGRAM), os.path.join(self.there, "other.jsonl"))
         self.assertEqual(list(sweeps.json_lines(self.todo, first)), list(sweeps.json_lines(self.todo, other)))
         alone = compared(setup_with(5, 40), WORKLOAD + " a=0.8", "first-touch", "hot-cold", seed="2")
         self.assertEqual(first[1]["totals"], json.loads(json.dumps(alone.totals())))
@@ -75,18 +75,18 @@ class Running(Case):
     def test_interrupt(self):
         numbers = []
         with self.assertRaises(KeyboardInterrupt):
-            self.swept(self.here(numbers, 3))
+            self.run_sweep(self.here(numbers, 3))
         with open(self.path, "a", encoding="utf-8") as file:
             file.write('{"key": "cut o')
         again = []
-        done = self.swept(self.here(again))
+        done = self.run_sweep(self.here(again))
         self.assertEqual((numbers, again), ([0, 1, 2], [3, 4, 5, 6, 7]))
         third = []
-        self.assertEqual(self.swept(self.here(third)), done)
+        self.assertEqual(self.run_sweep(self.here(third)), done)
         self.assertEqual(third, [])
 
     def test_means(self):
-        done = self.swept(self.here([]))
+        done = self.run_sweep(self.here([]))
         shares = [next(one for one in what["totals"] if one["policy"] == "first-touch")["fast_share"] for what in done[:2]]
         line = sweeps.table_of(self.todo, done)[1].split()
         self.assertEqual(line[:5], ["0.8", "5", "first-touch", f"{100 * statistics.mean(shares):.2f}%", f"±{100 * statistics.stdev(shares):.2f}%"])
@@ -111,10 +111,10 @@ class Running(Case):
     def test_a_broken_policy(self):
         path = self.written("mine.py", "from numalab.policies import Policy\nclass Mine(Policy):\n    def epoch(self, view):\n        view.free(9)\n")
         self.todo = sweeps.combinations(job_of(setup_with(10, 40), asked_for(WORKLOAD, [path + ":Mine"])), ["a=1,2"], 1)
-        done = self.swept(self.here([]))
+        done = self.run_sweep(self.here([]))
         self.assertEqual([text.split(":")[0] for text in sweeps.errors_of(self.todo, done)], ["a=1 seed=1", "a=2 seed=1"])
         again = []
-        self.swept(self.here(again))
+        self.run_sweep(self.here(again))
         self.assertEqual(again, [0, 1])
 
 

@@ -56,12 +56,12 @@ def cycle(base, start, count):
     return whole[start : start + count]
 
 
-def translated(block, table):
+def look_up(block, table):
     """Each number's entry in a table, which is a block."""
     return [table[item] for item in block] if numpy is None else table[block]
 
 
-def joined(blocks):
+def concatenate(blocks):
     """Blocks one after another."""
     return list(itertools.chain.from_iterable(blocks)) if numpy is None else numpy.concatenate(blocks)
 

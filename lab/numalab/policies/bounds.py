@@ -68,7 +68,7 @@ class Chains:
         self.count, self.at, self.costs = count, {}, {}
         self.moves = {(one, other): [] for one in range(count) for other in range(count) if one != other}
 
-    def cheapest(self, one, other):
+    def cheapest_move(self, one, other):
         """What it costs at least to move a page between two choices, and which; None where there is none."""
         heap = self.moves[one, other]
         while heap and self.at[heap[0][1]] != one:
@@ -86,7 +86,7 @@ class Chains:
         least, before = list(costs), [None] * self.count
         full = [one for one in range(self.count) if not room[one]]
         moves = [(one, other, move[0]) for one in full for other in range(self.count) if one != other
-                 for move in [self.cheapest(one, other)] if move]
+                 for move in [self.cheapest_move(one, other)] if move]
         for _ in range(self.count if moves else 0):
             changed = False
             for one, other, cost in moves:
@@ -97,6 +97,6 @@ class Chains:
         end = min((choice for choice in range(self.count) if room[choice]), key=lambda choice: (least[choice], choice))
         room[end] -= 1
         while before[end] is not None:
-            self.put(self.cheapest(before[end], end)[1], end)
+            self.put(self.cheapest_move(before[end], end)[1], end)
             end = before[end]
         self.put(page, end)

@@ -116,7 +116,7 @@ class Watermark(Policy):
     def epoch(self, view):
         if not view.slow:
             return
-        wanted = self.promoted(view)
+        wanted = self.pages_to_promote(view)
         frames = sum(view.frames[node] for node in view.fast)
         # Room for what comes, as far as one round of the watermark goes, and the watermark itself.
         high = math.ceil(frames * self.free)
@@ -127,7 +127,7 @@ class Watermark(Policy):
         slow = view.on(*view.slow)
         view.hint(self.marks.next(slow, math.ceil(len(slow) * self.scan)))
 
-    def promoted(self, view):
+    def pages_to_promote(self, view):
         """Slow pages with a second fault, the soonest first. A first fault makes a page active."""
         faulted = list(dict.fromkeys(fault.page for fault in view.faults))
         wanted = [page for page in faulted if page in self.active and view.node_of(page) in view.slow]

@@ -4,8 +4,9 @@ import sys
 
 from ..progress import Progress
 from ..traces import Bad, write_file
-from ..words import printable
+from ..words import counted, printable
 from . import listing, page, results, setups, sweeps
+from .film import Film
 from .job import job_of, run_job
 from .spec import number_of
 
@@ -38,12 +39,12 @@ def save_traces(found, asked):
 
 
 def one_comparison(asked, job, ending):
-    films = [] if ending.startswith(".htm") else None
+    film = Film() if ending.startswith(".htm") else None
     with Progress("accesses counted") as progress:
-        found = run_job(job, asked.program, progress, bool(asked.save_trace), films)
+        found = run_job(job, asked.program, progress, bool(asked.save_trace), film)
     paths = save_traces(found, asked) if asked.save_trace else {}
     if ending.startswith(".htm"):
-        write_file(asked.out, page.page_of(found, films, paths))
+        write_file(asked.out, page.page_of(found, film, paths))
     elif asked.out:
         write_file(asked.out, results.csv_text(found) if ending == ".csv" else "".join(line + "\n" for line in results.json_lines(found)))
     if asked.jsonl:
@@ -62,13 +63,17 @@ def sweep(asked, job, ending):
     if asked.save_trace or asked.each_epoch:
         raise Bad("--save-trace and --each-epoch are for a single comparison: repeat one combination without --sweep and --seeds")
     seeds = number_of(asked.seeds or "1", "--seeds")
-    jobs = number_of(asked.jobs, "--jobs") if asked.jobs else os.cpu_count() or 1
+    jobs = number_of(asked.jobs, "--jobs") if asked.jobs else len(os.sched_getaffinity(0))
     if seeds < 1 or jobs < 1:
         raise Bad("--seeds and --jobs are 1 or more")
     todo = sweeps.combinations(job, asked.sweep, seeds)
     runner = sweeps.on_dask(asked.dask, asked.program) if asked.dask else sweeps.on_processes(jobs, asked.program)
-    with sweeps.Kept(asked.keep, asked.program) as kept, Progress("combinations done") as progress:
-        done = sweeps.swept(todo, runner, kept, progress)
+    with sweeps.Store(asked.keep, job, asked.program) as kept, Progress("combinations done") as progress:
+        try:
+            done = sweeps.run_sweep(todo, runner, kept, progress)
+        except KeyboardInterrupt:
+            print(f"numalab: {kept.count(todo)} of {counted(len(todo), 'combination')} are kept in {kept.path}", file=sys.stderr)
+            raise
     if ending.startswith(".htm"):
         write_file(asked.out, page.sweep_page_of(todo, done))
     elif asked.out:

@@ -44,7 +44,7 @@ class Sampler:
         items = block[places].tolist() if arrays.numpy is not None and places else [block[place] for place in places]
         self.found.update(item // self.shift for item in items)
 
-    def taken(self):
+    def take(self):
         found, self.found = self.found, Counter()
         return found
 
@@ -58,7 +58,7 @@ class PlainCount:
     def add(self, block):
         self.found.update(block)
 
-    def taken(self):
+    def take(self):
         found, self.found = self.found, Counter()
         return list(found), list(found.values())
 
@@ -85,7 +85,7 @@ class FastCount:
         self.first[new] = here[new]
         self.done += len(block)
 
-    def taken(self):
+    def take(self):
         numpy = arrays.numpy
         there = numpy.flatnonzero(self.counts)
         items = there[numpy.argsort(self.first[there], kind="stable")]
@@ -100,13 +100,13 @@ def epochs_of(workload, every, seed, progress=None):
     sampler = Sampler(every, seed, len(workload.processes))
     now = done = 0
 
-    def ended(number):
-        items, found = counts.taken()
-        return Epoch(number, items, found, sampler.taken())
+    def end_epoch(number):
+        items, found = counts.take()
+        return Epoch(number, items, found, sampler.take())
 
     for epoch, block in workload.blocks():
         while now < epoch:
-            yield ended(now)
+            yield end_epoch(now)
             now += 1
         counts.add(block)
         sampler.add(block)
@@ -114,5 +114,5 @@ def epochs_of(workload, every, seed, progress=None):
         if progress:
             progress.at(done, workload.accesses)
     while now < workload.epochs:
-        yield ended(now)
+        yield end_epoch(now)
         now += 1

@@ -1,20 +1,20 @@
 """A comparison as plain values, so that another process, on this machine or another, can run it."""
 from ..traces import Bad
 from .costs import Costs
-from .laboratory import compared
+from .laboratory import compare
 from .loading import policies_of
 from .results import Plan
 from .setups import Setup
 from .spec import number_of
 from .streams import FORMATS, read_from
-from .workloads import generated
+from .workloads import make_workload
 
 
 def workload_of(text, setup, seed):
     """The workload that some words describe: a generated one, or a file's."""
     if not text.split():
         raise Bad("--workload is empty")
-    return read_from(text, setup) if text.split()[0] in FORMATS else generated(text, setup, seed)
+    return read_from(text, setup) if text.split()[0] in FORMATS else make_workload(text, setup, seed)
 
 
 def job_of(setup, asked):
@@ -31,8 +31,8 @@ def setup_of_job(job):
     return Setup(job["machine"]["top"], job["machine"]["names"], job["machine"]["tiers"])
 
 
-def run_job(job, program=None, progress=None, keep=False, films=None):
-    """The results of a job."""
+def parts_of(job, program=None):
+    """The machine, the workload and the plan of a job, or what is wrong with them."""
     setup = setup_of_job(job)
     workload = workload_of(job["workload"], setup, job["seed"])
     homes = [process.home for process in workload.processes]
@@ -40,5 +40,13 @@ def run_job(job, program=None, progress=None, keep=False, films=None):
     frames = sum(setup.frames[node] for node in workload.processes[0].allowed)
     if workload.pages > frames:
         raise Bad(f"the workload has {workload.pages:,} pages, and its processes may use {frames:,} frames")
-    plan = Plan(Costs(setup, homes, job["latency"], job["move_cost"]), sorted(set(fast)), homes, job["sample"], job["seed"], program)
-    return compared(job["policies"], setup, workload, plan, progress, keep, films)
+    costs = Costs(setup, homes, job["latency"], job["move_cost"])
+    return setup, workload, Plan(costs, sorted(set(fast)), homes, job["sample"], job["seed"], program)
+
+
+def run_job(job, program=None, progress=None, keep=False, film=None):
+    """The results of a job."""
+    setup, workload, plan = parts_of(job, program)
+    if film:
+        film.begin(workload.epochs)
+    return compare(job["policies"], setup, workload, plan, progress, keep, film)

@@ -11,10 +11,10 @@ from .counting import epochs_of
 from .loading import policy_of
 from .machine import Machine
 from .results import Results, bound_row, row_of
-from .view import Broken, View, call_text, status_names
+from .view import BrokenRule, View, call_text, status_names
 
 
-class Stopped(Exception):
+class StoppedPolicy(Exception):
     """A policy has broken its rules: what is said of it."""
 
 
@@ -33,12 +33,12 @@ class Run:
         self.view.slow = [node for node in setup.nodes if node not in plan.fast]
         self.calls = []
         try:
-            self.asked(-1, self.policy.start)
+            self.ask(-1, self.policy.start)
         except BaseException:
             self.machine.abandon()
             raise
 
-    def asked(self, number, method):
+    def ask(self, number, method):
         """Asks the policy. What it raises, and what breaks the rules, is one error that names it and the epoch."""
         self.view._begin()
         try:
@@ -47,8 +47,8 @@ class Run:
             raise
         except Exception as error:
             when = "its start" if number < 0 else f"epoch {number}"
-            what = str(error) if isinstance(error, Broken) else f"{type(error).__name__}: {error}"
-            raise Stopped(f"policy {self.label} in {when}: {what}{self.place_of(error)}") from error
+            what = str(error) if isinstance(error, BrokenRule) else f"{type(error).__name__}: {error}"
+            raise StoppedPolicy(f"policy {self.label} in {when}: {what}{self.place_of(error)}") from error
 
     def place_of(self, error):
         """The last line of the policy's own file, if it has one."""
@@ -61,7 +61,7 @@ class Run:
         for place in epoch.places:
             if place in self.placed:
                 continue
-            self.view._changed()
+            self.view._forget()
             page, process = divmod(place, self.sharers)
             if not self.machine.touch(page, process):
                 self.refused.add(place)
@@ -74,27 +74,27 @@ class Run:
 
     def epoch(self, epoch, last):
         """Plays an epoch, and asks the policy after it unless it is the last; returns the row."""
-        first, before = self.machine.made, self.machine.moved_so_far()
+        first, before = self.machine.made, self.machine.pages_moved()
         self.touch(epoch)
         self.during = list(self.view._where())
         row = row_of(self.label, epoch, self.during, self.refused, self.plan, self.machine.setup.distance)
-        self.view._seen(epoch, self.sharers)
+        self.view._show(epoch, self.sharers)
         stopped = None
         if not last:
             try:
-                self.asked(epoch.number, self.policy.epoch)
-            except Stopped as error:
+                self.ask(epoch.number, self.policy.epoch)
+            except StoppedPolicy as error:
                 stopped = error
         answers = self.view._answers if not last else []
         stayed = sum((status_names(answer) for answer in answers), Counter())
         errors = Counter(f"{answer.call} {answer.error}" for answer in answers if answer.error)
-        row.update(calls=len(answers), moved=self.machine.moved_so_far() - before, stayed=dict(sorted(stayed.items())),
+        row.update(calls=len(answers), moved=self.machine.pages_moved() - before, stayed=dict(sorted(stayed.items())),
                    refused_calls=dict(sorted(errors.items())), free=[self.view.free(node) for node in self.view.nodes], first_step=first, last_step=self.machine.made - 1)
         self.calls.append([call_text(answer) for answer in answers])
         return row, stopped
 
 
-class Bounding:
+class BoundRows:
     """The two bounds, of which the first needs the whole stream."""
 
     def __init__(self, run, plan):
@@ -102,12 +102,13 @@ class Bounding:
         self.plan, self.distance = plan, run.machine.setup.distance
         allowed = sorted(set.union(*(set(process.allowed) for process in processes)))
         self.bounds = Bounds(plan.costs, [process.home for process in processes], run.free_at_start, allowed)
-        self.total, self.kept = Counter(), []
+        self.total, self.kept = Counter(), []  # of each epoch its number, its places and their counts
 
     def add(self, epoch):
         """The row of the best placement for an epoch."""
         self.total.update(epoch.places)
-        self.kept.append((epoch.number, array("L", epoch.places), array("Q", epoch.places.values())))
+        counts = epoch.places.values()
+        self.kept.append((epoch.number, array("I", epoch.places), array("I" if max(counts, default=0) < 1 << 32 else "Q", counts)))
         return bound_row(EPOCHS, epoch.number, epoch.places, self.bounds.placement(epoch.places), self.plan, self.distance)
 
     def static_rows(self):
@@ -116,8 +117,8 @@ class Bounding:
             yield bound_row(STATIC, number, dict(zip(places, counts)), placement, self.plan, self.distance)
 
 
-def compared(recipes, setup, workload, plan, progress=None, keep=False, films=None):
-    """The results of all policies and both bounds. `films`, a list, gets the nodes of all pages after each epoch by policy."""
+def compare(recipes, setup, workload, plan, progress=None, keep=False, film=None):
+    """The results of all policies and both bounds. `keep` keeps the traces; `film` notes where pages are during each epoch."""
     results, runs = Results(workload, setup, plan), []
     try:
         for recipe in recipes:
@@ -126,10 +127,10 @@ def compared(recipes, setup, workload, plan, progress=None, keep=False, films=No
         for epoch in epochs_of(workload, plan.sample, plan.seed, progress):
             for run in list(runs):
                 row, stopped = run.epoch(epoch, epoch.number == workload.epochs - 1)
-                bounding = bounding or Bounding(run, plan)
+                bounding = bounding or BoundRows(run, plan)
                 results.add(row)
-                if films is not None:
-                    films.append((run.label, epoch.number, run.during))
+                if film:
+                    film.add(run.label, epoch.number, run.during)
                 if stopped:
                     results.errors.append(str(stopped))
                     runs.remove(run)
@@ -161,5 +162,5 @@ def begin(recipe, setup, workload, plan, keep, runs, results):
     """Starts the run of a policy; one that stops at its start has no rows."""
     try:
         runs.append(Run(recipe, setup, workload, plan, keep))
-    except Stopped as stopped:
+    except StoppedPolicy as stopped:
         results.errors.append(str(stopped))

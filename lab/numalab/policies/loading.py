@@ -37,7 +37,7 @@ def value_of(text):
 
 
 @contextmanager
-def importing_from(folder):
+def import_path(folder):
     """Lets a file import those beside it."""
     sys.path.insert(0, folder)
     try:
@@ -52,7 +52,7 @@ def class_of(recipe):
     path, names = os.path.abspath(recipe["path"]), {"__name__": "policy_of_" + os.path.basename(recipe["path"])[:-3]}
     names["__file__"] = path
     try:
-        with importing_from(os.path.dirname(path)):
+        with import_path(os.path.dirname(path)):
             exec(compile(recipe["source"], path, "exec"), names)
     except Exception as error:
         raise Bad(f"{recipe['path']}: {type(error).__name__}: {error}") from error

@@ -106,14 +106,14 @@ class Machine:
         """How many frames are free on each node: the number before each list."""
         return [int(self.lines({"op": "free", "node": node})[0].split(":")[0].split()[-1]) for node in self.setup.nodes]
 
-    def moved_so_far(self):
+    def pages_moved(self):
         return self.step("vmstat")["pgmigrate_success"]
 
     def touch(self, page, process):
         """The first access of a process to a page; whether a frame was found."""
         if "error" in self.step("write", pid=self.pids[process], addr=self.index.address(page), data="01"):
             return False
-        self.index.touched(page, process)
+        self.index.note_touch(page, process)
         return True
 
     def pin(self, page, process):
@@ -177,7 +177,7 @@ class Index:
         """The process that calls about a page name: the first that touched it."""
         return self.owners[page]
 
-    def touched(self, page, process):
+    def note_touch(self, page, process):
         if page not in self.there:
             self.there.add(page)
             self.owners[page] = process

@@ -4,31 +4,26 @@ import json
 import os
 from collections import Counter
 
+from .film import ABSENT, stretches
 from .results import BOUNDS, about, share_text
-from .sweeps import grouped, values_text
+from .sweeps import totals_by_values, values_text
 
 HERE = os.path.dirname(os.path.abspath(__file__))
-MOST_ROWS, MOST_COLUMNS = 240, 240
+MOST_ROWS = 240
 WORST = 5
 
 
-def filled(template, data):
+def fill_template(template, data):
     """A template with its data."""
     text = json.dumps(data, separators=(",", ":")).replace("<", "\\u003c").replace("\u2028", "\\u2028")
     with open(os.path.join(HERE, template), encoding="utf-8") as file:
         return file.read().replace("{{DATA}}", text)
 
 
-def stretches(count, most):
-    """Cuts the numbers 0 to count - 1 into at most that many stretches of almost one length."""
-    many = min(count, most)
-    return [range(count * k // many, count * (k + 1) // many) for k in range(many)]
-
-
 def node_of_most(nodes):
-    """The node on which most of some pages are; -1 where none was touched."""
-    there = Counter(-1 if node is None else node for node in nodes)
-    return max(there, key=lambda node: (there[node], -node))
+    """The node on which most of some pages are, or ABSENT."""
+    there = Counter(nodes)
+    return max(there, key=lambda node: (there[node], -node)) if there else ABSENT
 
 
 def order_of(workload, found):
@@ -36,15 +31,14 @@ def order_of(workload, found):
     return sorted(range(workload.pages), key=lambda page: (-found.heat.get(page, 0), page))
 
 
-def maps_of(found, films):
-    """For each policy a map: rows are pages from the hottest on, columns are epochs, and each has the node of most pages."""
+def maps_of(found, film):
+    """For each policy a map: rows are pages from the hottest on, columns are epochs, and each has the node of most pages. Also of how
+    many pages a row is at most."""
     order = order_of(found.workload, found)
-    rows, maps = stretches(len(order), MOST_ROWS), {}
-    chosen = {span[-1] for span in stretches(found.workload.epochs, MOST_COLUMNS)}
-    for label, epoch, nodes in films:
-        if epoch in chosen:
-            maps.setdefault(label, []).append([node_of_most(nodes[page] for page in order[row.start : row.stop]) for row in rows])
-    return maps, -(-len(order) // len(rows)) if rows else 0, sorted(chosen)
+    rows = stretches(len(order), MOST_ROWS)
+    maps = {label: [[node_of_most(nodes[page] for page in order[row.start : row.stop]) for row in rows] for nodes in columns]
+            for label, columns in film.nodes.items()}
+    return maps, -(-len(order) // len(rows))
 
 
 def worst_of(found, label, paths):
@@ -56,17 +50,17 @@ def worst_of(found, label, paths):
              "trace": path, "calls": calls[row["epoch"]] if row["epoch"] < len(calls) else []} for row in worst]
 
 
-def page_of(found, films, paths):
+def page_of(found, film, paths):
     """The page of a comparison."""
-    maps, pages_a_row, columns = maps_of(found, films)
+    maps, pages_a_row = maps_of(found, film)
     labels = found.labels()
-    keys = ("epoch", "accesses", "by_node", "refused", "fast_share", "mean_cost", "moved", "stayed", "free", "first_step", "last_step")
+    keys = ("epoch", "accesses", "by_node", "by_distance", "refused", "fast_share", "mean_cost", "moved", "stayed", "free", "first_step", "last_step")
     policies = [{"label": label, "bound": label in BOUNDS, "rows": [{key: row.get(key) for key in keys} for row in found.rows_of(label)],
                  "map": maps.get(label), "worst": [] if label in BOUNDS else worst_of(found, label, paths)} for label in labels]
     nodes = [{"name": found.setup.name_of(node), "frames": frames, "fast": node in found.plan.fast} for node, frames in enumerate(found.setup.frames)]
-    return filled("comparison.html", {"about": about(found), "nodes": nodes, "policies": policies, "totals": found.totals(), "errors": found.errors,
+    return fill_template("comparison.html", {"about": about(found), "nodes": nodes, "policies": policies, "totals": found.totals(), "errors": found.errors,
                                       "unit": "given latencies" if found.plan.costs.known else "distance", "moveCost": found.plan.costs.move,
-                                      "pagesARow": pages_a_row, "columns": columns, "epochs": found.workload.epochs})
+                                      "pagesARow": pages_a_row, "columns": film.epochs, "epochs": found.workload.epochs})
 
 
 def mean(values):
@@ -81,12 +75,12 @@ def sweep_page_of(todo, done):
         for row in what["rows"]:
             costs.setdefault(tuple(one.values.items()), {}).setdefault(row["policy"], {}).setdefault(row["epoch"], []).append(row["mean_cost"])
     plots = []
-    for values, policies in grouped(todo, done).items():
+    for values, policies in totals_by_values(todo, done).items():
         lines = [{"label": policy, "bound": policy in BOUNDS, "costs": [mean(costs[values][policy][epoch]) for epoch in sorted(costs[values][policy])],
                   "fast": mean([total["fast_share"] for total in totals]), "cost": mean([total["mean_cost"] for total in totals])}
                  for policy, totals in policies.items()]
         plots.append({"values": values_text(dict(values)), "lines": lines})
     names, last = list(todo[0].values), [list(one.values.values())[-1:] for one in todo]
     words = [word for word in todo[0].job["workload"].split() if word.partition("=")[0] not in names]
-    return filled("sweep.html", {"workload": " ".join(words), "seeds": sorted({one.seed for one in todo}), "plots": plots,
+    return fill_template("sweep.html", {"workload": " ".join(words), "seeds": sorted({one.seed for one in todo}), "plots": plots,
                                  "across": sum(1 for k, value in enumerate(last) if value not in last[:k])})

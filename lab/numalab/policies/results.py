@@ -20,7 +20,7 @@ class Plan:
         self.costs, self.fast, self.homes, self.sample, self.seed, self.program = costs, fast, homes, sample, seed, program
 
 
-def measured(label, number, pairs, lost, plan, distance):
+def epoch_row(label, number, pairs, lost, plan, distance):
     """What is told of an epoch from how many accesses each pair of home and node had, and how many found no frame."""
     accesses, nodes, far = sum(pairs.values()) + lost, Counter(), Counter()
     cost = lost * plan.costs.worst
@@ -43,7 +43,7 @@ def row_of(label, epoch, nodes, refused, plan, distance):
             lost += count
         else:
             pairs[plan.homes[process], nodes[page]] += count
-    return measured(label, epoch.number, pairs, lost, plan, distance)
+    return epoch_row(label, epoch.number, pairs, lost, plan, distance)
 
 
 def bound_row(label, number, places, placement, plan, distance):
@@ -55,7 +55,7 @@ def bound_row(label, number, places, placement, plan, distance):
             pairs[plan.homes[process], placement[page]] += count
         else:
             lost += count
-    return measured(label, number, pairs, lost, plan, distance)
+    return epoch_row(label, number, pairs, lost, plan, distance)
 
 
 def total_of(rows, move_cost):
@@ -129,7 +129,11 @@ def stayed_text(stayed):
     return ", ".join(f"{name} {count:,}" for name, count in stayed.items()) or UNKNOWN
 
 
-def aligned(heads, lines):
+def pairs_text(counts):
+    return " ".join(f"{key}={count}" for key, count in counts.items()) or UNKNOWN
+
+
+def align(heads, lines):
     """Columns: as far as that of the policies to the left, the others to the right."""
     widths, left = [max(len(line[k]) for line in [heads, *lines]) for k in range(len(heads))], heads.index("policy")
     return ["  ".join(word.ljust(width) if k <= left else word.rjust(width) for k, (word, width) in enumerate(zip(line, widths))).rstrip()
@@ -147,19 +151,19 @@ def table_of(results):
                       *([UNKNOWN if bound else cost_text(total["mean_cost_with_moves"])] if moves else []),
                       UNKNOWN if bound else f"{total['moved']:,}", UNKNOWN if bound else stayed_text(total["stayed"]), f"{total['refused']:,}",
                       above_text(total["above_static"]), above_text(total["above_each_epoch"])])
-    return aligned(heads, lines)
+    return align(heads, lines)
 
 
 def epoch_table_of(results):
     """The rows of each epoch."""
-    heads = ["policy", "epoch", "accesses", "fast", "mean cost", "by node", "moved", "stayed", "free", "steps"]
+    heads = ["policy", "epoch", "accesses", "fast", "mean cost", "by node", "by distance", "moved", "stayed", "free", "steps"]
     lines = []
     for row in (row for label in results.labels() for row in results.rows_of(label)):
         bound = row["policy"] in BOUNDS
         lines.append([row["policy"], str(row["epoch"]), f"{row['accesses']:,}", share_text(row["fast_share"]), cost_text(row["mean_cost"]),
-                      " ".join(map(str, row["by_node"])), UNKNOWN if bound else f"{row['moved']:,}", UNKNOWN if bound else stayed_text(row["stayed"]),
+                      " ".join(map(str, row["by_node"])), pairs_text(row["by_distance"]), UNKNOWN if bound else f"{row['moved']:,}", UNKNOWN if bound else stayed_text(row["stayed"]),
                       UNKNOWN if bound else " ".join(map(str, row["free"])), UNKNOWN if bound else f"{row['first_step']}-{row['last_step']}"])
-    return aligned(heads, lines)
+    return align(heads, lines)
 
 
 def stretches_of(values):

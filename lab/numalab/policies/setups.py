@@ -50,7 +50,7 @@ class Setup:
         """The nodes of the first tier, if the machine has several."""
         return [node for node in self.nodes if self.tiers[node] == 0] if self.tiers and len(set(self.tiers)) > 1 else None
 
-    def sized(self, word, frames):
+    def with_frames(self, word, frames):
         """The same machine with another number of frames on a node, or on those of a name; None if no node has this name."""
         match = re.fullmatch("node([0-9]{1,2})", word)
         nodes = self.names.get(word) or ([int(match[1])] if match and int(match[1]) in self.nodes else None)
@@ -59,9 +59,9 @@ class Setup:
         top = copy.deepcopy(self.top)
         for node in nodes:
             top["machine"]["nodes"][node] = frames
-        return Setup(top, self.names, self.tiers).checked(f"{word}={frames}")
+        return Setup(top, self.names, self.tiers).check(f"{word}={frames}")
 
-    def checked(self, name):
+    def check(self, name):
         """Refuses a bad machine."""
         line = verdict(json_text(self.top).encode())
         if line != "good":
@@ -77,11 +77,11 @@ def setup_of(path):
         if file.faults:
             line, column, text = sorted(file.faults)[0]
             raise Bad(f"{path}:{line}:{column}: {text}")
-        return Setup(file.made.top, file.made.node_names, None if file.made.rows else file.made.tiers).checked(path)
+        return Setup(file.made.top, file.made.node_names, None if file.made.rows else file.made.tiers).check(path)
     try:
         top = json.loads(data)
     except ValueError:
         raise Bad(f"{path}: not JSON") from None
     if isinstance(top, dict) and "machine" not in top:
         top = {"version": 1, "machine": {key: top[key] for key in ("nodes", "distance") if key in top}}
-    return Setup({"steps": [], **top} if isinstance(top, dict) else top).checked(path)
+    return Setup({"steps": [], **top} if isinstance(top, dict) else top).check(path)

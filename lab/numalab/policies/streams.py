@@ -15,7 +15,7 @@ from .workloads import BLOCK, Process, Region, Workload, homes_of
 
 # What a line tells: when (or None), the process, the bytes from one address to before another, what is done (READ, WRITE or both),
 # and how often to each page.
-Told = namedtuple("Told", "time process first end kinds times")
+Record = namedtuple("Record", "time process first end kinds times")
 READ, WRITE = (0,), (1,)
 BOTH = READ + WRITE
 MOST_PROCESSES, MOST_PID = 64, (1 << 32) - 1
@@ -39,7 +39,7 @@ def lackey(lines, left):
             left["instruction fetches"] += 1
         else:
             address = int(match[2], 16)
-            yield Told(None, 1, address, address + 1, kinds[match[1]], 1)
+            yield Record(None, 1, address, address + 1, kinds[match[1]], 1)
 
 
 def perf(lines, left):
@@ -51,7 +51,7 @@ def perf(lines, left):
             left["lines that are no sample with an address"] += 1
             continue
         address = int(match[4], 16)
-        yield Told(float(match[2]), int(match[1]), address, address + 1, WRITE if "store" in match[3] else READ, 1)
+        yield Record(float(match[2]), int(match[1]), address, address + 1, WRITE if "store" in match[3] else READ, 1)
 
 
 def damon(lines, left):
@@ -61,7 +61,7 @@ def damon(lines, left):
     for line in lines:
         match, key = REGION.fullmatch(line), DAMON_KEY.fullmatch(line)
         if match and int(match[3]):
-            yield Told(time, target, int(match[1], 16), int(match[2], 16), READ, int(match[3]))
+            yield Record(time, target, int(match[1], 16), int(match[2], 16), READ, int(match[3]))
         elif match:
             left["regions without an access"] += 1
         elif key and key[1] == "target_id":
@@ -78,7 +78,7 @@ def table(lines, left):
         words = [word.strip().strip('"') for word in line.split(",")]
         try:
             time, process, address = float(words[0]), int(words[1]), int(words[2], 0)
-            yield Told(time, process, address, address + 1, KINDS[words[3].lower()], 1)
+            yield Record(time, process, address, address + 1, KINDS[words[3].lower()], 1)
         except (ValueError, IndexError, KeyError):
             if number:  # The first may be a heading.
                 left["lines that are not a time, a process, an address and a kind"] += 1
@@ -113,21 +113,21 @@ def rows_of_array(path, left):
             if kinds is None:
                 left["rows of another kind than read or write"] += 1
             else:
-                yield Told(float(time), int(process), int(address), int(address) + 1, kinds, 1)
+                yield Record(float(time), int(process), int(address), int(address) + 1, kinds, 1)
 
 
 READERS = {"lackey": lackey, "perf": perf, "damon": damon, "csv": table}
 FORMATS = [*READERS, "numpy"]
 
 
-class Seen:
+class PageSet:
     """The pages of a process: single ones, and stretches."""
 
     def __init__(self):
         self.pages, self.stretches = set(), set()
 
-    def add(self, told):
-        first, end = told.first // PAGE, (told.end - 1) // PAGE + 1
+    def add(self, record):
+        first, end = record.first // PAGE, (record.end - 1) // PAGE + 1
         if end - first == 1:
             self.pages.add(first)
         else:
@@ -158,7 +158,7 @@ def scale_for(seen, most, asked):
         scale *= 2
 
 
-class Read(Workload):
+class FileWorkload(Workload):
     """A workload from a file."""
 
     def __init__(self, words, path, setup):
@@ -185,30 +185,30 @@ class Read(Workload):
             base.update((region.address // PAGE + k, first + k) for k in range(region.pages))
             first += region.pages
 
-    def told(self, left):
+    def records(self, left):
         """What each line tells, without what the model has no place for."""
         known = {}
         reader = rows_of_array(self.path, left) if self.kind == "numpy" else READERS[self.kind](opened_lines(self.path), left)
-        for told in reader:
-            if told.end > END * PAGE or told.first >= told.end:
+        for record in reader:
+            if record.end > END * PAGE or record.first >= record.end:
                 left["accesses to addresses of the kernel"] += 1
-            elif not 1 <= told.process <= MOST_PID:
+            elif not 1 <= record.process <= MOST_PID:
                 left["accesses by no process"] += 1
-            elif told.process not in known and len(known) == MOST_PROCESSES:
+            elif record.process not in known and len(known) == MOST_PROCESSES:
                 left[f"accesses by further processes than {MOST_PROCESSES}"] += 1
             else:
-                known[told.process] = True
-                yield told
+                known[record.process] = True
+                yield record
 
     def look(self, left):
         """The pages of each process, how many accesses there are, and the first and the last time."""
         seen, total, first, last = {}, 0, None, None
-        for told in self.told(left):
-            seen.setdefault(told.process, Seen()).add(told)
-            total += len(told.kinds) * told.times * ((told.end - 1) // PAGE - told.first // PAGE + 1)
-            if told.time is not None:
-                first = told.time if first is None else min(first, told.time)
-                last = told.time if last is None else max(last, told.time)
+        for record in self.records(left):
+            seen.setdefault(record.process, PageSet()).add(record)
+            total += len(record.kinds) * record.times * ((record.end - 1) // PAGE - record.first // PAGE + 1)
+            if record.time is not None:
+                first = record.time if first is None else min(first, record.time)
+                last = record.time if last is None else max(last, record.time)
         return seen, total, None if first is None or first == last else (first, last)
 
     def epoch_of(self, time, place):
@@ -220,25 +220,37 @@ class Read(Workload):
         return min(self.epochs - 1, int(part * self.epochs))
 
     def blocks(self):
-        block, epoch, place, many = [], 0, 0, len(self.processes)
-        for told in self.told(Counter()):
-            at = max(epoch, self.epoch_of(told.time, place))
-            if block and (at != epoch or len(block) >= BLOCK):
+        block, epoch, place = [], 0, 0
+        for record in self.records(Counter()):
+            at = max(epoch, self.epoch_of(record.time, place))
+            if block and at != epoch:
                 yield epoch, arrays.block_of(block)
                 block = []
-            epoch, process = at, self.numbers[told.process]
-            pages, unit = self.pages_at[process], PAGE * self.scale
-            groups = range(told.first // unit, (told.end - 1) // unit + 1)
-            for group in groups:
-                item = (pages[group] * many + process) * 2
-                block += [item + kind for kind in told.kinds] * told.times * self.weight(told, group)
-            place = place + len(told.kinds) * told.times * ((told.end - 1) // PAGE - told.first // PAGE + 1)
+            epoch = at
+            for item, times in self.items_of(record):
+                place += times
+                while times:
+                    many = min(times, BLOCK - len(block))
+                    block += [item] * many
+                    times -= many
+                    if len(block) == BLOCK:
+                        yield epoch, arrays.block_of(block)
+                        block = []
         if block:
             yield epoch, arrays.block_of(block)
 
-    def weight(self, told, group):
+    def items_of(self, record):
+        """The items of a record, each with how often it is accessed in a row."""
+        process, unit = self.numbers[record.process], PAGE * self.scale
+        pages, many = self.pages_at[process], len(self.processes)
+        for group in range(record.first // unit, (record.end - 1) // unit + 1):
+            item = (pages[group] * many + process) * 2
+            for kind in record.kinds:
+                yield item + kind, record.times * self.weight(record, group)
+
+    def weight(self, record, group):
         """How many pages of a stretch are in a group."""
-        first, end = told.first // PAGE, (told.end - 1) // PAGE + 1
+        first, end = record.first // PAGE, (record.end - 1) // PAGE + 1
         return min(end, (group + 1) * self.scale) - max(first, group * self.scale)
 
 
@@ -247,4 +259,4 @@ def read_from(text, setup):
     kind, *rest = text.split()
     if not rest or "=" in rest[0]:
         raise Bad(f"workload {kind}: expected the name of a file after it{guessed(kind, FORMATS) if kind not in FORMATS else ''}")
-    return Read(Parameters(" ".join([kind, *rest[1:]]), "workload"), rest[0], setup)
+    return FileWorkload(Parameters(" ".join([kind, *rest[1:]]), "workload"), rest[0], setup)

@@ -1,6 +1,7 @@
 """Sweeps: every combination of some values and seeds, shared among processes or the workers of a Dask cluster. What is done is kept
 as it comes. The rows are the same whoever computes them."""
 import concurrent.futures
+import concurrent.futures.process
 import csv
 import gc
 import hashlib
@@ -13,10 +14,10 @@ import statistics
 from collections import namedtuple
 
 from .. import __version__
-from ..program import found
+from ..program import Failed, found
 from ..traces import Bad
-from .job import run_job, setup_of_job, workload_of
-from .results import BOUNDS, UNKNOWN, above_text, aligned, cost_text, share_text
+from .job import parts_of, run_job, setup_of_job
+from .results import BOUNDS, UNKNOWN, above_text, align, cost_text, share_text
 from .spec import number_of
 from .streams import FORMATS
 
@@ -42,7 +43,7 @@ def with_value(job, name, value):
     """A job with another value: of a node's frames, or of a parameter of the workload."""
     setup = setup_of_job(job)
     if name in setup.names or name.startswith("node"):
-        sized = setup.sized(name, number_of(value, f"--sweep {name}"))
+        sized = setup.with_frames(name, number_of(value, f"--sweep {name}"))
         if sized:
             return {**job, "machine": {**job["machine"], "top": sized.top}}
     words, given = job["workload"].split(" "), f"{name}={value}"
@@ -64,8 +65,8 @@ def combinations(job, sweeps, seeds):
         values, now = dict(zip((name for name, _ in named), chosen)), job
         for name, value in values.items():
             now = with_value(now, name, value)
-        if now["workload"].split()[0] not in FORMATS:
-            workload_of(now["workload"], setup_of_job(now), job["seed"])
+        if now["workload"].split()[0] not in FORMATS:  # Files are long.
+            parts_of(now)
         todo += [Combination(values, job["seed"] + k, {**now, "seed": job["seed"] + k}) for k in range(seeds)]
     return todo
 
@@ -89,10 +90,12 @@ def on_processes(jobs, program):
             try:
                 for future in concurrent.futures.as_completed(futures):
                     yield futures[future], future.result()
-            except BaseException:
+            except BaseException as error:
                 pool.shutdown(wait=False, cancel_futures=True)
                 for process in multiprocessing.active_children():
                     process.terminate()
+                if isinstance(error, concurrent.futures.process.BrokenProcessPool):
+                    raise Failed("a process of the sweep has ended before its time") from error
                 raise
     return runner
 
@@ -116,16 +119,21 @@ def on_dask(address, program):
                     yield futures[future], future.result()
                 except ModuleNotFoundError as error:
                     raise Bad(f"--dask {address}: a worker has no module {error.name}: pip install ./lab there") from error
+                except (Bad, Failed):
+                    raise
+                except Exception as error:  # (Dask has many, of which each means that a worker has gone)
+                    raise Failed(f"--dask {address}: {type(error).__name__}: {error}") from error
     return runner
 
 
-class Kept:
-    """A file with what is done, a line for each combination, by a digest of all that its rows come from."""
+class Store:
+    """A file with what is done of a job's combinations, a line for each, by a digest of all that its rows come from. Where no file is
+    named each job has its own, whatever is swept."""
 
-    def __init__(self, path, program):
+    def __init__(self, path, job, program):
         with open(found(program, "numatrace_session", "numatrace-session", "NUMATRACE_SESSION"), "rb") as file:
             self.front = __version__ + hashlib.sha256(file.read()).hexdigest()
-        self.path = path or os.path.join(os.path.expanduser(CACHE), "done.jsonl")
+        self.path = path or os.path.join(os.path.expanduser(CACHE), self.key(job)[:16] + ".jsonl")
         self.done, self.file = {}, None
 
     def __enter__(self):
@@ -156,12 +164,17 @@ class Kept:
     def get(self, job):
         return self.done.get(self.key(job))
 
+    def count(self, todo):
+        """How many of some combinations are done."""
+        return sum(self.get(one.job) is not None for one in todo)
+
     def put(self, job, what):
+        self.done[self.key(job)] = what
         self.file.write(json.dumps({"key": self.key(job), "found": what}) + "\n")
         self.file.flush()
 
 
-def swept(todo, runner, kept, progress):
+def run_sweep(todo, runner, kept, progress):
     """What each combination gave, in their order; those that are not kept are run."""
     done = [kept.get(one.job) for one in todo]
     missing = [(number, one.job) for number, one in enumerate(todo) if done[number] is None]
@@ -216,7 +229,7 @@ def spread(values, text):
     return text(statistics.mean(values)) + more
 
 
-def grouped(todo, done):
+def totals_by_values(todo, done):
     """Combinations without their seeds: the values, and for each policy its totals by seed."""
     groups = {}
     for one, what in zip(todo, done):
@@ -230,11 +243,11 @@ def table_of(todo, done):
     """Means over the seeds, with their standard deviations."""
     heads = [*(todo[0].values or ["combination"]), "policy", "fast", "mean cost", "moved", "above static", "above each epoch"]
     lines = []
-    for values, policies in grouped(todo, done).items():
+    for values, policies in totals_by_values(todo, done).items():
         for policy, totals in policies.items():
             column = {key: [total[key] for total in totals] for key in ("fast_share", "mean_cost", "moved", "above_static", "above_each_epoch")}
             lines.append([*(value for _, value in values or (("", "all"),)), policy, spread(column["fast_share"], share_text),
                           spread(column["mean_cost"], cost_text),
                           UNKNOWN if policy in BOUNDS else spread(column["moved"], lambda value: f"{value:,.0f}"),
                           spread(column["above_static"], above_text), spread(column["above_each_epoch"], above_text)])
-    return aligned(heads, lines)
+    return align(heads, lines)

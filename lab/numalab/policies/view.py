@@ -13,7 +13,7 @@ Area = namedtuple("Area", "processes pages")
 Answer = namedtuple("Answer", "call error failed pages statuses", defaults=((), ()))
 
 
-class Broken(Exception):
+class BrokenRule(Exception):
     """A policy has broken its rules."""
 
 
@@ -72,16 +72,16 @@ class View:
         pages = [self._page(page) for page in pages]
         nodes = [self._node(node) for node in (nodes if hasattr(nodes, "__iter__") else [nodes] * len(pages))]
         if len(nodes) != len(pages):
-            raise Broken(f"move_pages has {len(pages)} pages and {len(nodes)} nodes")
+            raise BrokenRule(f"move_pages has {len(pages)} pages and {len(nodes)} nodes")
         if not pages:
             return Answer("move_pages", None, 0)
         statuses, failed, error = self._machine.move_pages(pages, nodes, flags)
-        return self._answered(Answer("move_pages", error, failed, tuple(zip(pages, nodes)), tuple(statuses)))
+        return self._note(Answer("move_pages", error, failed, tuple(zip(pages, nodes)), tuple(statuses)))
 
     def migrate_pages(self, old, new, process=0):
         """migrate_pages(2), by an administrator: what a process has on some nodes goes to others."""
-        answer = self._machine.migrate_pages(checked(process, len(self.homes), "process"), [self._node(node) for node in old], [self._node(node) for node in new])
-        return self._answered(Answer("migrate_pages", answer.get("error"), answer.get("answer", 0)))
+        answer = self._machine.migrate_pages(check_number(process, len(self.homes), "process"), [self._node(node) for node in old], [self._node(node) for node in new])
+        return self._note(Answer("migrate_pages", answer.get("error"), answer.get("answer", 0)))
 
     def mbind(self, pages, mode, nodes=(), flags=0):
         """mbind(2), by each process that sees them: adjacent pages of one area."""
@@ -89,24 +89,24 @@ class View:
         if pages:
             area = next((one for one in self.areas if self._page(pages[0]) in one.pages), None)
         if not area or pages != list(range(pages[0], pages[-1] + 1)) or pages[-1] not in area.pages:
-            raise Broken("mbind: expected adjacent pages of one area")
+            raise BrokenRule("mbind: expected adjacent pages of one area")
         number = MODES.index(mode) if mode in MODES else mode
         if number not in range(len(MODES)):
-            raise Broken(f"mbind: {mode} is not a mode")
+            raise BrokenRule(f"mbind: {mode} is not a mode")
         nodes, address = [self._node(node) for node in nodes], self._machine.index.address(pages[0])
         told = [self._machine.mbind(process, address, len(pages), number, nodes, flags) for process in area.processes]
         error = next((one["error"] for one in told if "error" in one), None)
-        return self._answered(Answer("mbind", error, sum(one.get("answer", 0) for one in told)))
+        return self._note(Answer("mbind", error, sum(one.get("answer", 0) for one in told)))
 
     # ---- inside
 
     def _page(self, page):
-        return checked(page, len(self._nodes), "page")
+        return check_number(page, len(self._nodes), "page")
 
     def _node(self, node):
-        return checked(node, len(self.nodes), "node")
+        return check_number(node, len(self.nodes), "node")
 
-    def _answered(self, answer):
+    def _note(self, answer):
         self._known, self._free = False, None
         self._answers.append(answer)
         return answer
@@ -118,7 +118,7 @@ class View:
             self._known = True
         return self._nodes
 
-    def _changed(self):
+    def _forget(self):
         """Something other than the policy has changed where pages are."""
         self._known, self._free = False, None
 
@@ -126,7 +126,7 @@ class View:
         """The policy is asked: what it asks from now on is answered to it."""
         self.answers, self._answers = self._answers, []
 
-    def _seen(self, epoch, sharers):
+    def _show(self, epoch, sharers):
         """What the policy sees of an epoch that has ended."""
         self.epoch, self.samples = epoch.number, epoch.samples
         places = list(epoch.places)
@@ -136,14 +136,14 @@ class View:
         self._marked -= self.accessed
 
 
-def checked(number, count, what):
+def check_number(number, count, what):
     """A number that a policy gave, if it is one of those that there are."""
     try:
         found = index(number)
     except TypeError:
         found = -1
     if not 0 <= found < count:
-        raise Broken(f"there is no {what} {number!r}: the last is {count - 1}")
+        raise BrokenRule(f"there is no {what} {number!r}: the last is {count - 1}")
     return found
 
 

@@ -8,7 +8,7 @@ from ..faults import MOST_FRAMES
 from ..notation import FIRST_ADDRESS, next_free
 from ..words import PAGE
 from ..traces import Bad
-from .arrays import Draws, Table, block_of, cycle, joined, pairs_of, translated
+from .arrays import Draws, Table, block_of, cycle, concatenate, pairs_of, look_up
 from .spec import Parameters
 
 BLOCK = 1 << 16
@@ -40,7 +40,7 @@ class Workload:
         raise NotImplementedError
 
 
-class Generated(Workload):
+class GeneratedWorkload(Workload):
     """A workload that a generator makes: `take(epoch, count)` gives its next items."""
 
     def __init__(self, source, common):
@@ -136,7 +136,7 @@ class Gups(Uniform):
         count_new = count - len(held)
         made = pairs_of(self.draws.take(self.now, (count_new + 1) // 2))
         self.held = int(made[-1]) if count_new % 2 else None
-        return joined([*held, made[:count_new]])
+        return concatenate([*held, made[:count_new]])
 
 
 class Phases(Source):
@@ -255,9 +255,9 @@ class Mix:
         blocks = []
         while count:
             part, many = self.next_turn(count)
-            blocks.append(translated(self.parts[part].take(epoch, many), self.tables[part]))
+            blocks.append(look_up(self.parts[part].take(epoch, many), self.tables[part]))
             count -= many
-        return joined(blocks)
+        return concatenate(blocks)
 
     def next_turn(self, most):
         """The part that is most behind its share, and how many accesses it makes."""
@@ -316,17 +316,17 @@ def mix_of(text, setup, seed):
     if not parts or sum(shares) <= 0:
         raise Bad("workload mix: expected parts with shares, such as 'mix zipf pages=1000 share=0.7 + scan pages=3000 share=0.3'")
     common = Common(Parameters(" ".join(["mix", *(f"{key}={value}" for key, value in whole.items())]), "workload"), setup, seed)
-    return Generated(Mix(parts, [share / sum(shares) for share in shares], setup), common)
+    return GeneratedWorkload(Mix(parts, [share / sum(shares) for share in shares], setup), common)
 
 
-def generated(text, setup, seed):
+def make_workload(text, setup, seed):
     """The generated workload that some words describe."""
     if text.split()[:1] == ["mix"]:
         return mix_of(text, setup, seed)
     words = Parameters(text, "workload")
     source, common = source_of(words, setup), Common(words, setup, seed)
     words.done()
-    return Generated(source, common)
+    return GeneratedWorkload(source, common)
 
 
 def address_of(region, page, first):
