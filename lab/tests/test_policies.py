@@ -206,6 +206,49 @@ class Parts(unittest.TestCase):
         self.assertEqual(list(film.nodes["weighted-interleave weights=2,3"][0]), [0, 0, 1, 1, 1] * 2)
 
 
+class Deciding(Case):
+    """What the built-in policies decide, by hand."""
+
+    def stream(self, epochs):
+        """A workload of one process: the pages that each epoch accesses, in order."""
+        lines = [f"{time},1,{0x10000 + 4096 * page},r\n" for time, pages in enumerate(epochs) for page in pages]
+        return f"csv {self.written('stream.csv', ''.join(lines))} epochs={len(epochs)}"
+
+    def moved(self, results, label):
+        return [row["moved"] for row in results.rows_of(label)]
+
+    def test_hints(self):
+        text = ("from numalab.policies.builtin import Hints\nclass Far(Hints):\n    def start(self, view):\n"
+                "        view.mbind(view.areas[0].pages, 'MPOL_BIND', [1])\n")
+        path = self.written("far.py", text)
+        results = compared(setup_with(10, 20), self.stream([range(12)] * 5), path + ":Far scan=1", path + ":Far scan=0.5")
+        # Pages are marked after epoch 0, and touched in epochs 1 and 2: after that 10 of the 12 find a frame.
+        self.assertEqual(self.moved(results, "far.py:Far scan=1"), [0, 0, 10, 0, 0])
+        self.assertEqual([row["fast_share"] for row in results.rows_of("far.py:Far scan=1")], [0, 0, 0, 10 / 12, 10 / 12])
+        # Half of them are marked at a time: the first 6 after epochs 0 and 2, so their second touch is in epoch 3.
+        self.assertEqual(self.moved(results, "far.py:Far scan=0.5"), [0, 0, 0, 6, 0])
+
+    def test_hints_need_the_same_node(self):
+        # Processes on nodes 0 and 1 touch shared pages in turn: no two faults in a row come from one node.
+        setup = setup_with(10, 20)
+        results = compared(setup, "scan pages=4 processes=2 homes=0,1 accesses=32 epochs=4", "hints scan=1")
+        self.assertEqual(self.moved(results, "hints scan=1"), [0, 0, 0, 0])
+
+    def test_watermark(self):
+        # Pages 0 to 9 fill the fast node. One frame is to be free: page 0 goes by turns. 10 to 13 are touched in epochs 1 and 2, and
+        # take the places of 1 to 4, which were not.
+        results = compared(setup_with(10, 30), self.stream([range(20), *[range(10, 14)] * 4]), "watermark scan=1 free=0.1")
+        self.assertEqual(self.moved(results, "watermark scan=1 free=0.1"), [1, 0, 8, 0, 0])
+        self.assertEqual([row["fast_share"] for row in results.rows_of("watermark scan=1 free=0.1")], [0.5, 0, 0, 1, 1])
+        self.assertEqual(results.rows_of("watermark scan=1 free=0.1")[-1]["free"][0], 1)
+
+    def test_hot_cold(self):
+        # Pages 4 to 7 have ten samples each, 0 to 3 one: four frames are for those with more.
+        results = compared(setup_with(4, 30), self.stream([[*range(8), *[4, 5, 6, 7] * 9], [4, 5, 6, 7], [0]]), "hot-cold cool=0", sample="1")
+        self.assertEqual(self.moved(results, "hot-cold cool=0"), [8, 0, 0])
+        self.assertEqual([row["fast_share"] for row in results.rows_of("hot-cold cool=0")], [4 / 44, 1, 0])
+
+
 class Broken(Case):
     """A policy that breaks its rules ends with one error; what was measured until then is there."""
 

@@ -106,6 +106,12 @@ class Read(Case):
         with self.assertRaises(Bad):
             read_from(f"lackey {self.written('y.gz', b'no gzip')}", setup_with(1, 1))
 
+    def test_a_name_with_spaces(self):
+        path = self.written("a name", " L 10000,8\n")
+        self.assertEqual(read_from(f"lackey '{path}' epochs=1", setup_with(1, 1)).accesses, 1)
+        with self.assertRaisesRegex(Bad, "No closing quotation"):
+            read_from("lackey 'x", setup_with(1, 1))
+
     def test_nothing_in_it(self):
         for kind in FORMATS[:4]:
             with self.assertRaisesRegex(Bad, "no access was found"):

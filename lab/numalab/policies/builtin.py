@@ -102,8 +102,8 @@ class Hints(Policy):
 
 
 class Watermark(Policy):
-    """Keeps a part of the fast nodes free: pages that were not accessed go from there to slower nodes, and where these are too few
-    others by turns. Of slow pages a part is marked in each epoch; one that is touched twice in a row comes to a fast node."""
+    """Of slow pages a part is marked in each epoch; those that are touched twice come to a fast node, as far as pages that were not
+    accessed there make room. A part of the fast nodes is kept free, if need be by pages that were accessed, which go by turns."""
 
     modelled_on = ("the paper TPP: Transparent Page Placement for CXL-Enabled Tiered-Memory: promotion on hint faults of slow pages that are "
                    "active, demotion under a watermark before the fast tier is full")
@@ -118,12 +118,11 @@ class Watermark(Policy):
             return
         wanted = self.pages_to_promote(view)
         frames = sum(view.frames[node] for node in view.fast)
-        # Room for what comes, as far as one round of the watermark goes, and the watermark itself.
         high = math.ceil(frames * self.free)
-        short = high + min(len(wanted), high) - view.free(*view.fast)
-        if short > 0:
-            self.demote(view, short)
-        view.move_pages(*nearest_with_room(view, wanted[: max(0, view.free(*view.fast) - high)], view.fast), MOVE_ALL)
+        self.demote(view, high - view.free(*view.fast), len(wanted))
+        coming = wanted[: max(0, view.free(*view.fast) - high)]
+        view.move_pages(*nearest_with_room(view, coming, view.fast), MOVE_ALL)
+        self.active.difference_update(coming)
         slow = view.on(*view.slow)
         view.hint(self.marks.next(slow, math.ceil(len(slow) * self.scan)))
 
@@ -131,14 +130,14 @@ class Watermark(Policy):
         """Slow pages with a second fault, the soonest first. A first fault makes a page active."""
         faulted = list(dict.fromkeys(fault.page for fault in view.faults))
         wanted = [page for page in faulted if page in self.active and view.node_of(page) in view.slow]
-        self.active = (self.active | set(faulted)) - set(wanted)
+        self.active.update(faulted)
         return wanted
 
-    def demote(self, view, count):
-        """Pages that were not accessed, and then others, each by turns."""
+    def demote(self, view, short, coming):
+        """Pages that were not accessed, for what is short of the watermark and for what comes, and for the first others too."""
         pages = self.hand.next(view.on(*view.fast), len(view.pages))
-        idle = [page for page in pages if page not in view.accessed]
-        chosen = (idle + [page for page in pages if page in view.accessed])[:count]
+        chosen = [page for page in pages if page not in view.accessed][: max(0, short + coming)]
+        chosen += [page for page in pages if page in view.accessed][: max(0, short - len(chosen))]
         self.hand.last = chosen[-1] if chosen else self.hand.last
         view.move_pages(*nearest_with_room(view, chosen, view.slow), MOVE_ALL)
 

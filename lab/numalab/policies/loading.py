@@ -2,6 +2,7 @@
 import inspect
 import os
 import sys
+import types
 from contextlib import contextmanager
 
 from ..notation import guessed
@@ -49,8 +50,10 @@ def import_path(folder):
 def class_of(recipe):
     if "source" not in recipe:
         return POLICIES[recipe["name"]]
-    path, names = os.path.abspath(recipe["path"]), {"__name__": "policy_of_" + os.path.basename(recipe["path"])[:-3]}
-    names["__file__"] = path
+    path = os.path.abspath(recipe["path"])
+    module = types.ModuleType("numalab_policy_" + os.path.basename(path)[:-3])
+    module.__file__, names = path, vars(module)
+    sys.modules[module.__name__] = module
     try:
         with import_path(os.path.dirname(path)):
             exec(compile(recipe["source"], path, "exec"), names)

@@ -1,5 +1,6 @@
 """Words of the form 'zipf pages=4000 a=0.99': a name, and parameters with values."""
 import re
+import shlex
 
 from ..notation import guessed
 from ..traces import Bad
@@ -20,11 +21,19 @@ def number_of(text, what, whole=True):
     return int(value) if whole else value
 
 
+def split(text, what):
+    """Words as a shell has them, so that a name may have spaces in quotes."""
+    try:
+        return shlex.split(text)
+    except ValueError as error:
+        raise Bad(f"{what}: {error}") from None
+
+
 class Parameters:
     """The parameters of a name, each of which must be asked for."""
 
     def __init__(self, text, what):
-        words = text.split()
+        words = split(text, what)
         if not words or "=" in words[0]:
             raise Bad(f"{what}: {text!r} does not begin with a name")
         self.what, self.name, self.given, self.known = f"{what} {words[0]}", words[0], {}, []

@@ -10,7 +10,7 @@ from ..notation import guessed
 from ..traces import Bad
 from ..words import PAGE, counted
 from . import arrays
-from .spec import Parameters
+from .spec import Parameters, split
 from .workloads import BLOCK, Process, Region, Workload, homes_of
 
 # What a line tells: when (or None), the process, the bytes from one address to before another, what is done (READ, WRITE or both),
@@ -256,7 +256,7 @@ class FileWorkload(Workload):
 
 def read_from(text, setup):
     """The workload in a file: 'lackey FILE epochs=10 scale=4'."""
-    kind, *rest = text.split()
+    kind, *rest = split(text, "workload")
     if not rest or "=" in rest[0]:
         raise Bad(f"workload {kind}: expected the name of a file after it{guessed(kind, FORMATS) if kind not in FORMATS else ''}")
     return FileWorkload(Parameters(" ".join([kind, *rest[1:]]), "workload"), rest[0], setup)
