@@ -164,6 +164,24 @@ class AsWritten(Case):
 
 
 @needs_session
+class Sharing(Case):
+    """A sweep of 60 combinations on four processes."""
+
+    def test_all_take_part(self):
+        self.written("mine.py", "import os, time\nfrom numalab.policies import Policy\nclass Mine(Policy):\n    def start(self, view):\n"
+                                f"        with open({os.path.join(self.there, 'pids')!r}, 'a') as file:\n            file.write(f'{{os.getpid()}}\\n')\n"
+                                "        time.sleep(0.02)\n")
+        self.written("cxl.nt", "nodes fast 100 + cxl 300\n")
+        words = ["--machine", "cxl.nt", "--workload", "zipf pages=200 accesses=5000 epochs=3", "--policy", "mine.py:Mine", "--sweep", "a=0.8,0.9,1.0,1.1,1.2",
+                 "--sweep", "fast=50,100,150,200", "--seeds", "3", "--jobs", "4", "--keep", "kept.jsonl", "--csv"]
+        status, out, err = run("policies", *words, folder=self.there)
+        self.assertEqual((status, err, len(out.splitlines())), (0, "", 1 + 60 * 3))
+        with open(os.path.join(self.there, "pids"), encoding="utf-8") as file:
+            pids = file.read().split()
+        self.assertEqual((len(pids), len(set(pids))), (60, 4))
+
+
+@needs_session
 class Large(Case):
     """10,000,000 accesses over 4,000 pages, one policy."""
 

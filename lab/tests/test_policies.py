@@ -166,22 +166,25 @@ class Best(unittest.TestCase):
 
     def cheapest(self, costs, homes, free, places):
         pages = sorted({place // len(homes) for place in places})
-        slots = [node for node, count in enumerate(free) for _ in range(count)]
-        return min(sum(count * costs.rows[homes[place % len(homes)]][chosen[pages.index(place // len(homes))]] for place, count in places.items())
-                   for chosen in itertools.permutations(slots, len(pages)))
+        slots = [node for node, count in enumerate(free) for _ in range(count)] + [None] * max(0, len(pages) - sum(free))
+        return min(self.cost(costs, homes, dict(zip(pages, chosen)), places) for chosen in itertools.permutations(slots, len(pages)))
+
+    def cost(self, costs, homes, placement, places):
+        """What a placement costs, where a page without a frame is as far as the most expensive node."""
+        nodes = [(homes[place % len(homes)], placement.get(place // len(homes)), count) for place, count in places.items()]
+        return sum(count * (costs.worst if node is None else costs.rows[home][node]) for home, node, count in nodes)
 
     def test_small_machines(self):
         drawn = random.Random(5)
         for turn in range(60):
-            free = [drawn.randint(1, 2) for _ in range(3)]
+            free = [drawn.randint(0, 2) for _ in range(3)]
             homes = [0, 1, 2][: drawn.randint(1, 3)]
             costs = Costs(setup_with(4, 4, 4), homes, ",".join(f"{home}:{node}={drawn.randint(1, 9)}" for home in range(3) for node in range(3)))
-            pages = drawn.randint(1, min(4, sum(free)))
+            pages = drawn.randint(1, 5)
             places = {page * len(homes) + process: drawn.randint(1, 9) for page in range(pages) for process in range(len(homes))}
             placement = Bounds(costs, homes, free, range(3)).placement(places)
             self.assertTrue(all(list(placement.values()).count(node) <= free[node] for node in range(3)))
-            cost = sum(count * costs.rows[homes[place % len(homes)]][placement[place // len(homes)]] for place, count in places.items())
-            self.assertEqual(cost, self.cheapest(costs, homes, free, places), (turn, homes, free, places))
+            self.assertEqual(self.cost(costs, homes, placement, places), self.cheapest(costs, homes, free, places), (turn, homes, free, places))
 
 
 class Parts(unittest.TestCase):

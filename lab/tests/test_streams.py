@@ -75,6 +75,10 @@ class Read(Case):
         self.assertEqual(workload.left_out["regions without an access"], 1)
         self.assertEqual(workload.accesses, 4 * 2 + 5 + 2)
 
+    def test_times_of_damon(self):
+        text = "".join(f"monitoring_start: {time}\n10000-11000(4.000 KiB): {count}\n" for time, count in [("0 ns", 1), ("1 m 30.000 s", 2), ("1,000.5 s", 4)])
+        self.assertEqual([sum(epoch.values()) for epoch in self.counted(self.workload("damon", text, "epochs=10"))], [3] + [0] * 8 + [4])
+
     def test_csv(self):
         text = "time,process,address,kind\n0,9,65536,r\n1.5,9,0x11000,WRITE\n2,3,0x10000,m\nx\n3,9,0x10000,?\n4,3,0x10000,l\n"
         workload = self.workload("csv", text, "epochs=4")

@@ -13,9 +13,9 @@ class Bounds:
         groups = {}
         for node in sorted(allowed):
             groups.setdefault(tuple(costs.rows[home][node] for home in self.kinds), []).append(node)
-        # Nodes that cost the same for every process are one choice.
-        self.choices = sorted(groups)
-        self.nodes, self.free = [groups[choice] for choice in self.choices], free
+        # Nodes that cost the same for every process are one choice; the last choice is to have no frame.
+        self.choices = [*sorted(groups), (costs.worst,) * len(self.kinds)]
+        self.nodes, self.free = [groups[choice] for choice in self.choices[:-1]], free
 
     def placement(self, places):
         """The node of each page that is accessed, where `places` says how often each place is."""
@@ -23,14 +23,16 @@ class Bounds:
         for place, count in places.items():
             weight = weights.setdefault(place // many, [0] * len(self.kinds))
             weight[self.kinds.index(self.homes[place % many])] += count
-        room = [sum(self.free[node] for node in nodes) for nodes in self.nodes]
+        room = [sum(self.free[node] for node in nodes) for nodes in self.nodes] + [len(weights)]
         chosen = self.by_count(weights, room) if len(set(map(tuple, zip(*self.choices)))) == 1 else self.by_chains(weights, room)
         return self.on_nodes(chosen)
 
     def on_nodes(self, chosen):
-        """Pages of a choice on its nodes, which are filled by number."""
+        """Pages of a choice on its nodes, which are filled by number. Those without a frame are on none."""
         left, found = [[[node, self.free[node]] for node in nodes] for nodes in self.nodes], {}
         for page, choice in sorted(chosen.items()):
+            if choice == len(self.nodes):
+                continue
             while not left[choice][0][1]:
                 left[choice].pop(0)
             left[choice][0][1] -= 1
@@ -41,10 +43,8 @@ class Bounds:
         """Where a node costs the same for all processes: the pages with most accesses on the cheapest nodes."""
         found, choice = {}, 0
         for page in sorted(weights, key=lambda page: (-sum(weights[page]), page)):
-            while choice < len(room) and not room[choice]:
+            while not room[choice]:
                 choice += 1
-            if choice == len(room):
-                break
             found[page], room[choice] = choice, room[choice] - 1
         return found
 
@@ -53,8 +53,6 @@ class Bounds:
         (These are the shortest augmenting paths of a minimum cost flow, so that the placement at the end is the cheapest.)"""
         chains = Chains(len(room))
         for page, weight in sorted(weights.items()):
-            if not any(room):
-                break
             there = [(home, one) for home, one in enumerate(weight) if one]
             costs = [sum(one * choice[home] for home, one in there) for choice in self.choices]
             chains.add(page, costs, room)

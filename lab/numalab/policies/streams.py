@@ -22,8 +22,9 @@ MOST_PROCESSES, MOST_PID = 64, (1 << 32) - 1
 LACKEY = re.compile(r"(I| [LSM]) {1,2}([0-9a-f]+),[0-9]+")
 PERF = re.compile(r"\s*\S.*?\s([0-9]+)(?:/[0-9]+)?\s+(?:\[[0-9]+\]\s+)?([0-9]+\.[0-9]+):\s+(?:[0-9]+\s+)?(\S+?):\s+([0-9a-f]+)(?:\s+[0-9a-f]+(?:\s.*)?)?\s*")
 REGION = re.compile(r"\s*([0-9a-f]+)-([0-9a-f]+)\s*\(.*?\)\s*:\s*([0-9]+).*")
-DAMON_KEY = re.compile(r"\s*(monitoring_start|target_id):\s+([0-9.]+)\s*(ns|us|ms|s|m|h)?.*")
-UNITS = {None: 1.0, "ns": 1e-9, "us": 1e-6, "ms": 1e-3, "s": 1.0, "m": 60.0, "h": 3600.0}
+DAMON_KEY = re.compile(r"\s*(monitoring_start|target_id):\s*(.*?)\s*")
+TIME = re.compile(r"([0-9][0-9.,]*) *(ns|us|ms|s|m|h)\b")
+UNITS = {"ns": 1e-9, "us": 1e-6, "ms": 1e-3, "s": 1.0, "m": 60.0, "h": 3600.0}
 KINDS = {**dict.fromkeys(("r", "read", "l", "load", "0", "0.0"), READ), **dict.fromkeys(("w", "write", "s", "store", "1", "1.0"), WRITE),
          "m": BOTH, "modify": BOTH}
 
@@ -56,8 +57,7 @@ def perf(lines, left):
 
 def damon(lines, left):
     """The raw report of DAMON's record: regions with how many of their samples were accesses, which all their pages get."""
-    time, targets = 0.0, {}
-    target = targets.setdefault("0", 1)
+    time, target, targets = 0.0, 1, {}
     for line in lines:
         match, key = REGION.fullmatch(line), DAMON_KEY.fullmatch(line)
         if match and int(match[3]):
@@ -65,11 +65,9 @@ def damon(lines, left):
         elif match:
             left["regions without an access"] += 1
         elif key and key[1] == "target_id":
-            if targets == {"0": 1} and key[2] != "0":
-                targets = {}
             target = targets.setdefault(key[2], len(targets) + 1)
         elif key:
-            time = float(key[2]) * UNITS[key[3]]
+            time = sum(float(number.replace(",", "")) * UNITS[unit] for number, unit in TIME.findall(key[2]))
 
 
 def table(lines, left):
