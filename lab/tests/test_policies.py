@@ -156,6 +156,11 @@ class Statuses(Case):
         found = self.stayed(workload, "MOVE_ALL")
         self.assertEqual((found["stayed"], found["moved"]), ({}, 10))
 
+    def test_cpuset(self):
+        text = ("from numalab.policies import Policy\nclass Out(Policy):\n    def epoch(self, view):\n        assert view.move_pages([0], 1).error == 'EACCES'\n")
+        results = compared(setup_with(30, 12), "scan pages=10 allowed=0 accesses=30 epochs=3", self.written("out.py", text) + ":Out")
+        self.assertEqual((results.errors, [row["refused_calls"] for row in results.rows_of("out.py:Out")]), ([], [{"move_pages EACCES": 1}] * 2 + [{}]))
+
     def test_pinned_and_full(self):
         found = self.stayed("scan pages=20 accesses=40 epochs=2 pinned=0.25", "MOVE")
         self.assertEqual((found["stayed"], found["moved"]), ({"EBUSY": 5, "ENOMEM": 3}, 12))
