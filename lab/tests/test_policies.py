@@ -283,6 +283,12 @@ class Broken(Case):
         self.assertEqual([len(results.rows_of(label)) for label in ("mine.py:Mine", "first-touch")], [0, 5])
         self.assertIn("policy mine.py:Mine in its start: OSError: no", results.errors[0])
 
+    def test_refusals_at_the_start(self):
+        text = ("from numalab.policies import Policy\nclass Mine(Policy):\n    def start(self, view):\n        view.mbind(view.areas[0].pages, 'MPOL_BIND', [])\n"
+                "    def epoch(self, view):\n        assert view.epoch or [one.error for one in view.answers] == ['EINVAL']\n")
+        results = compared(setup_with(20, 60), KINDS[0] + COMMON, self.written("mine.py", text) + ":Mine")
+        self.assertEqual((results.errors, total(results, "mine.py:Mine")["refused_calls"]), ([], {"mbind EINVAL": 1}))
+
     def test_refusals_are_answers(self):
         results = self.broken("assert view.move_pages([1], 0, 64).error == 'EINVAL'")
         self.assertEqual(results.errors, [])

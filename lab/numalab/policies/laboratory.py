@@ -31,9 +31,10 @@ class Run:
         self.view = View(self.machine, plan.sample)
         self.view.fast = plan.fast
         self.view.slow = [node for node in setup.nodes if node not in plan.fast]
-        self.calls = []
+        self.calls = []  # by epoch, in words
         try:
             self.ask(-1, self.policy.start)
+            self.at_start = self.view._answers
         except BaseException:
             self.machine.abandon()
             raise
@@ -85,7 +86,7 @@ class Run:
                 self.ask(epoch.number, self.policy.epoch)
             except StoppedPolicy as error:
                 stopped = error
-        answers = self.view._answers if not last else []
+        answers, self.at_start = [*self.at_start, *([] if last else self.view._answers)], []
         stayed = sum((status_names(answer) for answer in answers), Counter())
         errors = Counter(f"{answer.call} {answer.error}" for answer in answers if answer.error)
         row.update(calls=len(answers), moved=self.machine.pages_moved() - before, stayed=dict(sorted(stayed.items())),

@@ -54,7 +54,7 @@ def page_of(found, film, paths):
     """The page of a comparison."""
     maps, pages_a_row = maps_of(found, film)
     labels = found.labels()
-    keys = ("epoch", "accesses", "by_node", "by_distance", "refused", "fast_share", "mean_cost", "moved", "stayed", "free", "first_step", "last_step")
+    keys = ("epoch", "accesses", "by_node", "by_distance", "refused", "fast_share", "mean_cost", "moved", "stayed", "refused_calls", "free", "first_step", "last_step")
     policies = [{"label": label, "bound": label in BOUNDS, "rows": [{key: row.get(key) for key in keys} for row in found.rows_of(label)],
                  "map": maps.get(label), "worst": [] if label in BOUNDS else worst_of(found, label, paths)} for label in labels]
     nodes = [{"name": found.setup.name_of(node), "frames": frames, "fast": node in found.plan.fast} for node, frames in enumerate(found.setup.frames)]

@@ -64,15 +64,16 @@ def total_of(rows, move_cost):
     cost = sum(row["mean_cost"] * row["accesses"] for row in rows if row["accesses"])
     fast = sum(round(row["fast_share"] * row["accesses"]) for row in rows if row["accesses"])
     moved = sum(row.get("moved", 0) for row in rows)
-    stayed, far = Counter(), Counter()
+    stayed, refused, far = Counter(), Counter(), Counter()
     for row in rows:
         stayed.update(row.get("stayed", {}))
+        refused.update(row.get("refused_calls", {}))
         far.update(row["by_distance"])
     return {"policy": rows[0]["policy"], "epochs": len(rows), "accesses": accesses,
             "by_node": [sum(counts) for counts in zip(*(row["by_node"] for row in rows))],
             "by_distance": {key: far[key] for key in sorted(far, key=int)}, "refused": sum(row["refused"] for row in rows),
             "fast_share": fast / accesses if accesses else None, "mean_cost": cost / accesses if accesses else None,
-            "moved": moved, "stayed": dict(sorted(stayed.items())), "cost_of_moves": moved * move_cost,
+            "moved": moved, "stayed": dict(sorted(stayed.items())), "refused_calls": dict(sorted(refused.items())), "cost_of_moves": moved * move_cost,
             "mean_cost_with_moves": (cost + moved * move_cost) / accesses if accesses else None}
 
 
@@ -125,8 +126,9 @@ def above_text(value):
     return UNKNOWN if value is None else f"{100 * value:+.2f}%"
 
 
-def stayed_text(stayed):
-    return ", ".join(f"{name} {count:,}" for name, count in stayed.items()) or UNKNOWN
+def stayed_text(row):
+    """The statuses of pages that did not move, and the errors of calls that were refused."""
+    return ", ".join(f"{name} {count:,}" for name, count in {**row["stayed"], **row["refused_calls"]}.items()) or UNKNOWN
 
 
 def pairs_text(counts):
@@ -149,7 +151,7 @@ def table_of(results):
         bound = total["policy"] in BOUNDS
         lines.append([total["policy"], share_text(total["fast_share"]), cost_text(total["mean_cost"]),
                       *([UNKNOWN if bound else cost_text(total["mean_cost_with_moves"])] if moves else []),
-                      UNKNOWN if bound else f"{total['moved']:,}", UNKNOWN if bound else stayed_text(total["stayed"]), f"{total['refused']:,}",
+                      UNKNOWN if bound else f"{total['moved']:,}", UNKNOWN if bound else stayed_text(total), f"{total['refused']:,}",
                       above_text(total["above_static"]), above_text(total["above_each_epoch"])])
     return align(heads, lines)
 
@@ -161,7 +163,7 @@ def epoch_table_of(results):
     for row in (row for label in results.labels() for row in results.rows_of(label)):
         bound = row["policy"] in BOUNDS
         lines.append([row["policy"], str(row["epoch"]), f"{row['accesses']:,}", share_text(row["fast_share"]), cost_text(row["mean_cost"]),
-                      " ".join(map(str, row["by_node"])), pairs_text(row["by_distance"]), UNKNOWN if bound else f"{row['moved']:,}", UNKNOWN if bound else stayed_text(row["stayed"]),
+                      " ".join(map(str, row["by_node"])), pairs_text(row["by_distance"]), UNKNOWN if bound else f"{row['moved']:,}", UNKNOWN if bound else stayed_text(row),
                       UNKNOWN if bound else " ".join(map(str, row["free"])), UNKNOWN if bound else f"{row['first_step']}-{row['last_step']}"])
     return align(heads, lines)
 
@@ -203,16 +205,16 @@ def csv_text(results):
     distances = sorted({key for row in rows for key in row["by_distance"]}, key=int)
     stayed = sorted({name for row in rows for name in row.get("stayed", {})})
     nodes = range(len(results.setup.frames))
-    heads = ["policy", "epoch", "accesses", "fast_share", "mean_cost", "refused", "moved", *(f"node_{node}" for node in nodes),
+    heads = ["policy", "epoch", "accesses", "fast_share", "mean_cost", "refused", "moved", "refused_calls", *(f"node_{node}" for node in nodes),
              *(f"distance_{key}" for key in distances), *(f"stayed_{name}" for name in stayed), *(f"free_{node}" for node in nodes),
              "first_step", "last_step"]
     out = io.StringIO()
     writer = csv.writer(out, lineterminator="\n")
     writer.writerow(heads)
     for row in rows:
-        measured_here = "moved" in row
+        by_policy = "moved" in row
         writer.writerow([row["policy"], row["epoch"], row["accesses"], row["fast_share"], row["mean_cost"], row["refused"], row.get("moved"),
-                         *row["by_node"], *(row["by_distance"].get(key, 0) for key in distances),
-                         *(row["stayed"].get(name, 0) if measured_here else None for name in stayed),
+                         sum(row["refused_calls"].values()) if by_policy else None, *row["by_node"], *(row["by_distance"].get(key, 0) for key in distances),
+                         *(row["stayed"].get(name, 0) if by_policy else None for name in stayed),
                          *(row.get("free") or [None] * len(nodes)), row.get("first_step"), row.get("last_step")])
     return out.getvalue()
