@@ -14,7 +14,9 @@ from numalab.policies import arrays
 from numalab.policies.bounds import EPOCHS, STATIC, Bounds
 from numalab.policies.builtin import POLICIES, HotCold, WeightedInterleave
 from numalab.policies.costs import Costs
+from numalab.policies.counting import epochs_of
 from numalab.policies.film import ABSENT, Film, stretches
+from numalab.policies.workloads import make_workload
 from numalab.traces import Bad
 
 KINDS = ["zipf pages=60", "uniform pages=60", "scan pages=60", "phases pages=60 every=2", "gups pages=60 processes=2",
@@ -394,6 +396,28 @@ class Lengths(unittest.TestCase):
         with open(os.path.join(EXAMPLES, "least_recent.py"), encoding="utf-8") as file:
             text = file.read()
         self.assertLessEqual(len(text[text.index("class"):].splitlines()), 15)
+
+
+class Samples(unittest.TestCase):
+    """One access of each N, and no other."""
+
+    def test_counts(self):
+        workload = make_workload("zipf pages=50 processes=2 accesses=10007 epochs=3", setup_with(60), 1)
+        pages = [Counter() for _ in range(3)]
+        for epoch, block in workload.blocks():
+            pages[epoch].update(int(item) // 4 for item in block)
+        self.assertEqual([epoch.samples for epoch in epochs_of(workload, 1, 1)], pages)
+        for every in (2, 10, 1000):
+            samples = [epoch.samples for epoch in epochs_of(workload, every, 1)]
+            self.assertIn(sum(sum(one.values()) for one in samples), (10007 // every, 10007 // every + 1))
+            self.assertTrue(all(one[page] <= all_of[page] for one, all_of in zip(samples, pages) for page in one))
+
+    def test_scan_is_seen_whole(self):
+        # Every tenth access of a scan over 10 pages would be one page; at random places all are seen.
+        samples = Counter()
+        for epoch in epochs_of(make_workload("scan pages=10 accesses=1000 epochs=2", setup_with(60), 1), 10, 1):
+            samples.update(epoch.samples)
+        self.assertEqual((len(samples), sum(samples.values())), (10, 100))
 
 
 class Draws(unittest.TestCase):

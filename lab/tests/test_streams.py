@@ -1,14 +1,17 @@
 """Workloads that are read from files: lackey, perf, DAMON and CSV; what has no place, areas, scale and epochs."""
 import gzip
 import os
+import random
 import unittest
 from collections import Counter
+from unittest import mock
 
 from support import LAB, Case
 from laboratory import compared, setup_with, total
 from numalab.policies.bounds import EPOCHS, STATIC
 from numalab.policies.counting import epochs_of
-from numalab.policies.streams import FORMATS, read_from
+from numalab.policies import streams
+from numalab.policies.streams import FORMATS, PageSet, Record, read_from, scale_for
 from numalab.traces import Bad
 
 DATA = os.path.join(LAB, "tests", "data")
@@ -94,6 +97,19 @@ class Read(Case):
             self.assertEqual(workload.scale, scale)
             self.assertEqual([(region.address // 4096, region.pages) for region in workload.regions], areas[scale])
             self.assertEqual(sum(sum(epoch.values()) for epoch in self.counted(workload)), 33)
+
+    def test_few_pages_are_kept(self):
+        drawn, pages = random.Random(3), PageSet(0)
+        there = {drawn.randrange(1 << 20) for _ in range(3000)}
+        with mock.patch.object(streams, "MOST_KEPT", 200):
+            pages.most = 200
+            for page in there:
+                pages.add(Record(None, 1, page * 4096, page * 4096 + (1 if page % 7 else 4096 * 5), (0,), 1))
+                self.assertLessEqual(len(pages.pages) + len(pages.stretches), 401)
+        there |= {page + k for page in there if page % 7 == 0 for k in range(5)}
+        scale = scale_for([pages], 100, 0)
+        self.assertEqual({group for first, end in pages.groups(scale) for group in range(first, end)}, {page // scale for page in there})
+        self.assertTrue(len({page // scale for page in there}) <= 100 < len({page // (scale // 2) for page in there}))
 
     def test_damon_scaled(self):
         workload = self.workload("damon", DAMON, "epochs=1 scale=8")

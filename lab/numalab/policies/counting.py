@@ -94,22 +94,31 @@ class FastCount:
         return items.tolist(), counts.tolist()
 
 
+def all_samples(items, counts, sharers):
+    """Every access as a sample."""
+    found = Counter()
+    for item, count in zip(items, counts):
+        found[item // (2 * sharers)] += count
+    return found
+
+
 def epochs_of(workload, every, seed, progress=None):
     """The epochs of a workload, one after another, each counted; those in which nothing happens as well."""
     counts = (PlainCount if arrays.numpy is None else FastCount)(workload.item_count)
-    sampler = Sampler(every, seed, len(workload.processes))
-    now = done = 0
+    sharers, now, done = len(workload.processes), 0, 0
+    sampler = Sampler(every, seed, sharers) if every > 1 else None
 
     def end_epoch(number):
         items, found = counts.take()
-        return Epoch(number, items, found, sampler.take())
+        return Epoch(number, items, found, sampler.take() if sampler else all_samples(items, found, sharers))
 
     for epoch, block in workload.blocks():
         while now < epoch:
             yield end_epoch(now)
             now += 1
         counts.add(block)
-        sampler.add(block)
+        if sampler:
+            sampler.add(block)
         done += len(block)
         if progress:
             progress.at(done, workload.accesses)

@@ -5,7 +5,7 @@ import re
 import zlib
 from collections import Counter, namedtuple
 
-from ..linux.recorded import END
+from ..linux.recorded import END, MOST_FRAMES
 from ..notation import guessed
 from ..traces import Bad
 from ..words import PAGE, counted
@@ -19,6 +19,7 @@ Record = namedtuple("Record", "time process first end kinds times")
 READ, WRITE = (0,), (1,)
 BOTH = READ + WRITE
 MOST_PROCESSES, MOST_PID = 64, (1 << 32) - 1
+MOST_KEPT = 16 * MOST_FRAMES
 LACKEY = re.compile(r"(I| [LSM]) {1,2}([0-9a-f]+),[0-9]+")
 PERF = re.compile(r"\s*\S.*?\s([0-9]+)(?:/[0-9]+)?\s+(?:\[[0-9]+\]\s+)?([0-9]+\.[0-9]+):\s+(?:[0-9]+\s+)?(\S+?):\s+([0-9a-f]+)(?:\s+[0-9a-f]+(?:\s.*)?)?\s*")
 REGION = re.compile(r"\s*([0-9a-f]+)-([0-9a-f]+)\s*\(.*?\)\s*:\s*([0-9]+).*")
@@ -119,24 +120,38 @@ FORMATS = [*READERS, "numpy"]
 
 
 class PageSet:
-    """The pages of a process: single ones, and stretches."""
+    """The pages of a process: single ones, and stretches. Where they are far more than a machine has frames, two become one, unless the
+    scale is given, so that the set stays small."""
 
-    def __init__(self):
+    def __init__(self, scale):
+        self.unit, self.fixed, self.most = scale or 1, bool(scale), MOST_KEPT
         self.pages, self.stretches = set(), set()
 
     def add(self, record):
-        first, end = record.first // PAGE, (record.end - 1) // PAGE + 1
+        first, end = record.first // PAGE // self.unit, (record.end - 1) // PAGE // self.unit + 1
         if end - first == 1:
             self.pages.add(first)
         else:
             self.stretches.add((first, end))
+        if len(self.pages) + len(self.stretches) > self.most:
+            self.shrink()
+
+    def shrink(self):
+        """Joins what is adjacent, and takes two pages for one while they are too many."""
+        groups = self.groups(self.unit)
+        while not self.fixed and sum(end - first for first, end in groups) > MOST_KEPT:
+            self.pages, self.stretches = set(), {(first // 2, (end - 1) // 2 + 1) for first, end in groups}
+            self.unit *= 2
+            groups = self.groups(self.unit)
+        self.pages, self.stretches = set(), set(map(tuple, groups))
+        self.most = max(MOST_KEPT, 2 * len(groups))
 
     def groups(self, scale):
         """Stretches of adjacent pages, where N pages in a row are one."""
-        single = sorted({page // scale for page in self.pages})
-        ends = sorted([(page, page + 1) for page in single] + [(first // scale, (end - 1) // scale + 1) for first, end in self.stretches])
+        many = scale // self.unit
+        ends = {(page // many, page // many + 1) for page in self.pages} | {(first // many, (end - 1) // many + 1) for first, end in self.stretches}
         found = []
-        for first, end in ends:
+        for first, end in sorted(ends):
             if found and first <= found[-1][1]:
                 found[-1][1] = max(found[-1][1], end)
             else:
@@ -146,7 +161,7 @@ class PageSet:
 
 def scale_for(seen, most, asked):
     """The scale that is asked for, or the least power of two with which all pages find a frame."""
-    scale = asked or 1
+    scale = max([asked or 1, *(one.unit for one in seen)])
     while True:
         total = sum(end - first for one in seen for first, end in one.groups(scale))
         if total <= most:
@@ -161,9 +176,8 @@ class FileWorkload(Workload):
 
     def __init__(self, words, path, setup):
         self.kind, self.path = words.name, path
-        left = Counter()
-        seen, self.accesses, self.times = self.look(left)
-        epochs, asked = words.count("epochs", 20), words.count("scale", 0, 0)
+        left, epochs, asked = Counter(), words.count("epochs", 20), words.count("scale", 0, 0)
+        seen, self.accesses, self.times = self.look(left, asked)
         allowed = words.text("allowed", None)
         allowed = setup.node_list(allowed, f"{words.what}: allowed") if allowed else list(setup.nodes)
         if not seen:
@@ -198,11 +212,13 @@ class FileWorkload(Workload):
                 known[record.process] = True
                 yield record
 
-    def look(self, left):
+    def look(self, left, asked):
         """The pages of each process, how many accesses there are, and the first and the last time."""
         seen, total, first, last = {}, 0, None, None
         for record in self.records(left):
-            seen.setdefault(record.process, PageSet()).add(record)
+            if record.process not in seen:
+                seen[record.process] = PageSet(asked)
+            seen[record.process].add(record)
             total += len(record.kinds) * record.times * ((record.end - 1) // PAGE - record.first // PAGE + 1)
             if record.time is not None:
                 first = record.time if first is None else min(first, record.time)
