@@ -271,6 +271,7 @@ class Broken(Case):
                             ("view.move_pages([1], 2)", "there is no node 2: the last is 1"), ("view.hint(['a'])", "there is no page 'a'"),
                             ("view.migrate_pages([0], [1], 4)", "there is no process 4"), ("view.mbind([1, 3], 'MPOL_BIND', [0])", "mbind: expected adjacent pages"),
                             ("view.mbind([1, 2], 'BIND', [0])", "mbind: BIND is not a mode"), ("{}['x']", "KeyError: 'x'"),
+                            ("view.move_pages([1], 0, -1)", "the flags are -1: expected"), ("raise ValueError('no')", "ValueError: no"),
                             ("view.move_pages([1, 2], [0])", "move_pages has 2 pages and 1 nodes")]:
             results = self.broken(body)
             self.assertEqual(len(results.errors), 1)
@@ -354,6 +355,7 @@ class Command(Case):
             (["--workload", "zipf pages=9", "--policy", "hints sacn=1"], "unexpected keyword argument 'sacn'"),
             (["--workload", "zipf pages=9", "--policy", "hints", "--policy", "hints"], "is named twice"),
             (["--workload", "zipf pages=9", "-o", "x.svg"], "expected a name that ends in"), (["--workload", "zipf pages=9", "--jobs", "2"], "are for a sweep"),
+            (["--workload", "zipf pages=9", "-o", "none/x.csv"], "its folder is not there"), (["--workload", "zipf pages=9", "--save-trace", "cxl.nt"], "File exists"),
             (["--workload", "zipf pages=9", "--sample", "0"], "--sample is 1 or more"), (["--workload", "zipf pages=9", "--sweep", "a"], "expected a name and different values"),
             (["--workload", "zipf pages=9", "--sweep", "b=1"], "has no parameter b"), (["--workload", "zipf pages=9", "--fast", "slow"], "slow is not a node"),
         ]:

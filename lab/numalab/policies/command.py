@@ -18,31 +18,40 @@ def endings(asked):
     ending = os.path.splitext(asked.out or "")[1]
     if asked.out and ending not in (".html", ".htm", ".jsonl", ".csv"):
         raise Bad(f"{asked.out}: expected a name that ends in .html, .jsonl or .csv")
+    if asked.out and not os.access(os.path.dirname(os.path.abspath(asked.out)), os.W_OK):
+        raise Bad(f"{asked.out}: its folder is not there, or not writable")
     if asked.jsonl and asked.csv:
         raise Bad("--jsonl and --csv do not go together")
     return ending
 
 
-def save_traces(found, asked):
-    """Writes the trace of each policy."""
-    folder = os.path.isdir(asked.save_trace) or asked.save_trace.endswith(os.sep) or len(found.traces) > 1
-    if folder:
+def trace_paths(asked, labels):
+    """Where the trace of each policy goes, in a folder that is there."""
+    if not asked.save_trace:
+        return {}
+    if len(labels) == 1 and not os.path.isdir(asked.save_trace) and not asked.save_trace.endswith(os.sep):
+        return {labels[0]: asked.save_trace}
+    try:
         os.makedirs(asked.save_trace, exist_ok=True)
-    paths = {}
-    for label, text in found.traces.items():
-        name = "".join(letter if letter.isalnum() or letter in "-_." else "-" for letter in label) + ".json"
-        paths[label] = os.path.join(asked.save_trace, name) if folder else asked.save_trace
+    except OSError as error:
+        raise Bad(f"{asked.save_trace}: {error.strerror}") from error
+    names = ["".join(letter if letter.isalnum() or letter in "-_." else "-" for letter in label) + ".json" for label in labels]
+    return {label: os.path.join(asked.save_trace, name) for label, name in zip(labels, names)}
+
+
+def save_traces(traces, paths):
+    """Writes the trace of each policy."""
+    for label, text in traces.items():
         if len(text) > MOST_TRACE:
             print(f"numalab: {paths[label]} has {len(text):,} bytes, and numatrace reads at most {MOST_TRACE:,}: fewer epochs make a shorter one", file=sys.stderr)
         write_file(paths[label], text)
-    return paths
 
 
 def one_comparison(asked, job, ending):
-    film = Film() if ending.startswith(".htm") else None
+    film, paths = Film() if ending.startswith(".htm") else None, trace_paths(asked, [recipe["label"] for recipe in job["policies"]])
     with Progress("accesses counted") as progress:
-        found = run_job(job, asked.program, progress, bool(asked.save_trace), film)
-    paths = save_traces(found, asked) if asked.save_trace else {}
+        found = run_job(job, asked.program, progress, bool(paths), film)
+    save_traces(found.traces, paths)
     if ending.startswith(".htm"):
         write_file(asked.out, page.page_of(found, film, paths))
     elif asked.out:

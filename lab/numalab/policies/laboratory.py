@@ -5,7 +5,6 @@ from array import array
 from collections import Counter
 
 from ..program import Failed
-from ..traces import Bad
 from .bounds import EPOCHS, STATIC, Bounds
 from .counting import epochs_of
 from .loading import policy_of
@@ -44,7 +43,7 @@ class Run:
         self.view._begin()
         try:
             method(self.view)
-        except (Bad, Failed):
+        except Failed:
             raise
         except Exception as error:
             when = "its start" if number < 0 else f"epoch {number}"

@@ -75,7 +75,7 @@ class View:
             raise BrokenRule(f"move_pages has {len(pages)} pages and {len(nodes)} nodes")
         if not pages:
             return Answer("move_pages", None, 0)
-        statuses, failed, error = self._machine.move_pages(pages, nodes, flags)
+        statuses, failed, error = self._machine.move_pages(pages, nodes, check_flags(flags))
         return self._note(Answer("move_pages", error, failed, tuple(zip(pages, nodes)), tuple(statuses)))
 
     def migrate_pages(self, old, new, process=0):
@@ -94,7 +94,7 @@ class View:
         if number not in range(len(MODES)):
             raise BrokenRule(f"mbind: {mode} is not a mode")
         nodes, address = [self._node(node) for node in nodes], self._machine.index.address(pages[0])
-        told = [self._machine.mbind(process, address, len(pages), number, nodes, flags) for process in area.processes]
+        told = [self._machine.mbind(process, address, len(pages), number, nodes, check_flags(flags)) for process in area.processes]
         error = next((one["error"] for one in told if "error" in one), None)
         return self._note(Answer("mbind", error, sum(one.get("answer", 0) for one in told)))
 
@@ -145,6 +145,13 @@ def check_number(number, count, what):
     if not 0 <= found < count:
         raise BrokenRule(f"there is no {what} {number!r}: the last is {count - 1}")
     return found
+
+
+def check_flags(flags):
+    """Flags that a policy gave, if they are a number that a call can have."""
+    if not isinstance(flags, int) or not 0 <= flags < 1 << 32:
+        raise BrokenRule(f"the flags are {flags!r}: expected MOVE, MOVE_ALL, STRICT or a sum of these")
+    return flags
 
 
 def status_names(answer):
