@@ -4,14 +4,18 @@ the same rows with and without them, and how long a large workload takes with Nu
 The tests run the command by the first Python that has both modules: this one, or Debian's."""
 import json
 import os
+import shutil
 import subprocess
 import sys
 import time
 import unittest
 
 from support import COMMAND, LAB, Case
-from laboratory import EXAMPLES, PROGRAM
+from laboratory import EXAMPLES, PROGRAM, setup_with
 from played_policies import needs_session, session
+from test_streams import DATA
+from numalab.policies.counting import epochs_of
+from numalab.policies.streams import read_from
 
 MOST_SECONDS, MOST_KIB = 10, 300 * 1024
 MODULES = "import numpy, distributed"
@@ -73,6 +77,16 @@ class Extras(Case):
                               variables={"NUMATRACE_SESSION": PROGRAM}) for words in ("csv x.csv", "numpy x.npy", "numpy y.npy")]
         self.assertEqual(found, found[:1] * 3)
         self.assertEqual(sum(json.loads(line)["accesses"] for line in found[0].splitlines()[:5]), 100)
+
+    @unittest.skipUnless(shutil.which("valgrind") and shutil.which("gcc"), "lackey is not asked anew, as there is no valgrind or no gcc")
+    def test_lackey_anew(self):
+        """What lackey shows of both walks is what it showed when the tests' data were made."""
+        flags = "-O1 -static -nostdlib -fno-stack-protector -fno-tree-vectorize -fno-pie -no-pie".split()
+        for walk, define in (("rows", "ROW_BY_ROW"), ("columns", "COLUMNS")):
+            subprocess.run(["gcc", *flags, "-D" + define, os.path.join(DATA, "matrix.c"), "-o", "walk"], cwd=self.there, check=True)
+            subprocess.run(["valgrind", "--tool=lackey", "--trace-mem=yes", "--log-file=walk.lackey", "./walk"], cwd=self.there, check=True)
+            seen = [read_from(f"lackey {path} epochs=16", setup_with(16, 100)) for path in (os.path.join(self.there, "walk.lackey"), f"{DATA}/matrix_{walk}.lackey.gz")]
+            self.assertEqual(*[[(epoch.items, epoch.counts) for epoch in epochs_of(one, 100, 1)] for one in seen])
 
     @needs_session
     def test_seconds_and_memory(self):

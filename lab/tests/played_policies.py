@@ -5,10 +5,11 @@ import os
 import shutil
 import subprocess
 import sys
+import textwrap
 import unittest
 from unittest import mock
 
-from support import COMMAND, ROOT, Case, needs_program, run
+from support import COMMAND, ROOT, Case, needs_program, read, run
 from laboratory import EXAMPLES, RECENT, compared, setup_with
 from numalab import program
 from numalab.answers import answer_of
@@ -147,8 +148,8 @@ class AsWritten(Case):
         front, workload, rest = COMMAND_OF_MANUAL.split("|")
         status, out, err = run(*front.split(), workload, *rest.split(), folder=self.there)
         self.assertEqual((status, err), (0, ""))
-        for name in ("first-touch", "interleave", "hints", "my.py:HotCold", "best static placement", "best for each epoch"):
-            self.assertIn("\n" + name, out)
+        self.assertEqual(len(out.splitlines()), 4 + 7)
+        self.assertIn(textwrap.indent(out, "    "), read("docs/MANUAL.md"))
         self.assertGreater(os.path.getsize(os.path.join(self.there, "report.html")), 50000)
 
     def test_trace_is_explained(self):

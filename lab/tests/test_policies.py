@@ -4,11 +4,13 @@ import itertools
 import json
 import os
 import random
+import re
+import textwrap
 import unittest
 from collections import Counter
 from unittest import mock
 
-from support import Case, run
+from support import Case, read, run
 from laboratory import EXAMPLES, PROGRAM, RECENT, compared, setup_with, total
 from numalab.policies import arrays
 from numalab.policies.bounds import EPOCHS, STATIC, Bounds
@@ -216,6 +218,55 @@ class Parts(unittest.TestCase):
         self.assertEqual(list(film.nodes["weighted-interleave weights=2,3"][0]), [0, 0, 1, 1, 1] * 2)
 
 
+class Streams(unittest.TestCase):
+    """What the generators make, by hand."""
+
+    def items(self, words, *frames):
+        """For each epoch its accesses as (page, process, whether it writes), in order."""
+        workload = make_workload(words, setup_with(*(frames or (99,))), 1)
+        many, found = len(workload.processes), [[] for _ in range(workload.epochs)]
+        for epoch, block in workload.blocks():
+            found[epoch] += [(int(item) // 2 // many, int(item) // 2 % many, int(item) % 2) for item in block]
+        return found
+
+    def test_scan(self):
+        self.assertEqual(self.items("scan pages=4 writes=0.5 accesses=6 epochs=2"), [[(0, 0, 0), (1, 0, 1), (2, 0, 0)], [(3, 0, 1), (0, 0, 0), (1, 0, 1)]])
+        self.assertEqual(self.items("scan pages=2 processes=2 writes=0 accesses=4 epochs=1"), [[(0, 0, 0), (0, 1, 0), (1, 0, 0), (1, 1, 0)]])
+
+    def test_stencil(self):
+        # Pages 0 and 1 are the first process's own, 2 the border, 3 and 4 the second's.
+        own = [(page, process, kind) for first, second in ((0, 3), (1, 4)) for page, process in ((first, 0), (second, 1)) for kind in (0, 1)]
+        self.assertEqual(self.items("stencil pages=5 processes=2 border=1 accesses=11 epochs=1"), [own + [(2, 0, 0), (2, 0, 1), (2, 1, 0)]])
+
+    def test_gups(self):
+        for epoch in self.items("gups pages=9 processes=2 accesses=999 epochs=1"):
+            self.assertTrue(all(read == (*write[:2], 0) and write[2] for read, write in zip(epoch[::2], epoch[1::2])))
+
+    def test_writes(self):
+        writes = sum(kind for _, _, kind in self.items("uniform pages=9 writes=0.3 accesses=20000 epochs=1")[0])
+        self.assertAlmostEqual(writes / 20000, 0.3, delta=0.015)
+
+    def test_mix(self):
+        items = self.items("mix zipf pages=5 share=0.7 + scan pages=3 share=0.3 accesses=20000 epochs=2")
+        for epoch in items:
+            self.assertEqual(Counter(process for _, process, _ in epoch), {0: 7000, 1: 3000})
+            self.assertTrue(all((page < 5) == (process == 0) for page, process, _ in epoch))
+        scanned = [page for epoch in items for page, process, _ in epoch if process == 1]
+        self.assertEqual(scanned, [5 + k % 3 for k in range(6000)])
+
+    def test_seeds(self):
+        one, other = (make_workload("zipf pages=9 accesses=50 epochs=1", setup_with(99), seed) for seed in (1, 2))
+        blocks = [[list(block) for _, block in workload.blocks()] for workload in (one, one, other)]
+        self.assertEqual(blocks[0], blocks[1])
+        self.assertNotEqual(blocks[0], blocks[2])
+
+    def test_phases(self):
+        epochs = self.items("phases pages=50 hot=0.1 heat=1 every=2 accesses=4000 epochs=4")
+        sets = [{page for page, _, _ in epoch} for epoch in epochs]
+        self.assertEqual([len(one) for one in sets], [5] * 4)
+        self.assertTrue(sets[0] == sets[1] and sets[2] == sets[3] and not sets[0] & sets[2])
+
+
 class Deciding(Case):
     """What the built-in policies decide, by hand."""
 
@@ -398,6 +449,8 @@ class Lengths(unittest.TestCase):
         with open(os.path.join(EXAMPLES, "least_recent.py"), encoding="utf-8") as file:
             text = file.read()
         self.assertLessEqual(len(text[text.index("class"):].splitlines()), 15)
+        body = re.sub(r"\n\n\n", "\n\n", text.split('"""\n', 1)[1])
+        self.assertIn(textwrap.indent(body, "    "), read("docs/MANUAL.md"))
 
 
 class Samples(unittest.TestCase):

@@ -249,7 +249,7 @@ class Mix:
             self.tables.append(block_of([((page + item // (2 * many)) * len(self.homes) + process + item // 2 % many) * 2 + item % 2
                                          for item in range(size * many * 2)]))
             page, process = page + size, process + many
-        self.turn = 0
+        self.turn = self.part = 0  # how far the turn of which part has come
 
     def take(self, epoch, count):
         blocks = []
@@ -260,15 +260,14 @@ class Mix:
         return concatenate(blocks)
 
     def next_turn(self, most):
-        """The part that is most behind its share, and how many accesses it makes."""
-        total = sum(self.given) + TURN
-        part = max(range(len(self.parts)), key=lambda one: self.shares[one] * total - self.given[one])
-        many = min(TURN - self.turn, most) if self.turn else min(TURN, most)
-        part, self.turn = (self.part if self.turn else part), (self.turn + many) % TURN
-        self.part = part
+        """The part whose turn goes on, or that is most behind its share, and how many accesses it makes."""
         if not self.turn:
-            self.given[part] += TURN
-        return part, many
+            total = sum(self.given) + TURN
+            self.part = max(range(len(self.parts)), key=lambda one: self.shares[one] * total - self.given[one])
+            self.given[self.part] += TURN
+        many = min(TURN - self.turn, most)
+        self.turn = (self.turn + many) % TURN
+        return self.part, many
 
 
 # ---- parameters that all have
