@@ -24,7 +24,7 @@ def files_of_package():
         yield f"{NAME}/trace.schema.json", file.read()
     for folder, _, names in sorted(os.walk(os.path.join(HERE, NAME))):
         for name in sorted(names):
-            if name.endswith((".py", ".json", ".html", ".c")):
+            if name.endswith((".py", ".json", ".html", ".css", ".js", ".c")):
                 path = os.path.join(folder, name)
                 with open(path, "rb") as file:
                     yield os.path.relpath(path, HERE).replace(os.sep, "/"), file.read()

@@ -11,7 +11,7 @@ import time
 import unittest
 
 from support import COMMAND, LAB, Case
-from laboratory import EXAMPLES, PROGRAM, setup_with
+from laboratory import PROGRAM, large, setup_with
 from played_policies import needs_session, session
 from test_streams import DATA
 from numalab.policies.counting import epochs_of
@@ -90,14 +90,10 @@ class Extras(Case):
 
     @needs_session
     def test_seconds_and_memory(self):
-        script = ("import resource, subprocess, sys, time\nbegun = time.monotonic()\nstatus = subprocess.call(sys.argv[1:], stdout=subprocess.DEVNULL)\n"
-                  "print(status, time.monotonic() - begun, resource.getrusage(resource.RUSAGE_CHILDREN).ru_maxrss)")
-        words = ["policies", "--machine", os.path.join(EXAMPLES, "cxl.nt"), "--workload", "zipf pages=4000 accesses=1e7", "--policy", "hot-cold"]
-        ran = subprocess.run([PYTHON, "-c", script, PYTHON, COMMAND, *words], capture_output=True, check=True, text=True)
-        status, seconds, kib = ran.stdout.split()
-        self.assertEqual(status, "0")
-        self.assertLess(float(seconds), MOST_SECONDS)
-        self.assertLess(int(kib), MOST_KIB)
+        status, seconds, kib = large(PYTHON)
+        self.assertEqual(status, 0)
+        self.assertLess(seconds, MOST_SECONDS)
+        self.assertLess(kib, MOST_KIB)
 
     @needs_session
     def test_same_rows_on_dask(self):

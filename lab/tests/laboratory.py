@@ -1,9 +1,10 @@
 """What the tests of the laboratory for policies share: small comparisons, by the plain model in place of the program."""
 import os
+import subprocess
 from argparse import Namespace
 from unittest import mock
 
-from support import LAB, ROOT
+from support import COMMAND, LAB, ROOT
 from numalab import model
 from numalab.policies import machine
 from numalab.policies.job import job_of, run_job
@@ -44,6 +45,20 @@ def compared(setup, workload, *policies, program=None, keep=False, film=None, **
     job = job_of(setup, asked_for(workload, list(policies), **more))
     with mock.patch.object(machine, "Session", machine.Session if program else Here):
         return run_job(job, program, None, keep, film)
+
+
+TIMED = """import resource, subprocess, sys, time
+begun = time.monotonic()
+status = subprocess.call(sys.argv[1:], stdout=subprocess.DEVNULL)
+print(status, time.monotonic() - begun, resource.getrusage(resource.RUSAGE_CHILDREN).ru_maxrss)"""
+
+
+def large(python):
+    """Status, seconds and KiB of the command on 10,000,000 accesses over 4,000 pages with one policy."""
+    words = ["policies", "--machine", os.path.join(EXAMPLES, "cxl.nt"), "--workload", "zipf pages=4000 accesses=1e7", "--policy", "hot-cold"]
+    ran = subprocess.run([python, "-c", TIMED, python, COMMAND, *words], capture_output=True, check=True, text=True)
+    status, seconds, kib = ran.stdout.split()
+    return int(status), float(seconds), int(kib)
 
 
 def total(results, label):

@@ -3,14 +3,13 @@ two places, the command of the manual works as written, and how long and how muc
 import json
 import os
 import shutil
-import subprocess
 import sys
 import textwrap
 import unittest
 from unittest import mock
 
-from support import COMMAND, ROOT, Case, needs_program, read, run
-from laboratory import EXAMPLES, RECENT, compared, setup_with
+from support import Case, needs_program, read, run
+from laboratory import EXAMPLES, RECENT, compared, large, setup_with
 from numalab import program
 from numalab.answers import answer_of
 from numalab.policies.builtin import POLICIES
@@ -187,14 +186,10 @@ class Large(Case):
     """10,000,000 accesses over 4,000 pages, one policy."""
 
     def test_seconds_and_memory(self):
-        script = ("import resource, subprocess, sys, time\nbegun = time.monotonic()\nstatus = subprocess.call(sys.argv[1:], stdout=subprocess.DEVNULL)\n"
-                  "print(status, time.monotonic() - begun, resource.getrusage(resource.RUSAGE_CHILDREN).ru_maxrss)")
-        words = ["policies", "--machine", os.path.join(EXAMPLES, "cxl.nt"), "--workload", "zipf pages=4000 accesses=1e7", "--policy", "hot-cold"]
-        ran = subprocess.run([sys.executable, "-c", script, COMMAND, *words], capture_output=True, check=True, cwd=ROOT, text=True)
-        status, seconds, kib = ran.stdout.split()
-        self.assertEqual(status, "0")
-        self.assertLess(float(seconds), MOST_SECONDS)
-        self.assertLess(int(kib), MOST_KIB)
+        status, seconds, kib = large(sys.executable)
+        self.assertEqual(status, 0)
+        self.assertLess(seconds, MOST_SECONDS)
+        self.assertLess(kib, MOST_KIB)
 
 
 if __name__ == "__main__":

@@ -39,7 +39,8 @@ class Package(Case):
             names = set(wheel.namelist())
             wheel.extractall(self.there)
         self.assertTrue({"numalab/cli.py", "numalab/commands/show.py", "numalab/trace.schema.json", "numalab/picture.html",
-                         "numalab/policies/builtin.py", "numalab/policies/comparison.html", "numalab/policies/sweep.html"} <= names)
+                         "numalab/policies/builtin.py", "numalab/policies/comparison.html", "numalab/policies/sweep.html", "numalab/policies/common.css",
+                         "numalab/policies/common.js"} <= names)
         ran = subprocess.run([sys.executable, "-m", "numalab", "why", f"{ROOT}/examples/three_pages.json"], cwd=self.there, capture_output=True,
                              check=False)
         self.assertEqual((ran.returncode, ran.stdout), (0, b"good\n"))

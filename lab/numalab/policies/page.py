@@ -13,11 +13,16 @@ MOST_ROWS = 240
 WORST = 5
 
 
+def text_of(name):
+    with open(os.path.join(HERE, name), encoding="utf-8") as file:
+        return file.read()
+
+
 def fill_template(template, data):
-    """A template with its data."""
+    """A template with its data, and with what both have in common."""
     text = json.dumps(data, separators=(",", ":")).replace("<", "\\u003c").replace("\u2028", "\\u2028")
-    with open(os.path.join(HERE, template), encoding="utf-8") as file:
-        return file.read().replace("{{DATA}}", text)
+    page = text_of(template).replace("{{STYLE}}", text_of("common.css")).replace("{{SCRIPT}}", text_of("common.js"))
+    return page.replace("{{DATA}}", text)
 
 
 def node_of_most(nodes):
