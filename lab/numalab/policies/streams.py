@@ -20,7 +20,7 @@ READ, WRITE = (0,), (1,)
 BOTH = READ + WRITE
 MOST_PROCESSES, MOST_PID = 64, (1 << 32) - 1
 MOST_KEPT = 16 * MOST_FRAMES
-LACKEY = re.compile(r"(I| [LSM]) {1,2}([0-9a-f]+),[0-9]+")
+LACKEY = re.compile(r"( [LSM]) ([0-9a-f]+),[0-9]+")
 PERF = re.compile(r"\s*\S.*?\s([0-9]+)(?:/[0-9]+)?\s+(?:\[[0-9]+\]\s+)?([0-9]+\.[0-9]+):\s+(?:[0-9]+\s+)?(\S+?):\s+([0-9a-f]+)(?:\s+[0-9a-f]+(?:\s.*)?)?\s*")
 REGION = re.compile(r"\s*([0-9a-f]+)-([0-9a-f]+)\s*\(.*?\)\s*:\s*([0-9]+).*")
 DAMON_KEY = re.compile(r"\s*(monitoring_start|target_id):\s*(.*?)\s*")
@@ -34,14 +34,15 @@ def lackey(lines, left):
     """valgrind --tool=lackey --trace-mem=yes: a letter, an address and a size."""
     kinds = {" L": READ, " S": WRITE, " M": BOTH}
     for line in lines:
-        match = LACKEY.fullmatch(line)
-        if not match:
-            left["lines that are no access"] += 1
-        elif match[1] == "I":
+        if line.startswith("I  "):  # Most lines.
             left["instruction fetches"] += 1
-        else:
+            continue
+        match = LACKEY.fullmatch(line)
+        if match:
             address = int(match[2], 16)
             yield Record(None, 1, address, address + 1, kinds[match[1]], 1)
+        else:
+            left["lines that are no access"] += 1
 
 
 def perf(lines, left):
