@@ -98,7 +98,7 @@ class View:
         error = next((one["error"] for one in told if "error" in one), None)
         return self._note(Answer("mbind", error, sum(one.get("answer", 0) for one in told)))
 
-    # ---- inside
+    # ---- for the laboratory alone
 
     def _page(self, page):
         return check_number(page, len(self._nodes), "page")
