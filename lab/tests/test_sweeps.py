@@ -10,6 +10,7 @@ from laboratory import PROGRAM, Here, asked_for, compared, setup_with
 from numalab.policies import machine, sweeps
 from numalab.policies.job import job_of
 from numalab.progress import Progress
+from numalab.traces import Bad
 
 WORKLOAD = "zipf pages=30 accesses=600 epochs=2"
 
@@ -34,6 +35,13 @@ class Combinations(Case):
     def test_replaced(self):
         todo = sweeps.combinations(job(workload="mix zipf pages=10 a=1 share=0.5 + scan pages=5 accesses=60"), ["a=2"], 1)
         self.assertEqual(todo[0].job["workload"], "mix zipf pages=10 a=2 share=0.5 + scan pages=5 accesses=60")
+
+    def test_parameters_of_policies(self):
+        todo = sweeps.combinations(job(), ["hot-cold.cool=1,2"], 1)
+        self.assertEqual([[recipe["parameters"] for recipe in one.job["policies"]] for one in todo], [[{}, {"cool": "1"}], [{}, {"cool": "2"}]])
+        for text, words in [("hints.scan=1", "there is no policy hints among those"), ("hot-cold.warm=1", "unexpected keyword argument 'warm'")]:
+            with self.assertRaisesRegex(Bad, words):
+                sweeps.combinations(job(), [text], 1)
 
     def test_spread(self):
         self.assertEqual(sweeps.spread([0.5, None], lambda value: f"{value:.2f}"), "0.50")

@@ -27,7 +27,7 @@ def arguments(words):
     words.add_argument("--csv", action="store_true", help="print CSV in place of the table")
     words.add_argument("--each-epoch", action="store_true", help="print a row for each epoch as well")
     words.add_argument("--save-trace", metavar="OUT", help="keep the calls as a trace: a file for one policy, a folder for several")
-    words.add_argument("--sweep", metavar="NAME=A,B,..", action="append", default=[], help="run all values of a parameter of the workload, or of the frames of a node by its name")
+    words.add_argument("--sweep", metavar="NAME=A,B,..", action="append", default=[], help="run all values of a parameter of the workload, of a policy (hints.scan), or of the frames of a node by its name")
     words.add_argument("--seeds", metavar="N", help="run each combination with N seeds")
     words.add_argument("--jobs", metavar="N", help="how many processes share a sweep (one for each processor)")
     words.add_argument("--dask", metavar="ADDRESS", help="share a sweep among the workers of a Dask cluster")

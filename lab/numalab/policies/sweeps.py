@@ -17,6 +17,7 @@ from .. import __version__
 from ..program import Failed, found
 from ..traces import Bad
 from .job import parts_of, run_job, setup_of_job
+from .loading import policy_of
 from .results import BOUNDS, UNKNOWN, above_text, align, cost_text, share_text
 from .spec import number_of
 from .streams import FORMATS
@@ -39,8 +40,21 @@ def values_of(text):
     return name, found_values
 
 
+def with_parameter(job, policy, name, value):
+    """A job with another value of a policy's parameter."""
+    recipes = [{**recipe, "parameters": {**recipe["parameters"], name: value}} if recipe["name"] == policy else recipe for recipe in job["policies"]]
+    if not any(recipe["name"] == policy for recipe in recipes):
+        raise Bad(f"--sweep {policy}.{name}: there is no policy {policy} among those that are compared")
+    for recipe in recipes:
+        policy_of(recipe)
+    return {**job, "policies": recipes}
+
+
 def with_value(job, name, value):
-    """A job with another value: of a node's frames, or of a parameter of the workload."""
+    """A job with another value: of a policy's parameter, of a node's frames, or of a parameter of the workload."""
+    policy, sign, parameter = name.partition(".")
+    if sign:
+        return with_parameter(job, policy, parameter, value)
     setup = setup_of_job(job)
     if name in setup.names or name.startswith("node"):
         sized = setup.with_frames(name, number_of(value, f"--sweep {name}"))
