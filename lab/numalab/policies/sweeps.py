@@ -8,6 +8,7 @@ import hashlib
 import io
 import itertools
 import json
+import logging
 import multiprocessing
 import os
 import statistics
@@ -120,6 +121,9 @@ def on_dask(address, program):
         import distributed
     except ImportError:
         raise Bad("--dask needs Python's module distributed, which is not installed (Debian's package python3-distributed)") from None
+
+    for name in ("asyncio", "distributed"):  # They also tell of connections that end late, which says nothing of the rows.
+        logging.getLogger(name).setLevel(logging.CRITICAL)
 
     def runner(todo):
         try:
