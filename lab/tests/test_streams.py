@@ -69,7 +69,7 @@ class Read(Case):
         workload = self.workload("perf", PERF, "epochs=2")
         self.assertEqual(self.counted(workload), [{("0x7f0000001000", 4711, "r"): 1}, {("0x7f0000003000", 4711, "w"): 1, ("0x7f0000001000", 4800, "r"): 1}])
         self.assertEqual(dict(workload.left_out), {"lines that are no sample with an address": 2, "accesses by no process": 1,
-                                                   "accesses to addresses of the kernel": 1})
+                                                   "accesses to addresses that no process has": 1})
 
     def test_damon(self):
         workload = self.workload("damon", DAMON, "epochs=2")
@@ -88,6 +88,19 @@ class Read(Case):
         self.assertEqual(self.counted(workload), [{("0x10000", 9, "r"): 1}, {("0x11000", 9, "w"): 1}, {("0x10000", 3, "r"): 1, ("0x10000", 3, "w"): 1},
                                                   {("0x10000", 3, "r"): 1}])
         self.assertEqual(workload.left_out["lines that are not a time, a process, an address and a kind"], 2)
+
+    def test_what_has_no_place(self):
+        lines = ["0,1,0x0,r", "1,1,-1,r", "nan,1,0x1000,r", "inf,1,0x1000,r", "2,0,0x1000,r", "3,1,0x800000000000,r", "4,1,0x7ffffffff000,w", "5,1,1e3,r", "6,1,4096,r,7"]
+        workload = self.workload("csv", "\n".join(lines) + "\n", "epochs=1")
+        self.assertEqual(self.counted(workload), [{("0x0", 1, "r"): 1, ("0x7ffffffff000", 1, "w"): 1}])
+        self.assertEqual(dict(workload.left_out), {"accesses to addresses that no process has": 2, "accesses at no time": 2, "accesses by no process": 1,
+                                                   "lines that are not a time, a process, an address and a kind": 2})
+        results = compared(setup_with(8, 8), f"csv {os.path.join(self.there, 'stream')} epochs=1", "first-touch")
+        self.assertEqual(total(results, "first-touch")["by_node"], [2, 0])
+
+    def test_more_processes_than_frames(self):
+        with self.assertRaisesRegex(Bad, "there are 2 pages, and the processes may use 1 frame"):
+            self.workload("csv", "0,1,4096,r\n1,2,4096,r\n", "", (1,))
 
     def test_areas_and_scale(self):
         lines = [f" L {4096 * page:x},8" for page in [*range(16, 32), *range(64, 80), 400]]

@@ -4,6 +4,7 @@ import gzip
 import re
 import zlib
 from collections import Counter, namedtuple
+from math import isfinite
 
 from ..linux.recorded import END, MOST_FRAMES
 from ..notation import guessed
@@ -76,12 +77,8 @@ def table(lines, left):
     """Lines of time, process, address and kind, separated by commas."""
     for number, line in enumerate(lines):
         words = [word.strip().strip('"') for word in line.split(",")]
-        try:
-            time, process, address = float(words[0]), int(words[1]), int(words[2], 0)
-            yield Record(time, process, address, address + 1, KINDS[words[3].lower()], 1)
-        except (ValueError, IndexError, KeyError):
-            if number:  # The first may be a heading.
-                left["lines that are not a time, a process, an address and a kind"] += 1
+        # The first may be a heading.
+        yield from record_of(words, left if number else Counter(), "lines that are not a time, a process, an address and a kind")
 
 
 def opened_lines(path):
@@ -108,12 +105,19 @@ def rows_of_array(path, left):
     if len(rows.dtype.names or ()) != 4 and (rows.ndim != 2 or rows.shape[1] != 4):
         raise Bad(f"{path}: expected rows of a time, a process, an address and a kind")
     for start in range(0, len(rows), BLOCK):
-        for time, process, address, kind in rows[start : start + BLOCK].tolist():
-            kinds = KINDS.get(kind.decode() if isinstance(kind, bytes) else str(kind).lower())
-            if kinds is None:
-                left["rows of another kind than read or write"] += 1
-            else:
-                yield Record(float(time), int(process), int(address), int(address) + 1, kinds, 1)
+        for row in rows[start : start + BLOCK].tolist():
+            words = [word.decode("ascii", "replace") if isinstance(word, bytes) else word for word in row]
+            yield from record_of(words, left, "rows that are not a time, a process, an address and a kind")
+
+
+def record_of(words, left, what):
+    """The record of a time, a process, an address and a kind, or a count of what is none."""
+    try:
+        time, process, address, kind = words
+        address = int(address, 0) if isinstance(address, str) else int(address)
+        yield Record(float(time), int(process), address, address + 1, KINDS[str(kind).lower()], 1)
+    except (ValueError, KeyError, OverflowError):
+        left[what] += 1
 
 
 READERS = {"lackey": lackey, "perf": perf, "damon": damon, "csv": table}
@@ -167,8 +171,8 @@ def scale_for(seen, most, asked):
         total = sum(end - first for one in seen for first, end in one.groups(scale))
         if total <= most:
             return scale
-        if asked:
-            raise Bad(f"with scale={asked} there are {counted(total, 'page')}, and the processes may use {counted(most, 'frame')}")
+        if asked or scale > END:
+            raise Bad(f"with scale={scale} there are {counted(total, 'page')}, and the processes may use {counted(most, 'frame')}")
         scale *= 2
 
 
@@ -203,8 +207,10 @@ class FileWorkload(Workload):
         known = {}
         reader = rows_of_array(self.path, left) if self.kind == "numpy" else READERS[self.kind](opened_lines(self.path), left)
         for record in reader:
-            if record.end > END * PAGE or record.first >= record.end:
-                left["accesses to addresses of the kernel"] += 1
+            if not 0 <= record.first < record.end <= END * PAGE:
+                left["accesses to addresses that no process has"] += 1
+            elif record.time is not None and not isfinite(record.time):
+                left["accesses at no time"] += 1
             elif not 1 <= record.process <= MOST_PID:
                 left["accesses by no process"] += 1
             elif record.process not in known and len(known) == MOST_PROCESSES:
