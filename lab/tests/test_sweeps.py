@@ -110,7 +110,7 @@ class Running(Case):
             status, lines, _ = run(*words, "--jsonl", folder=self.there)
             self.assertEqual((status, len(lines.splitlines())), (0, 8 * 3 * 3))
             found = [json.loads(line) for line in lines.splitlines()]
-            self.assertEqual({(one["a"], one["fast"], one["seed"]) for one in found}, {(a, fast, seed) for a in ("0.8", "1.2") for fast in ("5", "10") for seed in (1, 2)})
+            self.assertEqual({(one["values"]["a"], one["values"]["fast"], one["seed"]) for one in found}, {(a, fast, seed) for a in ("0.8", "1.2") for fast in ("5", "10") for seed in (1, 2)})
             status, _, err = run(*words, "--save-trace", "x", folder=self.there)
             self.assertEqual(status, 2)
         with open(os.path.join(self.there, "sweep.html"), encoding="utf-8") as file:

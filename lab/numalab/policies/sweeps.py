@@ -53,14 +53,13 @@ def with_parameter(job, policy, name, value):
 
 def with_value(job, name, value):
     """A job with another value: of a policy's parameter, of a node's frames, or of a parameter of the workload."""
-    policy, sign, parameter = name.partition(".")
-    if sign:
-        return with_parameter(job, policy, parameter, value)
-    setup = setup_of_job(job)
+    setup, (policy, sign, parameter) = setup_of_job(job), name.partition(".")
     if name in setup.names or name.startswith("node"):
         sized = setup.with_frames(name, number_of(value, f"--sweep {name}"))
         if sized:
             return {**job, "machine": {**job["machine"], "top": sized.top}}
+    if sign:
+        return with_parameter(job, policy, parameter, value)
     words, given = job["workload"].split(" "), f"{name}={value}"
     places = [k for k, word in enumerate(words) if word.startswith(name + "=")]
     if not places and words[0] == "mix":
@@ -219,7 +218,7 @@ def errors_of(todo, done):
 def json_lines(todo, done):
     """The rows of all combinations: by epoch, and then over all epochs."""
     for one, what in zip(todo, done):
-        front = {**one.values, "seed": one.seed}
+        front = {"values": one.values, "seed": one.seed}
         for row in what["rows"]:
             yield json.dumps({**front, **row})
         for total in what["totals"]:
