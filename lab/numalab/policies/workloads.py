@@ -6,9 +6,8 @@ from collections import Counter, namedtuple
 
 from ..faults import MOST_FRAMES
 from ..notation import FIRST_ADDRESS, next_free
-from ..words import PAGE
 from ..traces import Bad
-from .arrays import Draws, Table, block_of, cycle, concatenate, pairs_of, look_up
+from .arrays import Draws, Table, block_of, concatenate, cycle, look_up, pairs_of
 from .spec import Parameters
 
 BLOCK = 1 << 16
@@ -326,8 +325,3 @@ def make_workload(text, setup, seed):
     source, common = source_of(words, setup), Common(words, setup, seed)
     words.done()
     return GeneratedWorkload(source, common)
-
-
-def address_of(region, page, first):
-    """The address of a page of a region whose first page has that number."""
-    return region.address + (page - first) * PAGE
