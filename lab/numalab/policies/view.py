@@ -64,7 +64,7 @@ class View:
     # ---- what it asks for
 
     def hint(self, pages):
-        """Marks pages: the next access to each, by each process, is a fault that the policy sees after the epoch."""
+        """Marks pages: in the next epoch that accesses one, the first access of each process is a fault, and then the mark is gone."""
         self._marked.update(self._page(page) for page in pages)
 
     def move_pages(self, pages, nodes, flags=MOVE):
