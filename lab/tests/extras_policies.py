@@ -101,7 +101,8 @@ class Extras(Case):
         self.written("cxl.nt", "nodes fast 100 + cxl 300\n")
         environment = {**os.environ, "PYTHONPATH": LAB, "NUMATRACE_SESSION": session(), "PYTHONDONTWRITEBYTECODE": "1"}
         script = self.written("cluster.py", CLUSTER)
-        with subprocess.Popen([PYTHON, script], stdin=subprocess.PIPE, stdout=subprocess.PIPE, env=environment, cwd=self.there, text=True) as cluster:
+        with subprocess.Popen([PYTHON, script], stdin=subprocess.PIPE, stdout=subprocess.PIPE, stderr=subprocess.DEVNULL, env=environment, cwd=self.there,
+                              text=True) as cluster:
             address = cluster.stdout.readline().strip()
             words = ["--machine", "cxl.nt", *SWEEP, "--jsonl"]
             shared = self.command(*words, "--dask", address, "--keep", "dask.jsonl")

@@ -92,7 +92,8 @@ def run_combination(job, program=None):
     """The rows of a combination, as plain values."""
     results = run_job(job, program)
     rows = [row for label in results.labels() for row in results.rows_of(label)]
-    gc.collect()  # (the command looks for no cycles by itself)
+    if not gc.isenabled():  # As in the processes of the command; a worker of Dask looks for cycles by itself.
+        gc.collect()
     return {"rows": rows, "totals": results.totals(), "errors": results.errors}
 
 
