@@ -10,7 +10,10 @@ NAME, VERSION = "numalab", "1.0.0"
 SUMMARY = "Traces for numatrace that a person can write, and its reports as a person can read them"
 HERE = os.path.dirname(os.path.abspath(__file__))
 INFO = f"{NAME}-{VERSION}.dist-info"
-METADATA = f"Metadata-Version: 2.1\nName: {NAME}\nVersion: {VERSION}\nSummary: {SUMMARY}\nRequires-Python: >=3.9\n"
+# What `pip install './lab[NAME]'` also installs, for `numalab policies`.
+EXTRAS = {"numpy": "numpy", "dask": "distributed"}
+METADATA = (f"Metadata-Version: 2.1\nName: {NAME}\nVersion: {VERSION}\nSummary: {SUMMARY}\nRequires-Python: >=3.9\n"
+            + "".join(f'Provides-Extra: {name}\nRequires-Dist: {module}; extra == "{name}"\n' for name, module in EXTRAS.items()))
 WHEEL = "Wheel-Version: 1.0\nGenerator: wheel_of\nRoot-Is-Purelib: true\nTag: py3-none-any\n"
 COMMANDS = "[console_scripts]\nnumalab = numalab.cli:main\n"
 
@@ -21,7 +24,7 @@ def files_of_package():
         yield f"{NAME}/trace.schema.json", file.read()
     for folder, _, names in sorted(os.walk(os.path.join(HERE, NAME))):
         for name in sorted(names):
-            if name.endswith((".py", ".json", ".html", ".c")):
+            if name.endswith((".py", ".json", ".html", ".css", ".js", ".c")):
                 path = os.path.join(folder, name)
                 with open(path, "rb") as file:
                     yield os.path.relpath(path, HERE).replace(os.sep, "/"), file.read()

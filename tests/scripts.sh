@@ -15,7 +15,7 @@ fail() {
 # The version is in the file VERSION, and in places that cannot read a file.
 version=$(cat VERSION)
 grep -qxF "const VERSION: &str = \"$version\";" crates/nm_words/src/words.rt || fail "the program's version is not $version"
-for page in numatrace numatrace-session; do
+for page in numatrace numatrace-session numalab; do
     grep -qi "^\.TH $page 1 [0-9-]* \"numatrace $version\" " "docs/$page.1" || fail "the version of docs/$page.1 is not $version"
 done
 [ "$(sed -n 's/^## \([0-9][0-9.]*\).*/\1/p' CHANGELOG.md | head -n 1)" = "$version" ] || fail "the latest version in CHANGELOG.md is not $version"
@@ -65,6 +65,41 @@ expect_message 'err glibc.malloc.check=1' "GLIBC_TUNABLES is not the user's"
 expect_passed_on "$there/bin/numatrace" GLIBC_TUNABLES=
 expect_message 'err ' "an empty GLIBC_TUNABLES is not the user's"
 
+# At a terminal, a bad trace is followed by a line that names numalab why; elsewhere, and after other words, by nothing.
+cat > "$there/bad" << 'END'
+#!/bin/sh
+echo 'numatrace: bad step 1' >&2
+exit 2
+END
+chmod +x "$there/bad"
+cp "$there/bad" "$program"
+cat > "$there/terminal.py" << 'END'
+import os
+import pty
+import subprocess
+import sys
+
+ours, theirs = pty.openpty()
+process = subprocess.Popen(sys.argv[1:], stdin=subprocess.DEVNULL, stderr=theirs)
+os.close(theirs)
+told = b""
+while True:
+    try:
+        part = os.read(ours, 4096)
+    except OSError:
+        break
+    told += part
+print(process.wait(), told.decode().replace("\r", ""), end="")
+END
+python3 "$there/terminal.py" "$clone/numatrace" > "$there/out"
+[ "$(head -n 1 "$there/out")" = "2 numatrace: bad step 1" ] || fail "at a terminal it says $(cat "$there/out")"
+grep -q '^numatrace: ./numalab why TRACE .*write NAME.nt' "$there/out" || fail "at a terminal it does not name numalab why: $(cat "$there/out")"
+[ "$(python3 "$there/terminal.py" "$clone/numatrace" --version)" = "2 numatrace: bad step 1" ] || fail "other words are taken for a bad trace"
+status=0
+"$clone/numatrace" < /dev/null 2> "$there/err" || status=$?
+[ "$status$(cat "$there/err")" = "2numatrace: bad step 1" ] || fail "a script gets more than the program's line: $(cat "$there/err")"
+cp "$there/stand_in" "$program"
+
 # Changed sources are reported by their contents: not where only their times changed, nor for a program that came from elsewhere.
 changed="numatrace: the sources have changed since the program was built: ./build rebuilds it
 err "
@@ -111,6 +146,7 @@ printf 'input' | PATH="$there/bin:$PATH" "$clone/numatrace" --one > "$there/out"
 printf -- '--one;input' | cmp -s - "$there/out" || fail "the first call's arguments or streams differ"
 grep -q 'unproved try -- --one' "$there/err" || fail "the first call shows no report of an unproved build"
 grep -q '^input' "$there/err" || fail "the unproved build does not get the trace"
+grep -q 'numatrace: built; ./build also makes numatrace_session' "$there/err" || fail "the first call does not say who makes the program for sessions"
 ! grep -q 'noise' "$there/err" || fail "the toolchain's own lines are shown"
 
 # ---- The script build

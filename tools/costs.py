@@ -1,6 +1,7 @@
 #!/usr/bin/env python3
 """Runs a command, such as ./check or rt ci NAME, and prints what each crate cost in it, as a table for docs/PROVING.md: seconds of
-processor time for its proof, for its tests, for its proof again under the edits, and for all edits and the most expensive one.
+processor time for its proof, for its tests, for edits by rounds, for its proof again under the edits of must-fail/, and for all of
+these and the most expensive one.
 
 It looks at the prover's processes once a second (Linux), so the last second of each is not counted. An environment variable that
 the command gets, NUMATRACE_COSTS, tells its processes from those of other commands."""
@@ -35,13 +36,15 @@ def prover_runs(mark):
 
 
 def kind_of(words):
-    """The crate that a run is for, and its purpose: proof, tests, again (the proof under the edits), the number of an edit, or
+    """The crate that a run is for, and its purpose: proof, tests, rounds, again (the proof under the edits), the number of an edit, or
     turn, where the edits of a crate are tried in turn in one folder, which shows no numbers."""
     crate = words[words.index("--crate-name") + 1]
     over = words[words.index("--incremental") + 1] if "--incremental" in words else ""
     edit = re.search(r"/rt-edits-[^/]+(?:/(seed|\d+))?$", over)
     if edit:
         return crate, "again" if edit[1] == "seed" else int(edit[1]) if edit[1] else "turn"
+    if re.search(r"/edits-[^/]+/.*/try-[^/]+/kept$", over):
+        return crate, "rounds"
     return crate, "tests" if "--test" in words else "proof"
 
 
@@ -88,11 +91,11 @@ def main():
     if not sys.argv[1:]:
         sys.exit("tools/costs.py: name a command, such as ./check")
     costs, status = watched(sys.argv[1:])
-    print("| Crate | Its proof | Its tests | Its proof again, for the edits | Its edits, one of them, and the most expensive |")
-    print("|---|---|---|---|---|")
+    print("| Crate | Its proof | Its tests | Edits by rounds | Its proof again, for must-fail/ | These edits, one of them, and the most expensive |")
+    print("|---|---|---|---|---|---|")
     for crate, used in costs.items():
-        proof, tests, again = (f"{used[kind]:.0f}" if used[kind] else "" for kind in ("proof", "tests", "again"))
-        print(f"| {crate} | {proof} | {tests} | {again} | {edits_text(crate, used)} |")
+        parts = [f"{used[kind]:.0f}" if used[kind] else "" for kind in ("proof", "tests", "rounds", "again")]
+        print(f"| {crate} | {' | '.join(parts)} | {edits_text(crate, used)} |")
     print(f"{sum(sum(used.values()) for used in costs.values()) / 60:.0f} minutes of processor time")
     return status
 

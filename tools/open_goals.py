@@ -2,9 +2,8 @@
 """Lists the goals that the edits of a crate leave open and that no file of proofs/ answers. The prover refuses an edit at once
 where the goal that it breaks has an answer, and searches to its limits twice where it has none (docs/PROVING.md).
 
-tools/open_goals.py CRATE [EDIT ..] applies the crate's edits of must-fail/, or those that are named, together to a copy, as far as
-each still finds its text, and checks the copy. Callers of a function that is not proved are not checked: name their edits alone."""
-import glob
+tools/open_goals.py CRATE [EDIT ..] applies the crate's edits, or those that are named, together to a copy, as far as each still finds
+its text, and checks the copy. Callers of a function that is not proved are not checked: name their edits alone."""
 import os
 import re
 import shutil
@@ -13,39 +12,23 @@ import sys
 import tempfile
 
 ROOT = os.path.dirname(os.path.dirname(os.path.abspath(__file__)))
+sys.dont_write_bytecode = True
+sys.path.insert(0, os.path.join(ROOT, "tools"))
+from rounds.choice import edits_of  # noqa: E402
+from rounds.texts import reader  # noqa: E402
+
 OPEN = re.compile(r"note: (src/\S+?:\d+):\d+: it is not proved .*\(`([^`]+)`\)")
 REFUSED = re.compile(r"(?:\./)?(proofs/\S+?:\d+):\d+: error: `([^`]+)`")
 WAITS = re.compile(r"fn (\S+): no proof: it calls (.*)")
 
 
-def pairs_of(path):
-    """The changes that an edit makes: a file, a text in it, and the text that replaces it. A file or text that no line names is None."""
-    file = old = None
-    with open(path, encoding="utf-8") as edit:
-        for line in edit.read().split("\n"):
-            if line.startswith("file: "):
-                file = line[len("file: "):].strip()
-            elif line.startswith("old: "):
-                old = line[len("old: "):]
-            elif line.startswith("new:"):
-                yield file, old, line[len("new:"):].removeprefix(" ")
-                old = None
-
-
-def apply(path, folder):
+def apply(edit, folder):
     """Applies an edit to the crate in a folder, and says whether each of its texts occurred there once."""
-    texts = {}
-    for file, old, new in pairs_of(path):
-        if file not in texts:
-            with open(os.path.join(folder, file), encoding="utf-8") as source:
-                texts[file] = source.read()
-        if texts[file].count(old) != 1:
-            return False
-        texts[file] = texts[file].replace(old, new)
-    for file, text in texts.items():
+    texts, _ = edit.applied(reader(folder))
+    for file, text in (texts or {}).items():
         with open(os.path.join(folder, file), "w", encoding="utf-8") as source:
             source.write(text)
-    return True
+    return texts is not None
 
 
 def checked(crate, edits):
@@ -57,7 +40,7 @@ def checked(crate, edits):
         folder = os.path.join(room, "crates", crate)
         for edit in edits:
             if not apply(edit, folder):
-                print("left out, because another edit changes its text: %s" % os.path.basename(edit))
+                print("left out, because another edit changes its text: %s" % edit.name)
         ran = subprocess.run(["rt", "check"], cwd=folder, capture_output=True, text=True, errors="replace")
         return (ran.stdout + ran.stderr).split("\n")
 
@@ -66,8 +49,7 @@ def main():
     if not sys.argv[1:]:
         sys.exit("tools/open_goals.py: name a crate")
     crate, names = sys.argv[1], sys.argv[2:]
-    edits = sorted(glob.glob(os.path.join(ROOT, "crates", crate, "must-fail", "*.edit")))
-    chosen = [edit for edit in edits if not names or os.path.basename(edit)[: -len(".edit")] in names]
+    chosen = [edit for edit in edits_of(ROOT, crate) if not names or edit.name in names]
     if not chosen:
         sys.exit("tools/open_goals.py: %s has no such edit" % crate)
     for line in checked(crate, chosen):

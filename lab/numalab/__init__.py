@@ -1,6 +1,6 @@
 """Traces for numatrace that a person can write, and its reports as a person can read them. Nothing here is proved."""
-from .machine import Machine
+from .machine import Machine, Refused
 from .session import Fault, Session
 
-__all__ = ["Fault", "Machine", "Session"]
+__all__ = ["Fault", "Machine", "Refused", "Session"]
 __version__ = "1.0.0"

@@ -7,7 +7,7 @@ from .faults import MOST_BYTES, Fault, Form, faults_of, ignored_keys
 from .jsontext import doubles, first_fault, has_doubles, line_and_column, places
 from .progress import Progress
 from .reasons import hints
-from .traces import is_notation, json_text
+from .traces import is_notation, json_text, left_out_of
 from .translate import translated
 
 MOST_TOLD = 200
@@ -22,7 +22,7 @@ class Diagnosis:
         self.faults, self.warnings, self.hints, self.more = [], [], [], 0
         if len(data) > MOST_BYTES:
             self.faults = [f"{name}: read fault: the trace has more than {MOST_BYTES:,} bytes"]
-        elif is_notation(name):
+        elif is_notation(name, data):
             self.look_at_notation(data)
         else:
             self.look(data)
@@ -95,4 +95,5 @@ class Diagnosis:
     def lines(self):
         """All lines, the faults first, up to as many as anyone would read."""
         more = [f"{self.name}: and {self.more:,} more"] if self.more else []
-        return self.faults + self.warnings + more + self.hints
+        left_out = [] if self.bad else [f"{self.name}: left out when it was recorded: {what}" for what in left_out_of(self.top)]
+        return self.faults + self.warnings + more + left_out + self.hints

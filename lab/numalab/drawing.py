@@ -11,21 +11,25 @@ import textwrap
 from collections import namedtuple
 from itertools import groupby
 
+from .notate import node_labels
 from .report import Layout, moments_of, read_report
 from .traces import Bad
-from .words import printable
+from .words import PAGE, printable
 
 MOST_SQUARES = 200000
 MOST_TOLD, MOST_LETTERS = 20, 60  # how many accesses in flight a tooltip lists, and how much of each
 LEFT, GAP, EDGE = 150, 24, 12
 FONT = "DejaVu Sans, Verdana, sans-serif"
 COLOURS = ["#7fb3e6", "#f2b35e", "#7fcf9f", "#e39ac4", "#cdb94f", "#a79be8", "#6fd0d6", "#e58f7b"]
-UNTOLD, TAKEN, FREE, INK, PALE = "#9db8d2", "#c6c6c6", "#eef5e6", "#222222", "#6b6b6b"
+UNTOLD, TAKEN, FREE, INK, PALE, PIN = "#9db8d2", "#c6c6c6", "#eef5e6", "#222222", "#6b6b6b", "#7a1fa2"
+# The stripes of a frame that nobody can take, as its node is offline.
+HATCHED = ('<defs><pattern id="offline" width="6" height="6" patternUnits="userSpaceOnUse" patternTransform="rotate(45)">'
+           '<rect width="6" height="6" fill="#ececec"/><rect width="2" height="6" fill="#c4c4c4"/></pattern></defs>')
 
 Band = namedtuple("Band", "name frames node")  # its frames in ascending order; the node is None where it is not known
 Grid = namedtuple("Grid", "across width height")  # how many squares a row has, and how wide and high one is
 DARK, DASHED = ' stroke="#444444"', ' stroke="#9a9a9a" stroke-dasharray="2 2"'
-BORDERS = {"free": ' stroke="#7d8a70"', "held": DARK, "taken": DARK, "unknown": DASHED, "counted": DASHED}
+BORDERS = {"free": ' stroke="#7d8a70"', "offline": DARK, "held": DARK, "taken": DARK, "unknown": DASHED, "counted": DASHED}
 ABOUT = (
     "A column is a moment at which the report looks, a square a frame. The number in a square is its page's: the address in "
     "hexadecimal without the last three digits; a plus marks further addresses. Point at a square for all that is known of it."
@@ -51,10 +55,10 @@ def spans_of(moments):
     return spans
 
 
-def bands_of(moments, machine):
+def bands_of(moments, machine, labels):
     """The nodes of the trace; without one the frames that were named, by what is known of their nodes."""
     if machine:
-        return [Band(f"node {node}", list(frames), node) for node, frames in enumerate(machine.ranges)]
+        return [Band(labels[node], list(frames), node) for node, frames in enumerate(machine.ranges)]
     spans = spans_of(moments)
     named = sorted({frame for moment in moments for frame in [*moment.free, *moment.held]})
     groups = groupby(named, lambda frame: next((span for span in spans if span[0] <= frame <= span[1]), None))
@@ -78,19 +82,34 @@ def page_text(pages):
     return f"{numbers[0]:x}" + ("+" if len(numbers) > 1 else "")
 
 
-def seen_texts(pages):
+def process_text(process, names):
+    """A process in words, with its name where that is known."""
+    return names.process_text(process) if names else f"process {process}"
+
+
+def place_text(process, number, names):
+    """A page by its area, where that has a name, or by its number."""
+    named = names and names.area_at(process, number * PAGE)
+    return names.place(process, number * PAGE) if named else f"page {number:x}"
+
+
+def seen_texts(pages, names=None):
     """Where pages are seen, each once. With the trace, a process that the report looks at twice counts as one."""
     pages = sorted(set(pages), key=lambda page: (page[0] or 0, page[1], page[2] or 0))
-    seen = [(number, f"the process of step {step}" if process is None else f"process {process}") for process, number, step in pages]
-    return ", ".join(f"page {number:x} of {process}" for number, process in seen)
+    seen = [(place_text(process, number, names), f"the process of step {step}" if process is None else process_text(process, names))
+            for process, number, step in pages]
+    return ", ".join(f"{place} of {process}" for place, process in seen)
 
 
-def square_of(moment, frame, node):
+def square_of(moment, frame, node, names):
     """The class, the text and the tooltip of a frame's square."""
     if frame in moment.held:
-        return "held", page_text(moment.held[frame]), f"frame {frame}: " + seen_texts(moment.held[frame])
+        pinned = "; pinned" if frame in moment.pinned else ""
+        return "held", page_text(moment.held[frame]), f"frame {frame}: " + seen_texts(moment.held[frame], names) + pinned
     if frame in moment.free:
         place = moment.free[frame]
+        if node in moment.offline:
+            return "offline", f"#{place}", f"frame {frame}: free, number {place} of its node's list, but the node is offline"
         return "free", f"#{place}", f"frame {frame}: free, number {place} of its node's list"
     if node in moment.nodes:
         return "taken", "", f"frame {frame}: not free; no pagemap line here shows its page"
@@ -103,8 +122,8 @@ def square_of(moment, frame, node):
 class Picture:
     """The elements of an SVG."""
 
-    def __init__(self, processes):
-        self.parts = []
+    def __init__(self, processes, names=None):
+        self.parts, self.names = [], names
         self.colours = {process: COLOURS[k % len(COLOURS)] for k, process in enumerate(processes)}
         self.colours[None] = UNTOLD
 
@@ -117,11 +136,15 @@ class Picture:
 
     def square(self, x, y, width, height, kind, processes=()):
         """A frame's square: a stripe for each process that sees its page, four at most."""
-        fill = {"free": FREE, "taken": TAKEN, "counted": UNTOLD}.get(kind, "#ffffff")
+        fill = {"free": FREE, "taken": TAKEN, "counted": UNTOLD, "offline": "url(#offline)"}.get(kind, "#ffffff")
         stripes = list(processes)[:4]
         for k, process in enumerate(stripes):
             self.rect(x + k * width / len(stripes), y, width / len(stripes), height, self.colours[process])
         self.rect(x, y, width, height, "none" if stripes else fill, BORDERS[kind])
+
+    def pin(self, x, y, side):
+        """The corner of a square whose page is pinned."""
+        self.parts.append(f'<path d="M{x - side:g} {y:g}H{x:g}V{y + side:g}Z" fill="{PIN}"/>')
 
     def frame(self, x, y, grid, frame, square, processes):
         """A frame with its tooltip, and its number and text where there is room."""
@@ -129,6 +152,8 @@ class Picture:
         width, height, ink = grid.width - 2, grid.height - 2, INK if kind == "held" else PALE
         self.parts.append(f'<g class="{kind}"><title>{html.escape(tip)}</title>')
         self.square(x + 1, y + 1, width, height, kind, processes)
+        if tip.endswith("; pinned"):
+            self.pin(x + 1 + width, y + 1, min(width, height) / 2.5)
         if grid.width >= 40:
             self.text(x + 4, y + 10, 7, str(frame), ink=ink)
         size = 10 if grid.width >= 40 else 8
@@ -142,7 +167,8 @@ class Picture:
         space = f'xmlns="http://www.w3.org/2000/svg" viewBox="0 0 {width:g} {height:g}"'
         head = f'<svg {space} {size} font-family="{FONT}" role="img">'
         title = f"<title>{html.escape(name)}</title>"
-        return "\n".join([head, title, f'<rect {size} fill="#ffffff"/>', *self.parts, "</svg>"]) + "\n"
+        hatched = [HATCHED] if any("url(#offline)" in part for part in self.parts) else []
+        return "\n".join([head, title, *hatched, f'<rect {size} fill="#ffffff"/>', *self.parts, "</svg>"]) + "\n"
 
 
 def rows_in(band, grid):
@@ -152,7 +178,7 @@ def rows_in(band, grid):
 def draw_counts(picture, x, y, width, height, band, counts):
     """How many pages of each process numa_maps shows on a node whose frames are not known."""
     most = max(counts.values(), default=0)
-    words = ", ".join(f"process {process}: {count:,}" for process, count in sorted(counts.items())) or "no page"
+    words = ", ".join(f"{process_text(process, picture.names)}: {count:,}" for process, count in sorted(counts.items())) or "no page"
     picture.parts.append(f'<g class="counted"><title>{html.escape("pages by numa_maps: " + words)}</title>')
     picture.rect(x + 1, y + 1, width - 2, height - 2, "none", BORDERS["unknown"])
     picture.rect(x + 1, y + 1, (width - 2) * min(1, most / len(band.frames)), height - 2, UNTOLD)
@@ -163,7 +189,7 @@ def draw_counts(picture, x, y, width, height, band, counts):
 
 def draw_cell(picture, x, y, grid, band, moment):
     """The squares of a band at a moment, or a note that nothing is known."""
-    squares = [square_of(moment, frame, band.node) for frame in band.frames]
+    squares = [square_of(moment, frame, band.node, picture.names) for frame in band.frames]
     if all(kind == "unknown" for kind, _, _ in squares):
         width, height = min(len(squares), grid.across) * grid.width, rows_in(band, grid) * grid.height
         if moment.counts:
@@ -210,7 +236,7 @@ def draw_zeros(picture, x, y, moment):
     """How many entries are the page of zeros, which has no square."""
     count = len(set(moment.zeros))
     if count:
-        picture.parts.append(f'<g class="zeros"><title>{html.escape(seen_texts(moment.zeros))}</title>')
+        picture.parts.append(f'<g class="zeros"><title>{html.escape(seen_texts(moment.zeros, picture.names))}</title>')
         picture.text(x, y, 8, f"page of zeros: {count} " + ("entry" if count == 1 else "entries"))
         picture.parts.append("</g>")
 
@@ -219,8 +245,10 @@ def legend_of(moments, machine):
     """The kinds of squares, each with the processes of its stripes and its text."""
     items = [("free", (), "free; #1 is taken next")]
     if machine:
-        items += [("held", (process,), f"process {process}") for process in processes_of(moments)]
+        items += [("held", (process,), machine.names.process_text(process)) for process in processes_of(moments)]
         items += [("taken", (), "not free, page not shown")]
+        items += [("offline", (), "free, of a node that is offline")] if any(moment.offline for moment in moments) else []
+        items += [("pinned", (), "pinned")] if any(moment.pinned for moment in moments) else []
     else:
         items += [("held", (None,), "held by a page")]
     counted = [("counted", (), "pages that numa_maps counts, of a node's frames")] if any(moment.counts for moment in moments) else []
@@ -234,7 +262,9 @@ def draw_legend(picture, y, width, items):
         room = 20 + len(words) * 6.4 + 16
         if x > EDGE and x + room > width - EDGE:
             x, y = EDGE, y + 20
-        picture.square(x, y, 14, 14, kind, processes)
+        picture.square(x, y, 14, 14, "held" if kind == "pinned" else kind, processes)
+        if kind == "pinned":
+            picture.pin(x + 14, y, 6)
         picture.text(x + 20, y + 11, 10, words)
         x += room
     return y + 14
@@ -265,9 +295,9 @@ def check_size(moments, bands):
         raise Bad(f"the picture would have {count:,} squares, and at most {MOST_SQUARES:,} are drawn: pick moments with --steps")
 
 
-def drawing(name, moments, machine, processes, count):
+def drawing(name, moments, machine, labels, processes, count):
     """The SVG of some moments of a report on `count` steps."""
-    picture, bands = Picture(processes), bands_of(moments, machine) if moments else []
+    picture, bands = Picture(processes, machine and machine.names), bands_of(moments, machine, labels) if moments else []
     check_size(moments, bands)
     grid = grid_of(bands)
     column = max(min(grid.across, max((len(band.frames) for band in bands), default=1)) * grid.width, 130)
@@ -306,4 +336,4 @@ def picture_of(data, path, top=None, steps=None):
         layout.check(lines)
     moments = moments_of(lines, layout)
     name = printable(os.path.basename(path))
-    return drawing(name, picked(moments, steps) if steps else moments, layout, processes_of(moments), len(lines))
+    return drawing(name, picked(moments, steps) if steps else moments, layout, top and node_labels(top), processes_of(moments), len(lines))

@@ -10,7 +10,7 @@ from difflib import get_close_matches
 from itertools import groupby
 
 from .jsontext import Other, first_fault, line_and_column
-from .words import FLAGS, MODES, counted, elements
+from .words import FLAGS, MODES, counted, elements, left_out_text
 
 HERE = os.path.dirname(os.path.abspath(__file__))
 # The schema is in docs/ of the repository; an installed package holds a copy.
@@ -19,8 +19,11 @@ MOST_BYTES = 16777216
 MOST_FRAMES = 16384
 MOST_ENTRIES = 16384
 TYPES = {"object": dict, "array": list, "string": str, "boolean": bool, "integer": int}
-# Keys that a step, an access or the top may have for people and editors. The program ignores them as it does all others.
+# Keys that any object may have for people, and those of the top, of a machine and of a step that makes something. The program
+# ignores them as it does all others.
 FOR_PEOPLE = ("at", "note")
+OF_TOP, OF_MACHINE, OF_NEW = ("note_at_end", "left_out", "$schema"), ("names",), ("name",)
+NEW = ("spawn", "map", "attach")
 
 # Where a fault is, as keys and indices from the top (or from its step) down; what is wrong there; and what may have been
 # meant, or None.
@@ -152,6 +155,9 @@ def op_faults(path, ops, value):
     name, one_of = name_of(path + ("op",)), f"expected one of {', '.join(ops)}"
     if "op" not in value:
         return [Fault(path, f"{name} is missing: {one_of}")]
+    left_out = left_out_text(value["op"])
+    if left_out:
+        return [Fault(path + ("op",), f"{name} is {shown(value['op'])}: {left_out}")]
     return [Fault(path + ("op",), f"{name} is {shown(value['op'])}: {one_of}", close(value["op"], ops))]
 
 
@@ -258,12 +264,19 @@ def faults_of(form, top):
 # ---- keys that are ignored
 
 
+def keys_for_people(schema):
+    """The keys that an object of a schema may have for people."""
+    known = schema["properties"]
+    special = OF_TOP if "steps" in known else OF_MACHINE if "distance" in known else OF_NEW if known.get("op", {}).get("const") in NEW else ()
+    return (*FOR_PEOPLE, *special)
+
+
 def unknown_keys(path, schema, value, more=()):
     """Keys of an object that its schema does not name."""
     known = schema["properties"]
     if all(key in known for key in value):
         return []
-    known = [*known, *more]
+    known = [*known, *keys_for_people(schema), *more]
     return [Fault(path + (key,), f"{json.dumps(key)} is an unknown key", close(key, known)) for key in value if key not in known]
 
 
@@ -272,11 +285,11 @@ def ignored_in_step(form, step):
     if not isinstance(step, dict) or not isinstance(step.get("op"), str) or step["op"] not in form.steps:
         return []
     schema = form.steps[step["op"]]
-    found, during = unknown_keys((), schema, step, FOR_PEOPLE), step.get("during")
+    found, during = unknown_keys((), schema, step), step.get("during")
     accesses = form.ops(form.top["$defs"]["access"])
     for j, access in enumerate(during if "during" in schema["properties"] and isinstance(during, list) else []):
         if isinstance(access, dict) and isinstance(access.get("op"), str) and access["op"] in accesses:
-            found += unknown_keys(("during", j), accesses[access["op"]], access, FOR_PEOPLE)
+            found += unknown_keys(("during", j), accesses[access["op"]], access)
     return found
 
 
@@ -285,9 +298,9 @@ def ignored_keys(form, top):
     if not isinstance(top, dict):
         return []
     limit = ("run_limit",) if top.get("version") == 2 else ()
-    found = unknown_keys((), form.top, top, (*FOR_PEOPLE, "$schema", *limit))
+    found = unknown_keys((), form.top, top, limit)
     if isinstance(top.get("machine"), dict):
-        found += unknown_keys(("machine",), form.top["properties"]["machine"], top["machine"], FOR_PEOPLE)
+        found += unknown_keys(("machine",), form.top["properties"]["machine"], top["machine"])
     for k, step in enumerate(top["steps"] if isinstance(top.get("steps"), list) else []):
         ignored = ignored_in_step(form, step)
         if ignored:
@@ -297,18 +310,19 @@ def ignored_keys(form, top):
 
 def strict_schema(schema):
     """The schema under which an unknown key is a fault as well."""
-    def strict(part, keys):
+    def strict(part):
         if isinstance(part, list):
-            return [strict(item, FOR_PEOPLE) for item in part]
+            return [strict(item) for item in part]
         if not isinstance(part, dict):
             return part
-        made = {key: strict(value, FOR_PEOPLE) for key, value in part.items()}
+        made = {key: strict(value) for key, value in part.items()}
         if part.get("type") == "object" and "properties" in part and "required" in part:
-            made["properties"].update({key: True for key in keys if key not in made["properties"]})
+            made["properties"].update({key: True for key in keys_for_people(part) if key not in made["properties"]})
             made["additionalProperties"] = False
         return made
 
-    made = strict({key: part for key, part in schema.items() if key != "oneOf"}, (*FOR_PEOPLE, "$schema", "run_limit"))
+    made = strict({key: part for key, part in schema.items() if key != "oneOf"})
+    made["properties"]["run_limit"] = True
     made["title"] += ", without unknown keys"
     # The limit on runs is a key of version 2 alone.
     first, second = schema["oneOf"]

@@ -5,10 +5,12 @@ has to check that its whole report is the program's."""
 from bisect import bisect_right
 
 from .model import ZERO
+from .names import is_name, notes_of
+from .notate import node_labels
 from .reasons import Explained
 from .report import KEEPS, LATE, Layout, is_refused, moments_of, node_ranges
 from .table import Table
-from .traces import Bad
+from .traces import Bad, left_out_of
 from .words import PAGE
 
 MOST_STEPS, MOST_CHANGES, MOST_ROWS = 20000, 2000000, 200
@@ -43,6 +45,8 @@ class Watched(Explained):
         super().__init__(trace, wordy=False)
         self.free = [Queue(frames) for frames in self.free]
         self.pids, self.where, self.changed, self.shown, self.zeros = {}, {}, set(), {}, 0
+        # The pins of frames that have changed since the last call of `marks`, and the nodes that were offline then.
+        self.pinned, self.away = {}, []
 
     def spawn(self, step):
         answer = super().spawn(step)
@@ -80,6 +84,26 @@ class Watched(Explained):
     def give_back(self, page):
         self.changed.add(page)
         super().give_back(page)
+
+    def pin(self, step):
+        return self.noting_pins(step, super().pin(step))
+
+    def unpin(self, step):
+        return self.noting_pins(step, super().unpin(step))
+
+    def noting_pins(self, step, answer):
+        page = self.processes[step["pid"]].seen[step["addr"] // PAGE]
+        self.pinned[self.place[page]] = self.pins[page]
+        return answer
+
+    def marks(self):
+        """The frames whose pins have changed since the last call, with their pins, and the nodes that are offline, where those have
+        changed."""
+        found, self.pinned = {"p": self.pinned} if self.pinned else {}, {}
+        away = [node for node in self.nodes if node not in self.online]
+        if away != self.away:
+            found["o"] = self.away = away
+        return found
 
     def changes(self):
         """The frames that have changed since the last call, each with its page or none; and the lists of free frames."""
@@ -136,7 +160,7 @@ class Film:
         self.count += len(frames)
         if self.count > MOST_CHANGES:
             raise Bad(f"the picture would have more than {MOST_CHANGES:,} changes of frames: pick some steps with --steps A-B")
-        told = {"f": frames, "q": queues, "z": self.machine.zeros}
+        told = {"f": frames, "q": queues, "z": self.machine.zeros, **self.machine.marks()}
         if line.op == "move_pages" and not line.answer.startswith("error "):
             told["e"] = entry_marks(self.machine, step, line)
             self.count += len(told["e"])
@@ -177,12 +201,37 @@ def step_text(table, k, line, looks, alive):
     return {"t": "   →   ".join(table.head(k, line)), "m": rows[1 : MOST_ROWS + 1] + cut, "at": table.steps[k].get("at", ""), "l": [*looks, full]}
 
 
+def texts_of(film, top, lines):
+    """The texts of the steps of a film."""
+    table, looks, found = Table(top), looks_of(top, lines), []
+    for k in range(film.last + 1):
+        table.passes(k, lines[k])
+        if k >= film.first:
+            found.append(step_text(table, k, lines[k], looks[k], film.alive[k]))
+    return found
+
+
+def notes_in(top, first, last):
+    """The notes before the steps of a range, each with how many steps of it are before."""
+    steps = range(first, last + 1)
+    found = [[k - first, text] for k in steps for text in notes_of(top["steps"][k])]
+    ends = notes_of(top, "note_at_end") if last + 1 == len(top["steps"]) else []
+    return found + [[len(steps), text] for text in ends]
+
+
+def areas_of(top, lines):
+    """The areas with a name: the process, the first page number, the number of pages, the name and the step that made each."""
+    return [[step["pid"], step["addr"] // PAGE, step["pages"], step["name"], k] for k, (step, line) in enumerate(zip(top["steps"], lines))
+            if step["op"] in ("map", "attach") and is_name(step.get("name")) and not is_refused(line)]
+
+
 def film_of(name, top, lines, steps=None, progress=None):
     """All that the page needs to know, as an object for JSON."""
     film = Film(top, lines, steps)
     changes = film.frames(progress)
-    table, looks = Table(top), looks_of(top, lines)
-    texts = [step_text(table, k, lines[k], looks[k], film.alive[k]) for k in range(film.first, film.last + 1)]
-    return {"name": name, "nodes": [[frames.start, len(frames)] for frames in node_ranges(top)], "first": film.first, "changes": changes,
-            "steps": texts, "processes": sorted({step["pid"] for step in top["steps"] if step["op"] == "spawn"}),
-            "total": len(top["steps"]), "lines": len(lines)}
+    names = film.machine.names.processes
+    return {"name": name, "nodes": [[frames.start, len(frames)] for frames in node_ranges(top)], "labels": node_labels(top), "first": film.first,
+            "changes": changes, "steps": texts_of(film, top, lines), "notes": notes_in(top, film.first, film.last),
+            "processes": sorted({step["pid"] for step in top["steps"] if step["op"] == "spawn"}),
+            "names": {pid: name for pid, name in names.items() if name}, "areas": areas_of(top, lines),
+            "left": left_out_of(top), "total": len(top["steps"]), "lines": len(lines)}

@@ -1,14 +1,16 @@
 """From a trace back to the notation: the text of a machine, and of each step."""
 import json
 
-from .notation import FIRST_ADDRESS, PAGE, next_free
+from .names import MOST_NAMED, is_name, node_names, notes_of
+from .notation import FARTHER, FIRST_ADDRESS, NEAR, PAGE, next_free
 from .statements import tier_distances
 from .words import flags_text, mode_text, nodes_text
 
-MOST_NAMED = 1 << 35
 # Pages farther apart than this are not written as one stretch.
 MOST_APART = 16 * PAGE
 LETTERS = "ABCDEFGHIJKLMNOPQRSTUVWXYZ"
+# The keys for people that the notation says in its own way.
+SAID = ("name", "names", "note", "note_at_end")
 # Steps that differ in their address alone are one statement over several pages.
 BY_PAGE = ("read", "write", "pin", "unpin")
 
@@ -37,13 +39,33 @@ def stretches(values, may_join):
     return found
 
 
+def tiers_of(rows):
+    """The tier of each node where the distances are those of the short form, or None."""
+    nearest = [(min(row[to] for to in range(len(row)) if to != own) - NEAR) // FARTHER if len(row) > 1 else 0 for own, row in enumerate(rows)]
+    # A node that is alone in the first tier is as far from all others as they are from each other.
+    for tiers in (nearest, [0, *nearest[1:]]):
+        if tiers == sorted(tiers) and tier_distances(tiers) == rows and sorted(set(tiers)) == list(range(tiers[-1] + 1)):
+            return tiers
+    return None
+
+
+def node_labels(top):
+    """For each node what a picture calls it: its number, and its name, or its tier where that is not the first."""
+    tiers = tiers_of(top["machine"]["distance"])
+    names = [name or (f"tier {tiers[node] + 1}" if tiers and tiers[node] else None) for node, name in enumerate(node_names(top))]
+    return [f"node {node}" + (f" ({name})" if name else "") for node, name in enumerate(names)]
+
+
 class Notator:
-    """Writes steps in the notation, one after another, with names for the processes and areas that it has met. Where it is
+    """Writes steps in the notation, one after another, with the names that processes and areas have, or new ones. Where it is
     brief, it leaves out defaults."""
 
     def __init__(self, top, brief=True):
         self.top, self.count, self.brief = top, len(top["machine"]["nodes"]), brief
-        self.pids, self.areas, self.named, self.next_address = set(), {}, 0, FIRST_ADDRESS
+        # The names of processes by pid, those that have ended, and the areas of each, the latest first, as (name, address, pages).
+        self.pids, self.gone, self.areas = {}, set(), {}
+        self.most_pid, self.named, self.next_address = 0, 0, FIRST_ADDRESS
+        self.node_names = node_names(top)
 
     def unless(self, usual, text):
         """A text with a space before it, or nothing for what is usual."""
@@ -54,24 +76,34 @@ class Notator:
     def machine(self):
         """The lines that describe the machine."""
         sizes, rows = self.top["machine"]["nodes"], self.top["machine"]["distance"]
-        tiers = [(min(row[to] for to in range(len(row)) if to != own) - 20) // 10 if len(row) > 1 else 0 for own, row in enumerate(rows)]
-        short = tiers == sorted(tiers) and tier_distances(tiers) == rows and sorted(set(tiers)) == list(range(tiers[-1] + 1))
-        tiers = tiers if short else [0] * len(sizes)
-        groups = stretches(list(zip(sizes, tiers)), lambda group, pair: group[-1] == pair)
+        short = tiers_of(rows)
+        tiers = short or [0] * len(sizes)
+        groups = stretches(list(zip(sizes, tiers, self.node_names)), lambda group, node: group[-1] == node)
         text = ""
         for k, group in enumerate(groups):
-            size, tier = group[0]
-            text += ("" if k == 0 else ", " if groups[k - 1][0][1] == tier else " + ") + (f"{len(group)}x{size}" if len(group) > 1 else str(size))
+            size, tier, name = group[0]
+            text += ("" if k == 0 else ", " if groups[k - 1][0][1] == tier else " + ") + (f"{name} " if name else "")
+            text += f"{len(group)}x{size}" if len(group) > 1 else str(size)
         lines = [f"run_limit {self.top['run_limit']}"] if self.top["version"] == 2 else []
         return lines + [f"nodes {text}"] + ([] if short else ["distance " + " ".join(map(str, row)) for row in rows])
 
     # ---- small things
 
     def process(self, pid):
-        return f"p{pid}" if pid in self.pids else str(pid)
+        return self.pids.get(pid, str(pid))
 
     def set(self, nodes):
-        return "all" if nodes == list(range(self.count)) else nodes_text(nodes)
+        """A set of nodes: all, those of a name, or numbers."""
+        if nodes == list(range(self.count)):
+            return "all"
+        name = self.node_names[nodes[0]] if nodes and nodes[0] < self.count else None
+        return name if name and nodes == [node for node in range(self.count) if self.node_names[node] == name] else nodes_text(nodes)
+
+    @staticmethod
+    def free_name(step, usual, taken):
+        """The name that a step gives to something new, or the usual one, with a number where something else has it."""
+        name = step["name"] if is_name(step.get("name")) else usual
+        return next(one for one in [name, *(f"{name}_{k}" for k in range(2, len(taken) + 3))] if one not in taken)
 
     def area_at(self, pid, address):
         """The name, address and pages of the latest area of a process that covers an address, or None."""
@@ -111,7 +143,7 @@ class Notator:
         told = []
         for k, (text, node) in enumerate(texts):
             last = k + 1 == len(texts) or texts[k + 1][1] != node
-            told.append(text + (f" to {node}" if node is not None and last else ""))
+            told.append(text + (f" to {self.set([node])}" if node is not None and last else ""))
         return ", ".join(told) or "none"
 
     # ---- steps
@@ -122,12 +154,17 @@ class Notator:
         if hasattr(self, "tell_" + op):
             return f"{op} " + getattr(self, "tell_" + op)(step)
         if op in ("offline", "online", "free"):
-            return f"{op} {step['node']}"
+            return f"{op} {self.set([step['node']])}"
         return op if op == "vmstat" else f"{op} {self.process(step['pid'])}"
 
     def tell_spawn(self, step):
-        pid, usual = step["pid"], max([0, *self.pids]) + 1
-        self.pids.add(pid)
+        pid, usual = step["pid"], self.most_pid + 1
+        if pid in self.gone:
+            self.areas.pop(pid, None)
+        self.gone.discard(pid)
+        name = self.free_name(step, f"p{pid}", [name for other, name in self.pids.items() if other != pid and other not in self.gone])
+        self.pids = {**{other: one for other, one in self.pids.items() if one != name}, pid: name}
+        self.most_pid = max(pid, self.most_pid)
         flag = {True: " privileged", False: " unprivileged", None: ""}[step.get("privileged")]
         allowed = self.set(step["allowed"])
         return (self.process(pid) + self.unless(pid == usual, f"pid {pid}") + f" uid {step['uid']} home {step['home']}" +
@@ -135,8 +172,8 @@ class Notator:
 
     def new_area(self, step):
         """Gives an area a name."""
-        name = area_name(self.named)
-        self.named += 1
+        name = self.free_name(step, area_name(self.named), [area[0] for area in self.areas.get(step["pid"], ())])
+        self.named += name == area_name(self.named)
         if step["pages"] < MOST_NAMED and step["addr"] % PAGE == 0:
             self.areas.setdefault(step["pid"], []).insert(0, (name, step["addr"], step["pages"]))
         self.usual_place = step["addr"] == self.next_address
@@ -154,10 +191,17 @@ class Notator:
         place = self.unless(self.usual_place, f"at {step['addr']:#x}")
         return f"{self.process(step['pid'])} {name} segment {step['segment']} offset {step['offset']} pages {step['pages']}{place}"
 
+    def tell_exit(self, step):
+        self.gone.add(step["pid"])
+        return self.process(step["pid"])
+
     def tell_unmap(self, step):
         area = self.area_at(step["pid"], step["addr"])
         if area and step["addr"] % PAGE == 0 and 0 < step["pages"] <= area[2] - (step["addr"] - area[1]) // PAGE:
-            return f"{self.process(step['pid'])} " + self.stretch(step["pid"], step["addr"], step["pages"])
+            text = f"{self.process(step['pid'])} " + self.stretch(step["pid"], step["addr"], step["pages"])
+            if area[1:] == (step["addr"], step["pages"]):
+                self.areas[step["pid"]].remove(area)
+            return text
         return f"{self.process(step['pid'])} {step['addr']:#x} pages {step['pages']}"
 
     def stretch(self, pid, address, pages):
@@ -214,7 +258,9 @@ class Notator:
 
     def may_merge(self, group, step):
         """Whether a step can be written together with those before it."""
-        first = group[0]
+        first = {key: value for key, value in group[0].items() if key != "note"}
+        if "note" in step:
+            return False
         if first["op"] == step["op"] == "free":
             return True
         if step["op"] not in BY_PAGE or {**first, "addr": 0} != {**step, "addr": 0}:
@@ -239,14 +285,21 @@ class Notator:
             if group and not self.may_merge(group, step):
                 lines.append(self.merged(group))
                 group = []
+            lines += notes_said(notes_of(step))
             group.append(step)
-        return "\n".join(lines + ([self.merged(group)] if group else [])) + "\n"
+        lines += [self.merged(group)] if group else []
+        return "\n".join(lines + notes_said(notes_of(self.top, "note_at_end"))) + "\n"
 
 
-def known_keys(form, top):
-    """The trace without the keys that the program ignores."""
+def notes_said(notes):
+    """The statements of notes."""
+    return [f"note {json.dumps(note)}" for note in notes]
+
+
+def known_keys(form, top, said=()):
+    """The trace without the keys that the program ignores, except for those that are `said` in the notation as well."""
     def kept(value, schema, more=()):
-        return {key: part for key, part in value.items() if key in schema["properties"] or key in more}
+        return {key: part for key, part in value.items() if key in schema["properties"] or key in more or key in said}
 
     accesses, steps = form.ops(form.top["$defs"]["access"]), []
     for step in top["steps"]:
@@ -258,6 +311,11 @@ def known_keys(form, top):
     return {**kept(top, form.top, limit), "machine": kept(top["machine"], form.top["properties"]["machine"]), "steps": steps}
 
 
+def head_of(form, top):
+    """The machine of a good trace, with names, as a trace without steps."""
+    return known_keys(form, {**top, "steps": []}, ("names",))
+
+
 def notation_of(form, top):
     """The notation of a good trace, which gives the same trace again, except for keys that the program ignores."""
-    return Notator(known_keys(form, top)).whole()
+    return Notator(known_keys(form, top, SAID)).whole()

@@ -7,7 +7,6 @@ from .faults import MOST_ENTRIES, close
 from .words import FLAGS, MODES, PAGE, counted
 
 WORD = re.compile(r'"(?:[^"\\]|\\.)*"|[^\s#",]+(?:,[^\s#",]+)*|,|"|#')
-NAME = re.compile(r"[A-Za-z_][A-Za-z0-9_.-]*")
 NUMBER = re.compile(r"0x[0-9A-Fa-f]{1,16}|[0-9]{1,20}")
 PIECE = re.compile(r"[A-Za-z_][A-Za-z0-9_]*|0x[0-9A-Fa-f]{1,16}|[0-9]{1,20}[KMG]?|[-+*%]")
 PLACE = re.compile(r"([^\[\]+]+)(?:\[([^\[\]]*)\])?(?:\+(.+))?")
@@ -91,7 +90,8 @@ class Numbers:
 
     def __init__(self):
         self.nodes, self.node_names = [], {}
-        self.processes, self.areas, self.variables = {}, {}, {}
+        # Areas by their names, and the same of each process, by pid and name.
+        self.processes, self.areas, self.own_areas, self.variables = {}, {}, {}, {}
 
     def number(self, word, most=MOST):
         """A number: sums and products of numbers, sizes and what `repeat` counts."""
@@ -132,12 +132,15 @@ class Numbers:
             count //= PAGE
         return count
 
-    def node_list(self, word, single=False):
-        """A set of nodes in the order in which it is written: 0-2,5, names of nodes, all, none, or all but some: !1."""
+    def node_list(self, word, single=False, allowed=None):
+        """A set of nodes in the order in which it is written: 0-2,5, names of nodes, all, none, all but some: !1, or some of the nodes
+        that a process may use, counted from 0: +0-1."""
         text, every = word.text, list(range(len(self.nodes)))
         if text.startswith("!"):
-            but = self.node_list(Word(text[1:], word.column + 1))
+            but = self.node_list(Word(text[1:], word.column + 1), allowed=allowed)
             return [node for node in every if node not in but]
+        if text.startswith("+"):
+            return self.relative(word, allowed, single)
         found = []
         for part in [] if text == "none" else text.split(","):
             if part == "all":
@@ -152,10 +155,21 @@ class Numbers:
             elif NUMBER.fullmatch(part) or part in self.variables:
                 found.append(self.number(Word(part, word.column), (1 << 32) - 1))
             else:
-                raise Wrong(f"{part} is not a node{guessed(part, [*self.node_names, 'all', 'none'])}", word.column)
+                area = ": further pages follow after a comma and a space" if part.partition("[")[0] in self.areas else ""
+                raise Wrong(f"{part} is not a node{area or guessed(part, [*self.node_names, 'all', 'none'])}", word.column)
         if single and len(found) != 1:
             raise Wrong(f"{text} is {len(found)} nodes, where one is expected", word.column)
         return found
+
+    def relative(self, word, allowed, single):
+        """A set of the nodes that a process may use."""
+        if allowed is None:
+            raise Wrong(f"{word.text} counts the nodes that a process may use, and here no process is known", word.column)
+        places, mine = self.node_list(Word(word.text[1:], word.column + 1), single), sorted(set(allowed))
+        beyond = [place for place in places if place >= len(mine)]
+        if beyond:
+            raise Wrong(f"{word.text} is past the last of the {counted(len(mine), 'node')} that the process may use", word.column)
+        return [mine[place] for place in places]
 
     def pid(self, word):
         """The pid of a process by its name, or as a number."""
@@ -185,13 +199,13 @@ class Numbers:
 
     # ---- places
 
-    def place(self, word):
-        """Pages, or one address: A, A[*], A[3], A[0:10:2], 0x10000, 0x10000[0:5]; after a page, +N is a byte of it."""
+    def place(self, word, pid=None):
+        """Pages of a process, or one address: A, A[*], A[3], A[0:10:2], 0x10000, 0x10000[0:5]; after a page, +N is a byte of it."""
         match = PLACE.fullmatch(word.text)
         if not match:
             raise Wrong(f"{word.text} does not name pages", word.column)
         base, inside, offset = match.groups()
-        area = self.areas.get(base)
+        area = self.own_areas.get((pid, base), self.areas.get(base))
         if area is None and not NUMBER.fullmatch(base):
             raise Wrong(f"there is no area {base}{guessed(base, self.areas)}", word.column)
         address = area.address if area else self.number(Word(base, word.column))
@@ -207,36 +221,56 @@ class Numbers:
             raise Wrong(f"{word.text} is past the last address", word.column)
         return Pages(address, numbers, single)
 
+    def end(self, part, area, word):
+        """The number of a page in brackets, which may be counted from the end of an area, as -1; None where there is none."""
+        if not part.startswith("-"):
+            return self.number(Word(part, word.column)) if part else None
+        if not area:
+            raise Wrong(f"{word.text} counts from an end, which only an area with a name has", word.column)
+        back = self.number(Word(part[1:], word.column))
+        if back > area.pages:
+            raise Wrong(f"{word.text} is before the first page: {pages_told(word, area)}", word.column)
+        return area.pages - back
+
     def numbers(self, inside, area, word):
         """The numbers of pages in brackets, and whether they name a single page."""
         if inside == "*":
             if not area:
                 raise Wrong("[*] is only for an area with a name", word.column)
             return range(area.pages), False
-        ends = [self.number(Word(part, word.column)) if part else None for part in inside.split(":")]
+        parts = inside.split(":")
+        ends = [self.end(part, area, word) if k < 2 else self.number(Word(part, word.column)) if part else None for k, part in enumerate(parts)]
         if len(ends) == 1 and ends[0] is not None:
             if area and ends[0] >= area.pages:
-                raise Wrong(f"{word.text} is past the last of {counted(area.pages, 'page')}", word.column)
+                raise Wrong(f"{word.text} is past the last page: {pages_told(word, area)}", word.column)
             return range(ends[0], ends[0] + 1), True
         first, end, step = (ends + [None, None])[:3]
         end = (area.pages if area else None) if end is None else end
-        if not 2 <= len(ends) <= 3 or end is None or step == 0 or (area and end > area.pages):
+        if not 2 <= len(ends) <= 3 or end is None or step == 0:
             raise Wrong(f"{word.text} is not a range of pages {'of the area' if area else 'from an address'}", word.column)
+        if area and end > area.pages:
+            raise Wrong(f"{word.text} ends past the last page: {pages_told(word, area)}", word.column)
         return range(first or 0, max(end, first or 0), step or 1), False
 
-    def addresses(self, word):
+    def addresses(self, word, pid=None):
         """The addresses of a place, at most as many as a batch may have."""
-        pages = self.place(word)
+        pages = self.place(word, pid)
         if count(pages) > MOST_ENTRIES:
             raise Wrong(f"{word.text} is {counted(count(pages), 'page')}, and a batch has at most {MOST_ENTRIES:,}", word.column)
         return [pages.address + number * PAGE for number in pages.numbers]
 
-    def stretch(self, word):
+    def stretch(self, word, pid=None):
         """The first address and the number of pages of a place without gaps."""
-        pages = self.place(word)
+        pages = self.place(word, pid)
         if pages.numbers.step != 1:
             raise Wrong(f"{word.text} has gaps, where adjacent pages are expected", word.column)
         return pages.address + pages.numbers.start * PAGE, count(pages)
+
+
+def pages_told(word, area):
+    """How many pages an area has, for a fault."""
+    name = word.text.partition("[")[0]
+    return f"{name} has {counted(area.pages, 'page')}" + (f", {name}[0] to {name}[{area.pages - 1}]" if area.pages > 1 else f", {name}[0]" if area.pages else "")
 
 
 def count(pages):
@@ -245,13 +279,20 @@ def count(pages):
     return max(0, -(-(numbers.stop - numbers.start) // numbers.step))
 
 
+def text_of(word):
+    """What a text in quotes says."""
+    try:
+        text = json.loads(word.text)
+        text.encode()
+        return text
+    except ValueError:
+        raise Wrong(f"{word.text} is not a valid text", word.column) from None
+
+
 def data_of(word):
     """Bytes as hexadecimal digits: they stand for themselves, and a text for its UTF-8."""
     if word.text.startswith('"'):
-        try:
-            return json.loads(word.text).encode().hex()
-        except ValueError:
-            raise Wrong(f"{word.text} is not a valid text", word.column) from None
+        return text_of(word).encode().hex()
     if not re.fullmatch("(?:[0-9A-Fa-f]{2})+", word.text):
         raise Wrong(f"{word.text} is neither a text in quotes nor an even number of hexadecimal digits", word.column)
     return word.text

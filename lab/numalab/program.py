@@ -10,6 +10,10 @@ from .traces import Bad
 
 HERE = os.path.dirname(os.path.abspath(__file__))
 CRATES = os.path.join(os.path.dirname(os.path.dirname(HERE)), "crates")
+# Where ./install puts this module, under its prefix.
+INSTALLED = "/lib/numatrace/lab/numalab"
+# The program for sessions: its name, its command, and the variable that names it.
+SESSION = ("numatrace_session", "numatrace-session", "NUMATRACE_SESSION")
 
 
 class Failed(RuntimeError):
@@ -21,18 +25,20 @@ def usable(path):
 
 
 def found(asked=None, name="numatrace", command="numatrace", variable="NUMATRACE"):
-    """The path of a program: the one that is asked for, that of the variable, the one that this repository has built, or the
-    command on the PATH."""
+    """The path of a program: the one that is asked for, that of the variable, the one that this repository has built or that was
+    installed with this module, or the command on the PATH."""
     for named in (asked, os.environ.get(variable)):
         if named:
             if not usable(named):
                 raise Bad(f"there is no program {named}")
             return os.path.abspath(named)
-    built = os.path.join(CRATES, name, "out", name)
-    path = built if usable(built) else shutil.which(command)
+    near = [os.path.join(CRATES, name, "out", name)]
+    if HERE.endswith(INSTALLED):
+        near.append(os.path.join(HERE[: -len(INSTALLED)], "bin", command))
+    path = next(filter(usable, near), None) or shutil.which(command)
     if path is None:
-        word = "--program PATH" if name == "numatrace" else "program="
-        raise Bad(f"there is no program {name}: ./build makes it, and {word} or the variable {variable} names another")
+        alone, word = ("", "--program PATH") if name == "numatrace" else (" (the first call of ./numatrace does not)", "program=")
+        raise Bad(f"there is no program {name}: ./build makes it{alone}, and {word} or the variable {variable} names another")
     return path
 
 

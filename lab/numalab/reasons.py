@@ -4,15 +4,17 @@ The model is not the program, and nothing of it is proved: its reasons count onl
 from collections import namedtuple
 
 from . import model
+from .names import Names
 from .refusals import refusal
-from .words import PAGE, counted, status_text
+from .words import FLAGS, PAGE, counted, status_text
 
 ZERO = model.ZERO
 ORDINALS = ["first", "second", "third", "fourth", "fifth", "sixth", "seventh", "eighth"]
 MOST_NAMED = 4
 
-# What a reason is about: the step (None), an entry of its batch (its index), or an access in flight (its index, as text).
-Reason = namedtuple("Reason", "about text")
+# What a reason is about: the step (None), an entry of its batch (its index), or an access in flight (its index, as text); its text; and
+# for the pages of a call that names no entries the place, as a process and an address, with the rest of the text.
+Reason = namedtuple("Reason", "about text place rest")
 
 
 def ordinal(place):
@@ -32,6 +34,7 @@ class Explained(model.Machine):
         super().__init__(trace)
         self.wordy = wordy  # whether statuses and accesses have reasons as well, and not only refusals
         self.ended, self.seers, self.reasons, self.step = set(), None, [], None
+        self.names = Names(trace)
         self.entry = self.flight = None
 
     def explain(self, step):
@@ -43,17 +46,20 @@ class Explained(model.Machine):
         answer = lines[0].split(" ", 2)[2]
         if answer.startswith("error "):
             self.refused(None, step, answer[6:])
-        elif alive:
-            self.ended.add(step["pid"])
+        else:
+            self.names.made(step)
+            if alive:
+                self.ended.add(step["pid"])
         return lines, self.reasons
 
     def tell(self, about, text):
         if self.wordy:
-            self.reasons.append(Reason(about, text))
+            self.reasons.append(Reason(about, text, None, text))
 
     def refused(self, about, step, error):
         found, text = refusal(self, step)
-        self.reasons.append(Reason(about, text if found == error else f"(the rules known here say {found}: {text})"))
+        text = text if found == error else f"(the rules known here say {found}: {text})"
+        self.reasons.append(Reason(about, text, None, text))
 
     # ---- texts
 
@@ -71,9 +77,13 @@ class Explained(model.Machine):
     def page_text(self, page):
         """A page by where it is seen first, and why it may stay."""
         pins = self.pins.get(page, 0)
-        where = next((f"{number * PAGE:#x} of process {pid}" for pid, process in sorted(self.processes.items())
+        where = next((f"{self.names.place(pid, number * PAGE)} of {self.names.process_text(pid)}" for pid, process in sorted(self.processes.items())
                       for number, seen in sorted(process.seen.items()) if seen == page), f"page {page[1]} of segment {page[0]}")
         return where + (" is pinned" if pins else " found no free frame")
+
+    def node_text(self, page):
+        """The node that a page is on."""
+        return self.names.node_text(self.node(page))
 
     def asked_text(self, step):
         """The policy that mbind asks for."""
@@ -106,7 +116,7 @@ class Explained(model.Machine):
         before = process.seen.get(number)
         if before not in (None, ZERO):
             page = super().touch(process, area, number, write)
-            self.tell_access(f"the page is in frame {self.place[page]}, on node {self.node(page)}")
+            self.tell_access(f"the page is in frame {self.place[page]}, on {self.node_text(page)}")
             return page
         had = area.page(number) in self.place
         page = super().touch(process, area, number, write)
@@ -114,7 +124,7 @@ class Explained(model.Machine):
         if page == ZERO:
             self.tell_access("the page of zeros: private memory that was never written")
         elif had and self.segments[area.segment].shared:
-            self.tell_access(f"page {page[1]} of segment {page[0]} was touched before: it is in frame {self.place[page]}, on node {self.node(page)}")
+            self.tell_access(f"page {page[1]} of segment {page[0]} was touched before: it is in frame {self.place[page]}, on {self.node_text(page)}")
         return page
 
     def take_frame(self, process, policy, page):
@@ -123,7 +133,7 @@ class Explained(model.Machine):
         super().take_frame(process, policy, page)
         node = self.node(page)
         place, full = order.index(node), full[: order.index(node)]
-        text = f"a new page, frame {self.place[page]}: node {node}, {ordinal(place)} in {self.order_text(process, policy, order)}"
+        text = f"a new page, frame {self.place[page]}: {self.names.node_text(node)}, {ordinal(place)} in {self.order_text(process, policy, order)}"
         self.tell_access(text + (f"; {joined(full)} {'is' if len(full) == 1 else 'are'} full" if full else ""))
 
     def tell_access(self, text):
@@ -151,10 +161,12 @@ class Explained(model.Machine):
         frame = self.place.get(at)
         status = super().status_of_number(run, pid, number, target, everyone)
         if self.wordy:
-            own = self.step["op"] == "move_pages"
             text = self.why_status(pid, number, target, status, frame, len(run))
-            about, head = (self.entry, "") if own else (None, f"{number * PAGE:#x} to {target}: {status_text(status)}: ")
-            self.reasons.append(Reason(about, head + text))
+            if self.step["op"] == "move_pages":
+                self.tell(self.entry, text)
+            else:
+                rest = f"to {self.names.node_number(target)}: {status_text(status)}: {text}"
+                self.reasons.append(Reason(None, f"{self.names.place(pid, number * PAGE)} {rest}", (pid, number * PAGE), rest))
         self.entry += 1
         return status
 
@@ -170,14 +182,17 @@ class Explained(model.Machine):
         page = self.processes[pid].seen[number]
         if status == -13:
             others = sorted(self.sharers(page) - {pid})
-            return f"process {others[0]} sees it too" if len(others) == 1 else f"processes {joined(others[:MOST_NAMED])} see it too"
+            if len(others) == 1:
+                return f"{self.names.process_text(others[0])} sees it too"
+            return f"processes {joined(self.names.process(one) for one in others[:MOST_NAMED])} see it too"
         if status == -16:
             return f"it has {self.pins[page]} pin" + ("s" if self.pins[page] > 1 else "")
         if status == -12:
-            return f"node {target} has no free frame" + (f" left: its run took {counted(taken, 'frame')}" if taken else "")
+            return f"{self.names.node_text(target)} has no free frame" + (f" left: its run took {counted(taken, 'frame')}" if taken else "")
         if self.place[page] == frame:
             return f"it is already there, in frame {frame}"
-        return f"it moved from frame {frame} on node {self.owner[frame]} to frame {self.place[page]}, the front of node {target}'s list"
+        return (f"it moved from frame {frame} on {self.names.node_text(self.owner[frame])} to frame {self.place[page]}, "
+                f"the front of node {target}'s list")
 
     def query(self, step):
         lines = super().query(step)
@@ -194,8 +209,20 @@ class Explained(model.Machine):
         if self.wordy:
             process = self.processes[step["pid"] or step["caller"]]
             told = model.pairs(set(step["old"]), self.usable(step["new"], process))
-            pairs = ", then ".join(f"{source} to {target}" for source, target in told) or "none"
-            self.reasons.insert(0, Reason(None, f"pairs of nodes: {pairs}"))
+            number = self.names.node_number
+            text = "pairs of nodes: " + (", then ".join(f"{number(source)} to {number(target)}" for source, target in told) or "none")
+            self.reasons.insert(0, Reason(None, text, None, text))
+        return answer
+
+    def mbind(self, step):
+        answer = super().mbind(step)
+        if self.wordy and step["flags"] & model.STRICT and step["len"]:
+            process, first = self.processes[step["caller"]], step["addr"] // PAGE
+            seen = process.pages_seen(first, first + (step["len"] + PAGE - 1) // PAGE)
+            late = " after the moves" if step["flags"] & (model.MOVE | model.MOVE_ALL) else ""
+            text = f"all {counted(len(seen), 'page')} that the process sees there follow" if len(seen) > 1 else "the one page that the process sees there follows"
+            self.tell(None, f"{FLAGS[model.STRICT]}: {text} {self.asked_text(step)}{late}" if seen else
+                      f"{FLAGS[model.STRICT]}: the process sees no page there that could be elsewhere")
         return answer
 
     def offline(self, step):
@@ -208,7 +235,7 @@ class Explained(model.Machine):
             for page in listed:
                 if self.place[page] != before[page]:
                     self.tell(None, f"page {page[1]} of segment {page[0]}: frame {before[page]} to frame {self.place[page]}, "
-                                    f"on node {self.node(page)}")
+                                    f"on {self.node_text(page)}")
 
 
 def explained(top, progress=None, wordy=True):
@@ -220,12 +247,33 @@ def explained(top, progress=None, wordy=True):
         yield machine.explain(step)
 
 
+class Beside:
+    """The plain model beside a program that plays the same steps: their reasons, as long as both say the same."""
+
+    def __init__(self, top):
+        self.machine, self.told = Explained(top), []
+
+    def reasons(self, steps, lines, number):
+        """The reasons of a step, or None where the model says other lines up to it."""
+        while self.told is not None and len(self.told) <= number:
+            own, reasons = self.machine.explain(steps[len(self.told)])
+            if own != lines[len(self.told)]:
+                self.told = None
+            else:
+                self.told.append(reasons)
+        return self.told and self.told[number]
+
+
+def refusal_text(what, name, text):
+    return f"{what} is refused, {name}: {text}"
+
+
 def hints(top, progress=None):
     """For each step that the model refuses, and each such access in flight: the number, what it is about, and why."""
     for k, (lines, reasons) in enumerate(explained(top, progress, False)):
         if reasons:
             errors = {None: lines[0], **{line.split(" ")[0].split(".")[1]: line for line in lines[1:] if "." in line.split(" ")[0]}}
-            for about, text in reasons:
+            for about, text, *_ in reasons:
                 name = errors[about].rsplit(" ", 1)[1]
                 what = top["steps"][k]["op"] if about is None else f"access {about} in flight"
-                yield k, about, f"{what} is refused, {name}: {text}"
+                yield k, about, refusal_text(what, name, text)

@@ -11,7 +11,8 @@ LAST = END * PAGE - 1
 
 def no_process(machine, pid, who="pid"):
     """That there is no such process."""
-    told = f"{who} 0 is not a process" if pid == 0 else f"process {pid} has ended" if pid in machine.ended else f"{who} {pid} was never spawned"
+    ended = pid in machine.ended
+    told = f"{who} 0 is not a process" if pid == 0 else f"{machine.names.process_text(pid)} has ended" if ended else f"{who} {pid} was never spawned"
     return "ESRCH", pid not in machine.processes, told
 
 
@@ -64,32 +65,33 @@ def attach(machine, step):
     yield "EINVAL", end > segment.pages, f"segment {number} has {counted(segment.pages, 'page')}, and the area would need {end:,}"
 
 
-def pinned(machine, process, first, end):
+def pinned(machine, pid, first, end):
+    process = machine.processes[pid]
     for page in [page for page, count in machine.pins.items() if count]:
         numbers = [area.number_of(page) for area in process.areas]
         inside = [number for number in numbers if number is not None and first <= number < end]
-        yield "EBUSY", bool(inside), f"the page at {min(inside, default=0) * PAGE:#x} is pinned"
+        yield "EBUSY", bool(inside), f"the page at {machine.names.place(pid, min(inside, default=0) * PAGE)} is pinned"
 
 
 def unmap(machine, step):
     yield no_process(machine, step["pid"])
     yield from whole_pages(step)
     first = step["addr"] // PAGE
-    yield from pinned(machine, machine.processes[step["pid"]], first, first + step["pages"])
+    yield from pinned(machine, step["pid"], first, first + step["pages"])
 
 
 def exit_(machine, step):
     yield no_process(machine, step["pid"])
-    yield from pinned(machine, machine.processes[step["pid"]], 0, END)
+    yield from pinned(machine, step["pid"], 0, END)
 
 
 def page_to_pin(machine, step):
     yield no_process(machine, step["pid"])
     process, number = machine.processes[step["pid"]], step["addr"] // PAGE
     yield no_area(process, number)
-    page = process.seen.get(number)
-    yield "EFAULT", page == ZERO, f"{number * PAGE:#x} is the page of zeros: it was read but never written"
-    yield "ENOENT", page is None, f"nothing has been touched at {number * PAGE:#x}"
+    page, place = process.seen.get(number), machine.names.place(step["pid"], number * PAGE)
+    yield "EFAULT", page == ZERO, f"{place} is the page of zeros: it was read but never written"
+    yield "ENOENT", page is None, f"nothing has been touched at {place}"
 
 
 def pin(machine, step):
@@ -99,7 +101,7 @@ def pin(machine, step):
 
 def unpin(machine, step):
     yield from page_to_pin(machine, step)
-    yield "EINVAL", True, f"the page at {step['addr'] // PAGE * PAGE:#x} has no pin"
+    yield "EINVAL", True, f"the page at {machine.names.place(step['pid'], step['addr'] // PAGE * PAGE)} has no pin"
 
 
 def access(machine, step):
@@ -122,12 +124,12 @@ def rights(machine, step):
     yield no_process(machine, pid)
     owner = machine.processes[pid]
     yield ("EPERM", owner.user != caller.user and not caller.privileged,
-           f"process {pid} belongs to user {owner.user}, and the caller belongs to user {caller.user} and is not privileged")
+           f"{machine.names.process_text(pid)} belongs to user {owner.user}, and the caller belongs to user {caller.user} and is not privileged")
 
 
 def unprivileged(machine, step):
     not_allowed = step["flags"] & MOVE_ALL and not machine.processes[step["caller"]].privileged
-    return "EPERM", bool(not_allowed), f"{FLAGS[MOVE_ALL]} is only for privileged callers, and process {step['caller']} is not one"
+    return "EPERM", bool(not_allowed), f"{FLAGS[MOVE_ALL]} is only for privileged callers, and {machine.names.process_text(step['caller'])} is not one"
 
 
 def query(machine, step):
@@ -145,9 +147,9 @@ def move_pages(machine, step):
     pid = step["pid"] or step["caller"]
     allowed = machine.processes[pid].allowed
     for place, node in enumerate(step["nodes"]):
-        absent = f"node {node} is offline" if node in machine.nodes else no_node(machine, node)[2]
+        absent = f"{machine.names.node_text(node)} is offline" if node in machine.nodes else no_node(machine, node)[2]
         yield "ENODEV", node not in machine.online, f"entry {place}: {absent}"
-        yield "EACCES", node not in allowed, f"entry {place}: process {pid} may not use node {node} (it may use {nodes_text(sorted(allowed))})"
+        yield "EACCES", node not in allowed, f"entry {place}: {machine.names.process_text(pid)} may not use {machine.names.node_text(node)} (it may use {nodes_text(sorted(allowed))})"
 
 
 def migrate_pages(machine, step):
@@ -160,8 +162,8 @@ def migrate_pages(machine, step):
     others = sorted(set(step["new"]) - allowed)
     which = f"node{'s' if len(others) > 1 else ''} {nodes_text(others)}"
     yield ("EPERM", bool(others) and not caller.privileged,
-           f"process {pid} may not use {which} (it may use {nodes_text(sorted(allowed))}), and the caller is not privileged")
-    yield "EINVAL", True, f"none of the new nodes ({nodes_text(sorted(set(step['new'])))}) is online and allowed for process {pid}"
+           f"{machine.names.process_text(pid)} may not use {which} (it may use {nodes_text(sorted(allowed))}), and the caller is not privileged")
+    yield "EINVAL", True, f"none of the new nodes ({nodes_text(sorted(set(step['new'])))}) is online and allowed for {machine.names.process_text(pid)}"
 
 
 def policy(machine, step):
@@ -176,7 +178,7 @@ def policy(machine, step):
     for node in nodes:
         yield no_node(machine, node)
     kept = machine.usable(nodes, process)
-    yield "EINVAL", bool(nodes) and not kept, f"none of the nodes ({nodes_text(sorted(set(nodes)))}) is online and allowed for process {step['caller']}"
+    yield "EINVAL", bool(nodes) and not kept, f"none of the nodes ({nodes_text(sorted(set(nodes)))}) is online and allowed for {machine.names.process_text(step['caller'])}"
     yield unprivileged(machine, step)
 
 
@@ -192,7 +194,7 @@ def mbind(machine, step):
     strays = machine.strays(step, first, end)
     late = " after the moves" if step["flags"] & (MOVE | MOVE_ALL) else ""
     yield "EIO", bool(strays), f"{FLAGS[STRICT]}: not all pages follow {machine.asked_text(step)}{late}: " + machine.some(
-        strays, lambda stray: f"{stray[0] * PAGE:#x} is on node {machine.node(stray[1])}")
+        strays, lambda stray: f"{machine.names.place(step['caller'], stray[0] * PAGE)} is on {machine.node_text(stray[1])}")
 
 
 def first_hole(process, first, end):
@@ -206,9 +208,9 @@ def first_hole(process, first, end):
 def offline(machine, step):
     node = step["node"]
     yield no_node(machine, node)
-    yield "EBUSY", machine.online == {node}, f"node {node} is the only one online"
+    yield "EBUSY", machine.online == {node}, f"{machine.names.node_text(node)} is the only one online"
     stay = [page for page in sorted(machine.place) if machine.node(page) == node]
-    yield "EBUSY", True, f"{counted(len(stay), 'page')} of node {node} {'stays' if len(stay) == 1 else 'stay'}: {machine.some(stay, machine.page_text)}"
+    yield "EBUSY", True, f"{counted(len(stay), 'page')} of {machine.names.node_text(node)} {'stays' if len(stay) == 1 else 'stay'}: {machine.some(stay, machine.page_text)}"
 
 
 def node_alone(machine, step):

@@ -3,7 +3,9 @@ import re
 from collections import namedtuple
 
 from .faults import Form
+from .names import Names
 from .traces import Bad
+from .words import PAGE
 
 LINE = re.compile(r"(0|[1-9][0-9]*) ([a-z_]+) (.*)")
 # The line of an access in flight: its step, its number, and what it answers.
@@ -86,7 +88,9 @@ class Layout:
     """What a trace says beyond its report."""
 
     def __init__(self, top):
-        self.steps, self.ranges = top["steps"], node_ranges(top)
+        self.steps, self.ranges, self.names = top["steps"], node_ranges(top), Names(top)
+        for step in self.steps:
+            self.names.made(step)
 
     def check(self, lines):
         """Refuses the report of another trace, as far as the names of steps show it."""
@@ -113,6 +117,13 @@ class Moment:
         self.lists = []  # for each list of free frames that is not empty, its lowest and its highest frame
         self.nodes = set()  # the nodes whose list is shown, where they are known
         self.counts = {}  # by node, where nodes are known: how many pages of each process numa_maps shows
+        self.offline = set()  # the nodes that are offline, where nodes are known
+        self.pinned = set()  # the frames of pages with a pin, as far as it was taken where the page is shown
+
+    def sees(self, kept):
+        """Notes what is kept from looks before: nodes that are offline, and pins."""
+        self.offline = set(kept.offline)
+        self.pinned |= {frame for frame, pages in self.held.items() if any(kept.pins.get(page[:2]) for page in pages)}
 
     def add_free(self, k, number, answer, machine):
         node = machine and machine.steps[k]["node"]
@@ -154,11 +165,30 @@ class Moment:
                 told[machine.steps[k]["pid"]] = told.get(machine.steps[k]["pid"], 0) + int(count)
 
 
+class Kept:
+    """What steps that look at no frame leave: nodes that are offline, and pins by process and page number."""
+
+    def __init__(self):
+        self.offline, self.pins = set(), {}
+
+    def add(self, step):
+        op = step["op"]
+        if op == "offline":
+            self.offline.add(step["node"])
+        elif op == "online":
+            self.offline.discard(step["node"])
+        elif op in ("pin", "unpin"):
+            page = (step["pid"], step["addr"] // PAGE)
+            self.pins[page] = self.pins.get(page, 0) + (1 if op == "pin" else -1)
+
+
 def moments_of(lines, machine):
     """The moments at which a report shows something."""
-    found, now = [], Moment(None)
+    found, now, kept = [], Moment(None), Kept()
     for k, line in enumerate(lines):
         refused = is_refused(line)
+        if machine and not refused:
+            kept.add(machine.steps[k])
         if line.op == "free" and not refused:
             now.add_free(k, line.number, line.answer, machine)
         elif line.op == "pagemap" and not refused:
@@ -168,14 +198,14 @@ def moments_of(lines, machine):
         elif line.op not in KEEPS and (not refused or (line.op, line.answer) in LATE):
             found.append(now)
             now = Moment((k, line.op), line.flight)
+        if now.steps and now.steps[-1] == k:
+            now.sees(kept)
     found = [moment for moment in found + [now] if moment.steps]
     for moment in found:
         both = sorted(set(moment.free) & set(moment.held))
         if both:
             raise Bad(f"steps {moment.steps[0]} to {moment.steps[-1]}: frame {both[0]} is both free and held")
     return found
-
-
 
 
 def read_report(data, name):

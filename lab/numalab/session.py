@@ -6,16 +6,33 @@
             print(line)
 
 A reply is the step's lines of the report, so a script can choose its next step by them. What is no step is a Fault, and the
-session goes on as it was. Nothing of this module is proved."""
+session goes on as it was. This is the thin layer under `Machine`, whose calls are methods and whose answers are values. Nothing
+of this module is proved."""
 import json
+import os
 import subprocess
+import weakref
+from contextlib import AbstractContextManager
 
-from .program import Failed, found
+from .program import SESSION, Failed, found
 from .traces import Bad
+
+# A block of steps is at most as long as what any pipe takes at once: while it is written, nobody has to read the replies.
+BLOCK = 4096
 
 
 class Fault(Bad):
     """What the program says of something that is no step. It has changed nothing."""
+
+
+def line_of(call):
+    """A step as the program reads it."""
+    return (json.dumps(call) + "\n").encode()
+
+
+def told(lines):
+    """The lines of a reply, or a Fault where they are one."""
+    return Fault(lines[0][len("fault: "):]) if lines and lines[0].startswith("fault: ") else lines
 
 
 def read_reply(stream):
@@ -30,31 +47,61 @@ def read_reply(stream):
 
 def failure(path, process):
     """Waits for the end of a program, and returns what it means as an error."""
-    told = process.communicate()[1].decode("utf-8", "replace").strip()
-    told = told.split("\n", maxsplit=1)[0] or "it says nothing"
-    return Bad(told) if process.returncode == 2 else Failed(f"{path} has ended: {told} (status {process.returncode})")
+    said = process.communicate()[1].decode("utf-8", "replace").strip()
+    said = said.split("\n", maxsplit=1)[0] or "it says nothing"
+    return Bad(said) if process.returncode == 2 else Failed(f"{path} has ended: {said} (status {process.returncode})")
 
 
-class Session:
+def ended(process, owner):
+    """Ends a program that nobody will ask any more, unless this is a copy of the process that started it."""
+    if os.getpid() != owner:
+        return
+    if process.poll() is None:
+        process.kill()
+    process.communicate()
+
+
+def blocks_of(lines):
+    """Lines in blocks, each of them short, or a single line."""
+    block, size = [], 0
+    for line in lines:
+        if block and size + len(line) > BLOCK:
+            yield block
+            block, size = [], 0
+        block.append(line)
+        size += len(line)
+    if block:
+        yield block
+
+
+class Session(AbstractContextManager):
     """A machine, and the steps that are made on it. `top` is a trace, whose steps are not played; `program` is the path of
     numatrace_session, where it is not the one in this repository or on the PATH."""
 
     def __init__(self, top, program=None):
         line = json.dumps(top)
-        self._path = found(program, "numatrace_session", "numatrace-session", "NUMATRACE_SESSION")
+        self._path = found(program, *SESSION)
         try:
             self._process = subprocess.Popen([self._path], stdin=subprocess.PIPE, stdout=subprocess.PIPE, stderr=subprocess.PIPE)
         except OSError as error:
             raise Failed(f"{self._path}: {error.strerror}") from error
+        self._at_end = weakref.finalize(self, ended, self._process, os.getpid())
         # A good top has no reply. An empty line is no step and changes nothing, but is replied to.
-        self._reply(line, "")
+        self._replies((line + "\n\n").encode(), 1)
 
     def step(self, call):
         """Makes a step, and returns its lines of the report."""
-        lines = self._reply(json.dumps(call))
-        if lines and lines[0].startswith("fault: "):
-            raise Fault(lines[0][len("fault: "):])
-        return lines
+        reply = told(*self._replies(line_of(call), 1))
+        if type(reply) is Fault:
+            raise reply
+        return reply
+
+    def steps(self, calls):
+        """Makes several steps, which are sent in blocks, and returns for each its lines, or a Fault where it is none."""
+        replies = []
+        for block in blocks_of(map(line_of, calls)):
+            replies += self._replies(b"".join(block), len(block))
+        return [told(lines) for lines in replies]
 
     def close(self):
         """Ends the program. A session that has ended stays so."""
@@ -64,9 +111,6 @@ class Session:
             if process.returncode:
                 raise error
 
-    def __enter__(self):
-        return self
-
     def __exit__(self, kind, *_):
         try:
             self.close()
@@ -74,23 +118,30 @@ class Session:
             if kind is None:  # Another error comes first.
                 raise
 
-    def _reply(self, *lines):
-        """Sends lines, and returns the reply to the last of them."""
+    def check(self):
+        """Refuses to go on where the session has ended."""
         if self._process is None:
             raise Failed("the session has ended")
-        # It ends if the reply is not read to its end, as what is left would be taken for the next one.
+
+    def _replies(self, data, count):
+        """Sends lines, and returns that many replies."""
+        self.check()
+        # It ends if the replies are not read to their end, as what is left would be taken for the next one.
         process, self._process = self._process, None
+        replies = []
         try:
-            process.stdin.write("".join(line + "\n" for line in lines).encode())
+            process.stdin.write(data)
             process.stdin.flush()
-            reply = read_reply(process.stdout)
+            while len(replies) < count:
+                replies.append(read_reply(process.stdout))
+                if replies[-1] is None:
+                    raise failure(self._path, process)
         except BrokenPipeError:
-            reply = None
-        except BaseException:
-            process.kill()
-            process.communicate()
+            raise failure(self._path, process) from None
+        except (Bad, Failed):
             raise
-        if reply is None:
-            raise failure(self._path, process)
+        except BaseException:
+            ended(process, os.getpid())
+            raise
         self._process = process
-        return reply
+        return replies

@@ -49,6 +49,12 @@ def json_text(top):
     return f'{front}{"," if head else ""}"steps":[\n{steps}]}}\n'
 
 
+def left_out_of(top):
+    """What a recorded trace says that it leaves out of what the program did."""
+    told = top.get("left_out") if isinstance(top, dict) else None
+    return [what for what in told if isinstance(what, str)] if isinstance(told, list) else []
+
+
 class Trace:
     """A trace: its name, its bytes as JSON, and their value once it is needed."""
 
@@ -73,18 +79,23 @@ class Trace:
         return self
 
 
-def is_notation(path):
-    return path.endswith(".nt")
+def is_notation(path, data=b""):
+    """Whether a file is in the notation: by the ending of its name, or on standard input by its first letter."""
+    return path.endswith(".nt") or path == "-" and (data.lstrip()[:1].isalpha() or data.lstrip()[:1] == b"#")
+
+
+def looks_like_json(data):
+    return data.lstrip()[:1] in (b"{", b"[")
 
 
 def looks_like_trace(path, data):
     """Whether a file is a trace, and not a report: a report begins with a digit."""
-    return is_notation(path) or data.lstrip()[:1] in (b"{", b"[")
+    return is_notation(path, data) or looks_like_json(data)
 
 
 def trace_of(path, data):
     """The trace of the bytes of a file. JSON is not parsed yet."""
-    if not is_notation(path):
+    if not is_notation(path, data):
         return Trace(path, data)
     from .translate import trace_from  # It imports this module.
     top = trace_from(data, path)

@@ -1,9 +1,11 @@
 """From a file in the notation to a trace: lines, blocks and faults."""
 from .faults import MOST_BYTES, machine_faults
-from .notation import NAME, Words, Wrong, guessed
+from .names import NAME
+from .notation import Words, Wrong, guessed
 from .progress import Progress
 from .statements import BLOCKS, MACHINE, STEPS, Translation
 from .traces import Bad
+from .words import left_out_text
 
 MOST_FAULTS, MOST_TIMES = 100, 1 << 22
 
@@ -96,7 +98,9 @@ class File:
         elif word.text in MACHINE:
             MACHINE[word.text](self.made, words)
         else:
-            raise Wrong(f"{word.text} is not a statement{guessed(word.text, [*STEPS, *MACHINE, *BLOCKS])}", word.column)
+            left_out = left_out_text(word.text)
+            why = f": {left_out}" if left_out else guessed(word.text, [*STEPS, *MACHINE, *BLOCKS])
+            raise Wrong(f"{word.text} is not a statement{why}", word.column)
 
     def flights(self, at):
         """The accesses in flight of a block."""

@@ -7,6 +7,22 @@ MODES = ["MPOL_DEFAULT", "MPOL_PREFERRED", "MPOL_BIND", "MPOL_INTERLEAVE", "MPOL
 ERRORS = {1: "EPERM", 2: "ENOENT", 3: "ESRCH", 5: "EIO", 12: "ENOMEM", 13: "EACCES", 14: "EFAULT", 16: "EBUSY", 19: "ENODEV",
           22: "EINVAL"}
 PAGE = 4096
+# What people ask for and the model leaves out, by the words that they use.
+LEFT_OUT = {
+    **dict.fromkeys(("set_mempolicy", "get_mempolicy", "set_mempolicy_home_node"), "the policy of a process"),
+    **dict.fromkeys(("fork", "vfork", "clone"), "fork and copy on write"),
+    **dict.fromkeys(("mremap", "mprotect", "madvise", "mlock", "brk"), "changes of areas other than map, attach and unmap"),
+    **dict.fromkeys(("hugepage", "hugepages", "huge", "thp", "hugetlb"), "huge pages"),
+    **dict.fromkeys(("swap", "swapon", "swapoff"), "swap"),
+    **dict.fromkeys(("file", "open", "shm_open"), "files"),
+}
+
+
+def left_out_text(word):
+    """That the model leaves out what a word asks for, or None."""
+    what = LEFT_OUT.get(word.lower()) if isinstance(word, str) else None
+    return what and f"the model leaves out {what}: docs/LINUX.md, 'Left out'"
+
 
 
 def elements(values):

@@ -222,6 +222,50 @@ class Page(Case):
         self.assertTrue(state["plot"].startswith("Heat map of nodes by steps: after step 504, 500 of 1536"))
         self.assertLessEqual(browser.value("document.body.scrollWidth"), 1200)
 
+    def drawn(self, text, at=""):
+        """The page of a file in the notation, with the plain model's report."""
+        self.written("x.nt", text)
+        report = self.written("x.report", model.report(trace_from(text.encode(), "x.nt")))
+        return self.page(at, os.path.join(self.there, "x.nt"), report)
+
+    def test_axis(self):
+        browser = self.drawn('nodes 2x600\nspawn p\nmap p A 1000\nwrite p A 61\nrepeat 3 as i\nnote "turn {i}"\nmove_pages p A[i] to 1\nlook\nend\nnote "over"\n')
+        marks = "JSON.stringify([...document.querySelectorAll('#marks option')].map(one => [Number(one.value), one.textContent]))"
+        # 1,002 steps, and then three turns of a move and a look of four, which shows what the move has left: at 1,003, 1,008 and 1,013.
+        self.assertEqual(browser.value("JSON.stringify(anchors)"), "[0,1002,1003,1007,1008,1012,1013,1017]")
+        state = browser.state()
+        self.assertEqual((browser.value("by('axis').value"), state["slider"]), ("looks", "7"))
+        self.assertEqual(json.loads(browser.value(marks)), [[1, "turn 0"], [3, "turn 1"], [5, "turn 2"], [7, "over"]])
+        self.assertEqual(browser.value("[0, 1002, 1003, 1017].map(share).join()"), "0,0.14285714285714285,0.2857142857142857,1")
+        self.assertEqual(browser.value("[0, 1 / 14, 1 / 7, 1].map(stepAt).join()"), "0,501,1002,1017")
+        browser.value("by('slider').value = 3; by('slider').dispatchEvent(new Event('input'))")
+        self.assertEqual((browser.value("now"), browser.value("by('section').textContent")), (1007, "turn 0"))
+        self.choose(browser, "note", "1")
+        self.assertEqual((browser.value("now"), browser.value("by('section').textContent"), browser.state()["slider"]), (1008, "turn 1", "4"))
+        browser.press("End", 35)
+        self.assertEqual(browser.value("by('section').textContent"), "over")
+        self.choose(browser, "axis", "steps")
+        self.assertEqual((browser.state()["slider"], browser.value("by('slider').max"), browser.value("share(1002)")), ("1017", "1017", 1002 / 1017))
+        self.assertEqual(json.loads(browser.value(marks))[0], [1002, "turn 0"])
+
+    def test_names_pins_and_offline(self):
+        browser = self.drawn("nodes 4 + cxl 4\nspawn app\nmap app heap 2\nwrite app heap 61\npin app heap[0]\noffline cxl\nlook\nonline cxl\nunpin app heap[0]\n")
+        browser.value("document.getElementById('listed').open = true")
+        browser.value("show(10)")
+        state = browser.state()
+        self.assertEqual(state["captions"], ["node 0: 2 of 4", "node 1 (cxl): 0 of 4, offline"])
+        self.assertEqual([row[-1] for row in state["table"]], ["pinned", "1", "0"])
+        self.assertEqual(browser.value("frameText(0, 0)"), "frame 0 on node 0: heap[0] (0x10000) of app (process 1); pinned")
+        self.assertEqual(browser.value("frameText(5, 1)"), "frame 5: free, number 2 of node 1's list, but the node is offline")
+        pixels = [browser.value(f"document.querySelectorAll('#nodes canvas')[{node}].getContext('2d').getImageData({x}, 1, 1, 1).data.join()")
+                  for node, x in [(0, 31), (0, 65), (1, 31)]]
+        self.assertEqual(pixels[0], "122,31,162,255")
+        self.assertEqual(len(set(pixels)), 3)
+        self.assertEqual(browser.value("[...by('process').options].map(one => one.textContent).join()"), "all,app (1)")
+        browser.press("End", 35)
+        self.assertEqual(browser.state()["captions"][1], "node 1 (cxl): 0 of 4")
+        self.assertEqual([row[-1] for row in browser.state()["table"]], ["pinned", "0", "0"])
+
     def test_nothing_to_show(self):
         state = self.page("", self.written("empty.nt", "nodes 2x4\n"), self.written("empty.report", "")).state()
         self.assertEqual((state["told"], state["captions"]), ("before the first step", ["node 0: 0 of 4", "node 1: 0 of 4"]))

@@ -1,116 +1,129 @@
-"""The module: calls as methods, answers, errors, and what is saved."""
-import errno
-import json
+"""The machine in Python beside the programs: drawn traces call by call, how long calls take, and what the manual shows."""
 import os
 import re
 import shutil
 import subprocess
 import sys
 import textwrap
+import time
 import unittest
 from unittest import mock
 
-from support import COMMAND, ROOT, Case, built, needs_program, read
-from numalab import Machine
-from numalab import machine as module
-from numalab.traces import load
+from support import COMMAND, ROOT, Case, built, loaded, needs_both, read
+from numalab import Machine, Refused, program
+from numalab.machine import Process
+from numalab.traces import Trace, json_text, load
+
+TRACES, CALLS, MOST_SECONDS = 2000, 10000, 1.0
+TRIES, MOST_WAIT = 8, 600
 
 
-@needs_program
-class Calls(Case):
-    """Machines, with the program."""
+class Calls:
+    """Makes the steps of a trace by the methods of a machine. Processes that were never spawned are named as well."""
 
-    def three_pages(self):
-        m = Machine(nodes=[4, 4])
-        p = m.spawn(home=0, uid=100)
-        a = p.map(pages=3)
-        for address, byte in zip(a, (b"a", b"b", b"c")):
-            p.write(address, byte)
-        return m, p, a
+    def __init__(self, machine):
+        self.machine, self.alive = machine, {}
 
-    def test_three_pages(self):
-        m, p, a = self.three_pages()
-        moved = m.move_pages(p, a[:], node=1)
-        self.assertEqual((moved.answer, moved.statuses, int(moved)), (0, [1, 1, 1], 0))
-        self.assertEqual([m.free(node).frames for node in (0, 1)], [[3, 0, 1, 2], [7]])
-        self.assertEqual([entry["frame"] for entry in p.pagemap().entries], [4, 5, 6])
-        self.assertEqual(bytes(p.read(a[1], 2)), b"b\0")
-        self.assertEqual(m.report(), read("examples/three_pages.report"))
-        m.save(os.path.join(self.there, "x.json"))
-        m.save(os.path.join(self.there, "x.nt"))
-        steps = [load(os.path.join(self.there, name)).top["steps"] for name in ("x.json", "x.nt")]
-        for one in steps:
-            bare = [{key: value for key, value in step.items() if key != "at"} for step in one]
-            self.assertEqual(bare, json.loads(read("examples/three_pages.json"))["steps"])
-        self.assertIn("played_machine.py:", steps[0][0]["at"])
+    def process(self, pid):
+        return self.alive.get(pid, Process(self.machine, pid, None))
 
-    def test_one_play(self):
-        m, p, a = self.three_pages()
-        with mock.patch.object(module, "played", wraps=module.played) as plays:
-            moved, lists = m.move_pages(p, a, node=1), [m.free(node) for node in (0, 1)]
-            self.assertEqual((moved.statuses, [one.frames for one in lists]), ([1, 1, 1], [[3, 0, 1, 2], [7]]))
-            self.assertEqual(plays.call_count, 1)
+    def make(self, step):
+        keys = {key: value for key, value in step.items() if key not in ("op", "pid")}
+        getattr(self, "make_" + step["op"], self.make_other)(step, keys)
 
-    def test_errors(self):
-        m, p, a = self.three_pages()
-        refused = m.move_pages(p, a, node=7)
-        with self.assertRaises(OSError) as caught:
-            refused.check()
-        self.assertEqual(caught.exception.errno, errno.ENODEV)
-        self.assertIn("move_pages at", str(caught.exception))
-        self.assertEqual(refused.error, "ENODEV")
-        with self.assertRaises(OSError):
-            print(refused.statuses)
-        m.check()
+    def make_spawn(self, step, keys):
+        process = self.machine.spawn(pid=step["pid"], **keys)
+        self.alive[step["pid"]] = process
 
-    def test_no_refusal_is_lost(self):
-        m, p, a = self.three_pages()
-        p.write(0, b"a")
-        later = p.read(a[0])
-        with self.assertRaises(OSError) as caught:
-            bytes(later)
-        self.assertEqual(caught.exception.errno, errno.EFAULT)
-        self.assertEqual(bytes(later), b"a")
-        known = p.write(0, b"a")
-        self.assertEqual((known.error, bytes(p.read(a[0])), p.read(a[0]).error), ("EFAULT", b"a", None))
-        self.assertIn("error EFAULT", m.report())
+    def make_map(self, step, keys):
+        self.process(step["pid"]).map(**keys)
 
-    def test_no_calls(self):
-        m, p, a = self.three_pages()
-        for call, words in [(lambda: p.map(pages=-1), "map: pages is -1: expected"), (lambda: m.free("0"), 'free: node is "0": expected'),
-                            (lambda: m.move_pages(p, a, nodes=[1]), "move_pages: nodes has 1 element: expected 3"),
-                            (lambda: m.move_pages(p, a), "move_pages: nodes[0] is null: expected"),
-                            (lambda: Machine([4, 0]), "machine.nodes[1] is 0: expected"),
-                            (lambda: Machine([4, 4], distance=[[10]]), "machine.distance has 1 row: expected")]:
-            with self.assertRaises(ValueError) as caught:
-                call()
-            self.assertTrue(str(caught.exception).startswith(words), caught.exception)
-        self.assertEqual(len(m.trace()["steps"]), 5)
-        m.check()
+    def make_attach(self, step, keys):
+        self.process(step["pid"]).attach(**keys)
 
-    def test_other_calls(self):
-        m = Machine(nodes=[4, 4, 4], distance=[[10, 20, 30], [20, 10, 20], [30, 20, 10]], run_limit=1, program=built())
-        p, q = m.spawn(home=0), m.spawn(home=1, uid=2, privileged=True, pid=9)
-        a = p.map(2, shared=True)
-        b = q.attach(a, addr=0x70000)
-        c = p.map(2)
-        p.write(a[0], b"x")
-        self.assertEqual((bytes(q.read(b[0])), a.segment, len(b), list(b)), (b"x", 0, 2, [0x70000, 0x71000]))
-        p.pin(a[0])
-        self.assertEqual(m.move_pages(p, a, nodes=[2, 2], caller=q, flags="MPOL_MF_MOVE_ALL").statuses, [-16, -2])
-        p.unpin(a[0])
-        during = [(0, q, b[0], 1), (0, p, c[0], b"y")]
-        moved = m.move_pages(p, a[0], node=2, caller=q, flags=4, during=during)
-        self.assertEqual((moved.statuses, moved.during), ([2], [{"held": True}, {"ok": True}]))
-        self.assertEqual(m.query(p, [a[0], a[1]]).statuses, [2, -2])
-        p.mbind(c, "MPOL_BIND", [1], flags="MPOL_MF_MOVE|MPOL_MF_STRICT").check()
-        self.assertEqual([area["policy"] for area in p.numa_maps().areas], ["default", "bind:1"])
-        self.assertEqual(m.migrate_pages(p, old=[1], new=[0], caller=q).answer, 0)
-        for answer in (m.offline(2), m.online(2), p.unmap(c), q.exit()):
-            answer.check()
-        self.assertEqual(m.vmstat().pgmigrate_success, 4)
-        with self.assertRaises(AttributeError):
-            print(m.vmstat().statuses)
+    def make_unmap(self, step, keys):
+        self.process(step["pid"]).unmap(keys["addr"], keys["pages"])
+
+    def make_exit(self, step, _):
+        self.alive.setdefault(step["pid"], Process(self.machine, step["pid"], None)).exit()
+        del self.alive[step["pid"]]
+
+    def make_read(self, step, keys):
+        self.process(step["pid"]).read(keys["addr"], keys["len"])
+
+    def make_write(self, step, keys):
+        self.process(step["pid"]).write(keys["addr"], bytes.fromhex(keys["data"]))
+
+    def make_pin(self, step, keys):
+        getattr(self.process(step["pid"]), step["op"])(**keys)
+
+    make_unpin = make_pagemap = make_numa_maps = make_pin
+
+    def make_mbind(self, _, keys):
+        self.process(keys["caller"]).mbind(keys["addr"], keys["mode"], keys["nodes"], keys["flags"], keys["len"])
+
+    def make_other(self, step, keys):
+        """Calls of the machine, some of them on a process."""
+        if "caller" in keys:
+            caller = self.process(keys.pop("caller"))
+            target = self.process(step["pid"]) if step["pid"] else caller
+            more = {} if target is caller else {"caller": caller}
+            if "during" in keys:
+                keys["during"] = [(one["run"], self.process(one["pid"]), one["addr"], one["len"] if one["op"] == "read" else
+                                   bytes.fromhex(one["data"])) for one in keys["during"]]
+            keys = {"process": target, **keys, **more}
+        getattr(self.machine, step["op"])(**keys)
+
+
+@needs_both
+class Beside(Case):
+    """The program's answers and its report."""
+
+    def test_drawn_traces(self):
+        drawn, refusals = loaded("tests/drawn.py"), 0
+        for number in range(TRACES):
+            trace = drawn.Drawing(number).draw().trace
+            with Machine(trace["machine"]["nodes"], trace["machine"]["distance"], trace["run_limit"] if trace["version"] == 2 else None) as m:
+                calls = Calls(m)
+                for step in trace["steps"]:
+                    try:
+                        calls.make(step)
+                    except Refused:
+                        refusals += 1
+            report = program.played(Trace("x", json_text(trace).encode(), trace)).decode()
+            self.assertEqual(m.report(), report, f"trace {number}")
+            if number % 20 == 0:
+                self.assertEqual(m.play(), report)
+        self.assertGreater(refusals, TRACES)
+
+    def seconds_for(self, count):
+        """How long so many calls take, each of which is asked for its answer."""
+        with Machine(nodes=[4, 4]) as m:
+            p = m.spawn()
+            a = p.map(1)
+            p.write(a[0], b"a")
+            begun = time.monotonic()
+            for k in range(count):
+                self.assertEqual(m.move_pages(p, a[0], node=1 - k % 2).statuses, [1 - k % 2])
+            return time.monotonic() - begun
+
+    def test_calls_are_quick(self):
+        # The best of some tries counts, as this machine may be busy.
+        best = {CALLS // 4: MOST_WAIT, CALLS: MOST_WAIT}
+        for _ in range(TRIES):
+            best = {count: min(seconds, self.seconds_for(count)) for count, seconds in best.items()}
+            if best[CALLS] <= MOST_SECONDS and best[CALLS] < 6 * best[CALLS // 4]:
+                return
+        self.fail(f"calls take, by their number, {best} seconds")
+
+    def test_differs(self):
+        path = self.written("program", "#!/bin/sh\nprintf '0 spawn ok\\n1 free 4: 3 2 1 0\\n'\n")
+        os.chmod(path, 0o755)
+        with Machine([4]) as m:
+            m.spawn()
+            m.free(0)
+            with self.assertRaisesRegex(RuntimeError, "line 2 of the report is '1 free 4: 3 2 1 0', and the answer here was '1 free 4: 0 1 2 3'"):
+                m.play(path)
 
 
 def blocks(words):
@@ -119,19 +132,42 @@ def blocks(words):
             if textwrap.dedent(block).lstrip("\n").startswith(words)]
 
 
-@needs_program
+@needs_both
 class Manual(Case):
     """The examples of the manual do what they say."""
 
-    def test_calls(self):
-        code, = blocks("from numalab import Machine\nm = ")
-        code, said = re.subn(r"print\(moved\.statuses\) +(\[.*\])", r"assert moved.statuses == \1", code)
-        self.assertEqual(said, 1)
+    def run_here(self, code):
         here = os.getcwd()
         self.addCleanup(os.chdir, here)
         os.chdir(self.there)
-        exec(compile(code, "MANUAL.md", "exec"), {})
-        self.assertEqual(len(load("trace.json").steps), 4)
+        names = {}
+        exec(compile(code, "MANUAL.md", "exec"), names)
+        return names
+
+    def test_calls(self):
+        code, = blocks("from numalab import Machine\nwith Machine(nodes=[4, 4])")
+        code, said = re.subn(r"print\(moved\.statuses\) +(\[.*\])", r"assert moved.statuses == \1", code)
+        self.assertEqual(said, 1)
+        self.run_here(code)
+        self.assertEqual(len(load(os.path.join(self.there, "trace.json")).steps), 4)
+
+    def test_epochs(self):
+        whole = read("examples/epochs.py")
+        code, = blocks("from numalab import Machine\n\nwith")
+        self.assertEqual(whole.split("\n", 1)[1].strip(), code.strip())
+        self.assertLessEqual(len([line for line in code.splitlines() if line]), 20)
+        told, = re.findall("It prints `(.*?)`", read("docs/MANUAL.md"))
+        with mock.patch("builtins.print") as prints:
+            self.run_here(code)
+        self.assertEqual(str(prints.call_args[0][0]), told)
+        out = subprocess.run([COMMAND, "show", "--why", "epochs.nt"], cwd=self.there, capture_output=True, check=False)
+        self.assertEqual((out.returncode, out.stderr, out.stdout.count(b"# epoch ")), (0, b"", 20))
+        self.assertLess(len(out.stdout.splitlines()), 800)
+
+    def test_earlier_calls(self):
+        # What the manual showed before: keywords, and no `with`.
+        self.run_here('from numalab import Machine\nm = Machine(nodes=[4, 4])\np = m.spawn(home=0)\na = p.map(pages=3)\np.write(a[0], b"a")\n'
+                      'moved = m.move_pages(p, a[:], node=1)\nassert moved.statuses == [1, -2, -2]\nm.save("trace.json")\n')
 
     def test_pytest(self):
         code, = blocks("import pytest")
@@ -149,8 +185,8 @@ class Manual(Case):
         block, = blocks("./build && ./numalab why")
         os.makedirs(os.path.join(self.there, "traces"))
         for name in ("build", "numalab", "numatrace"):
-            program = {"build": "true", "numalab": COMMAND, "numatrace": built()}[name]
-            self.written(name, f'#!/bin/sh\nexec {program} "$@"\n')
+            path = {"build": "true", "numalab": COMMAND, "numatrace": built()}[name]
+            self.written(name, f'#!/bin/sh\nexec {path} "$@"\n')
             os.chmod(os.path.join(self.there, name), 0o755)
         for name in ("evacuate", "shortage"):
             for ending in (".nt", ".report"):

@@ -26,15 +26,21 @@ def fail(words):
     raise AssertionError(words)
 
 
-def built():
+def built(*names):
     """The path of the program, or None."""
     try:
-        return program.found()
+        return program.found(None, *names)
     except Bad:
         return None
 
 
+def built_session():
+    """The path of the program for sessions, or None."""
+    return built(*program.SESSION)
+
+
 needs_program = unittest.skipUnless(built(), "there is no program: ./build makes it")
+needs_both = unittest.skipUnless(built() and built_session(), "there are not both programs: ./build makes them")
 
 
 def loaded(name):

@@ -285,6 +285,7 @@ def check_reports():
         if shown_by(plain) != told_by(path):
             fail(f"{path} is not drawn as it says")
         kinds = [Counter(square.kind for square in squares_of(svg)) for svg in (plain, full)]
+        kinds[1]["free"] += kinds[1]["offline"]
         if any(kinds[0][kind] != kinds[1][kind] for kind in ("free", "held")) or kinds[0]["taken"]:
             fail(f"{path} shows different frames with its trace: {kinds}")
 
@@ -416,6 +417,25 @@ def check_numa_maps(there):
         fail(f"numa_maps is drawn as {told}")
 
 
+def check_named(there):
+    """Names, nodes that are offline and pins are drawn, also where the squares are."""
+    text = "nodes 2 + cxl 2\nspawn app\nmap app heap 1\nwrite app heap 61\npin app heap\noffline cxl\nlook\n"
+    report = ("0 spawn ok\n1 map segment=0\n2 write ok\n3 pin ok\n4 offline ok\n5 free 1: 1\n6 free 2: 2 3\n7 pagemap 1: 00010000=0\n"
+              "8 numa_maps 1\n00010000 default anon=1 N0=1 kernelpagesize_kB=4\n")
+    svg = ElementTree.fromstring(picture_of(written(there, "named.report", report), written(there, "named.nt", text)))
+    check_geometry("names", svg)
+    told = [f"{square.kind} {square.tip}" for square in in_columns(squares_of(svg))]
+    if told != ["held frame 0: heap[0] of app (process 1); pinned", "free frame 1: free, number 1 of its node's list",
+                "offline frame 2: free, number 1 of its node's list, but the node is offline",
+                "offline frame 3: free, number 2 of its node's list, but the node is offline"]:
+        fail(f"names, pins and nodes that are offline are drawn as {told}")
+    texts = {element.text for element in svg.iter() if named(element, "text")}
+    if not {"node 1 (cxl)", "app (process 1)", "free, of a node that is offline", "pinned"} <= texts:
+        fail(f"the picture has the texts {texts}")
+    if [len([part for part in group if named(part, "path")]) for group in svg if group.get("class") == "held"] != [1]:
+        fail("a pinned page has no mark")
+
+
 def check_most(there):
     """A picture has at most 200,000 squares."""
     text = "".join(f"{2 * k} free 1: {k}\n{2 * k + 1} write ok\n" for k in range(448))
@@ -458,7 +478,7 @@ def check_shown():
     """The picture in docs/ is what is drawn."""
     path, example = (os.path.join(ROOT, name) for name in SHOWN)
     with open(path, encoding="utf-8") as file:
-        if file.read() != picture_of(example + ".report", example + ".json"):
+        if file.read() != picture_of(example + ".report", example + ".nt"):
             fail(f"{SHOWN[0]} is not what numalab picture draws of {SHOWN[1]}.report with its trace")
 
 
@@ -466,7 +486,8 @@ class Drawings(unittest.TestCase):
     """Each check in a folder of its own."""
 
     def test_with_files(self):
-        for check in (check_drawn, check_bad, check_large, check_steps, check_shared, check_flight, check_numa_maps, check_most, check_names, check_command):
+        for check in (check_drawn, check_bad, check_large, check_steps, check_shared, check_flight, check_numa_maps, check_named, check_most, check_names,
+                      check_command):
             with self.subTest(check.__name__), tempfile.TemporaryDirectory() as there:
                 check(there)
 

@@ -87,7 +87,7 @@ CHANGED = [
     ('"steps"', '"step"', "bad machine: steps is missing: expected a list"),
     ('"steps":[', '"steps":{},"other":[', "bad machine: steps is an object: expected a list"),
     # Not a step.
-    ('"op":"spawn"', '"op":"fork"', 'bad step 0: op is "fork": ' + OPS),
+    ('"op":"spawn"', '"op":"fork"', "bad step 0: op is \"fork\": the model leaves out fork and copy on write: docs/LINUX.md, 'Left out'"),
     ('"op":"spawn"', '"op":"u32"', 'bad step 0: op is "u32": ' + OPS),
     ('"op":"spawn"', '"op":["spawn"]', "bad step 0: op is a list: " + OPS),
     ('"op":"spawn",', "", "bad step 0: op is missing: " + OPS),

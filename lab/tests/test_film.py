@@ -80,6 +80,21 @@ class Changes(Case):
             top = trace_from(f"nodes 4\nspawn p\n{steps}\n".encode(), "x.nt")
             self.assertEqual(self.film(top)["steps"][-1]["l"], looks, steps)
 
+    def test_names_and_notes(self):
+        text = ("nodes 2 + cxl 2\nspawn app\nnote \"begins\"\nmap app heap 2\nmap app heap 1 at 0x10000\nwrite app heap[0] 61\npin app 0x10000\n"
+                "pin app 0x10000\noffline cxl\nunpin app 0x10000\nnote \"ends\"\n")
+        top = trace_from(text.encode(), "x.nt")
+        told = self.film(top)
+        self.assertEqual([told[key] for key in ("labels", "names", "areas", "notes")], [
+            ["node 0", "node 1 (cxl)"], {1: "app"}, [[1, 16, 2, "heap", 1]], [[1, "begins"], [8, "ends"]]])
+        self.assertEqual([change.get("p") for change in told["changes"]], [None] * 5 + [{0: 1}, {0: 2}, None, {0: 1}][:4])
+        self.assertEqual([change.get("o") for change in told["changes"]], [None] * 7 + [[1], None])
+        self.assertEqual((told["left"], self.film({**top, "left_out": ["files", 3]})["left"]), ([], ["files"]))
+        part = self.film(top, (7, 7))
+        self.assertEqual([(change.get("p"), change.get("o")) for change in part["changes"]], [({0: 2}, [1]), ({0: 1}, None)])
+        self.assertEqual((part["notes"], self.film(top, (1, 2))["notes"]), ([[1, "ends"]], [[0, "begins"]]))
+        self.assertEqual(self.film(trace_from(b"nodes 2 + 2, 1\n", "x.nt"))["labels"], ["node 0", "node 1 (tier 2)", "node 2 (tier 2)"])
+
     def test_marks(self):
         top = json.loads(read("examples/why_not_moved.json"))
         self.assertEqual(self.film(top)["changes"][7]["e"], [[-1, -14], [-1, -2], [-1, -14], [4, 1], [5, 1], [2, -12], [4, 1]])

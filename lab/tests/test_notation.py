@@ -5,9 +5,8 @@ import random
 import unittest
 
 from support import EXAMPLES, TRACES, Case, loaded, read, run
-from numalab.commands.write import without_places
 from numalab.faults import Form, verdict
-from numalab.notate import known_keys, notation_of
+from numalab.notate import SAID as SAID_KEYS, known_keys, notation_of
 from numalab.traces import json_text
 from numalab.translate import translated
 
@@ -41,6 +40,20 @@ SAID = [
     ("move_pages p A[0] to 1 during # now\n  read p A[0]\n\n  run 0 write p A[1] 61 # and\nend", [
         {"op": "move_pages", "caller": 1, "pid": 0, "pages": [0x10000], "nodes": [1], "flags": 2, "during": [
             {"run": 0, "op": "read", "pid": 1, "addr": 0x10000, "len": 1}, {"run": 0, "op": "write", "pid": 1, "addr": 0x11000, "data": "61"}]}]),
+    ("move_pages p A[-1],A[:-3] to 1", [
+        {"op": "move_pages", "caller": 1, "pid": 0, "pages": [0x13000, 0x10000], "nodes": [1, 1], "flags": 2}]),
+    ("spawn q allowed 1\nmove_pages p of q A[0] to +0", [{"op": "spawn", "pid": 2, "uid": 1000, "home": 0, "allowed": [1]}, {
+        "op": "move_pages", "caller": 1, "pid": 2, "pages": [0x10000], "nodes": [1], "flags": 2}]),
+    ("migrate_pages p from +0 to +1\nmbind p A MPOL_BIND !+0", [
+        {"op": "migrate_pages", "caller": 1, "pid": 0, "old": [0], "new": [1]},
+        {"op": "mbind", "caller": 1, "addr": 0x10000, "len": 16384, "mode": 2, "nodes": [1], "flags": 0}]),
+    ("query p A[-3:-1]", [{"op": "query", "caller": 1, "pid": 0, "pages": [0x11000, 0x12000], "flags": 0}]),
+    ("spawn q\nmap q A 1\nmap q B 1\nquery p A[3]\nquery p B\nquery q A", [
+        {"op": "spawn", "pid": 2, "uid": 1000, "home": 0, "allowed": [0, 1]}, {"op": "map", "pid": 2, "addr": 0x20000, "pages": 1},
+        {"op": "map", "pid": 2, "addr": 0x30000, "pages": 1}, {"op": "query", "caller": 1, "pid": 0, "pages": [0x13000], "flags": 0},
+        {"op": "query", "caller": 1, "pid": 0, "pages": [0x30000], "flags": 0}, {"op": "query", "caller": 2, "pid": 0, "pages": [0x20000], "flags": 0}]),
+    ("exit p\nspawn p", [{"op": "exit", "pid": 1}, {"op": "spawn", "pid": 2, "uid": 1000, "home": 0, "allowed": [0, 1]}]),
+    ("spawn p pid 1", [{"op": "spawn", "pid": 1, "uid": 1000, "home": 0, "allowed": [0, 1]}]),
     ("query p none", [{"op": "query", "caller": 1, "pid": 0, "pages": [], "flags": 0}]),
     ("migrate_pages p from all to !0", [{"op": "migrate_pages", "caller": 1, "pid": 0, "old": [0, 1], "new": [1]}]),
     ("mbind p A[0:2] MPOL_LOCAL", [{"op": "mbind", "caller": 1, "addr": 0x10000, "len": 8192, "mode": 4, "nodes": [], "flags": 0}]),
@@ -53,13 +66,49 @@ SAID = [
     ("repeat 0\nlook\nend", []),
 ]
 
+# A file with names of all kinds, as numalab writes it.
+NAMED = """nodes ram 2x4 + cxl 8, 2
+spawn app uid 100 home 0 allowed ram
+note "begins"
+map app heap 4
+spawn db uid 1000 home 1
+map db log 2 shared
+attach app seen segment 1 offset 0 pages 2
+note "pages"
+write app heap[*] "a"
+pin app heap[0]
+move_pages app heap[1:3] to cxl, heap[3] to 3 during
+    run 0 read db log[0]
+end
+query db of app seen[*]
+migrate_pages db of app from ram to cxl
+mbind app heap[*] MPOL_BIND ram
+offline cxl
+free all
+numa_maps db
+unmap db log[*]
+note "ends"
+"""
+
 # Lines after the head, and what is said of them: line, column and words.
 WRONG = [
     ("wirte p A 61", [(4, 1, "wirte is not a statement: did you mean write?")]),
+    ("read p A[0:9]", [(4, 8, "A[0:9] ends past the last page: A has 4 pages, A[0] to A[3]")]),
+    ("read p A[4]", [(4, 8, "A[4] is past the last page: A has 4 pages, A[0] to A[3]")]),
+    ("read p A[-5]", [(4, 8, "A[-5] is before the first page: A has 4 pages, A[0] to A[3]")]),
+    ("read p 0x10000[-1]", [(4, 8, "0x10000[-1] counts from an end, which only an area with a name has")]),
+    ("move_pages p A[0] to 1,A[1] to 0", [(4, 22, "A[1] is not a node: further pages follow after a comma and a space")]),
+    ("spawn p home 1", [(4, 7, "p is a process already, with pid 1: give this one another name, or the pid that it has")]),
+    ("set_mempolicy p MPOL_BIND 1", [(4, 1, "set_mempolicy is not a statement: the model leaves out the policy of a process: docs/LINUX.md, 'Left out'")]),
+    ("fork p", [(4, 1, "fork is not a statement: the model leaves out fork and copy on write: docs/LINUX.md, 'Left out'")]),
+    ("hugepages p A", [(4, 1, "hugepages is not a statement: the model leaves out huge pages: docs/LINUX.md, 'Left out'")]),
+    ("migrate_pages p from +0 to +2", [(4, 28, "+2 is past the last of the 2 nodes that the process may use")]),
+    ("free +0", [(4, 6, "+0 counts the nodes that a process may use, and here no process is known")]),
     ("read q A", [(4, 6, "there is no process q")]),
+    ("note x", [(4, 6, 'x is not a text in quotes, such as "the second phase"')]), ("note", [(4, 5, 'a text, such as "the second phase" is missing')]),
+    ('note "\\ud800"', [(4, 6, '"\\ud800" is not a valid text')]),
     ("read p B", [(4, 8, "there is no area B")]),
-    ("read p A[4]", [(4, 8, "A[4] is past the last of 4 pages")]),
-    ("read p A[0:5]", [(4, 8, "A[0:5] is not a range of pages of the area")]),
+    ("read p A[4:4:0]", [(4, 8, "A[4:4:0] is not a range of pages of the area")]),
     ("read p A[0:2]+1", [(4, 8, "A[0:2]+1 has a byte offset for more than one page")]),
     ("read p 0x10000[*]", [(4, 8, "[*] is only for an area with a name")]),
     ("read p A[0", [(4, 8, "A[0 does not name pages")]),
@@ -85,7 +134,7 @@ WRONG = [
     ("end", [(4, 1, "end without a block")]),
     ("repeat 3\nread q A\nend", [(5, 6, "there is no process q")]),
     ("move_pages p A[0] to 1 during\npin p A[0]\nend", [(5, 1, "pin is neither read nor write")]),
-    ("look now\nread p A[9]\nlok", [(4, 6, "now is not expected here"), (5, 8, "A[9] is past the last of 4 pages"),
+    ("look now\nread p A[9]\nlok", [(4, 6, "now is not expected here"), (5, 8, "A[9] is past the last page: A has 4 pages, A[0] to A[3]"),
                                      (6, 1, "lok is not a statement: did you mean look?")]),
     ("write p 0[0:99999999999999] 61", [(4, 9, "the trace would have more than 16,777,216 bytes")]),
     ("read p 18446744073709551615[0:2]", [(4, 8, "18446744073709551615[0:2] is past the last address")]),
@@ -95,7 +144,8 @@ MACHINES = [
     ("nodes 4", [4], [[10]]),
     ("nodes cpu 2x8, 4 + cxl 64K + 2x1", [8, 8, 4, 16, 1, 1], [
         [10, 20, 20, 30, 40, 40], [20, 10, 20, 30, 40, 40], [20, 20, 10, 30, 40, 40], [30, 30, 30, 10, 40, 40],
-        [40, 40, 40, 40, 10, 40], [40, 40, 40, 40, 40, 10]]),
+        [40, 40, 40, 40, 10, 40], [40, 40, 40, 40, 40, 10]], "cpu", "cpu", None, "cxl", None, None),
+    ("nodes ram 4, cxl 8, ram 2", [4, 8, 2], [[10, 20, 20], [20, 10, 20], [20, 20, 10]], "ram", "cxl", "ram"),
     ("nodes 4, 8\ndistance 10 255\ndistance 11 10", [4, 8], [[10, 255], [11, 10]]),
     ("distance 10 20 / 30 10\nnodes 2x1", [1, 1], [[10, 20], [30, 10]]),
 ]
@@ -107,16 +157,17 @@ class Notation(Case):
     def test_said(self):
         for text, steps in SAID:
             top, faults = translated((HEAD + text + "\n").encode(), "x.nt")
-            self.assertEqual((without_places(top)["steps"][2:], faults), (steps, []), text)
+            self.assertEqual((known_keys(Form(), top)["steps"][2:], faults), (steps, []), text)
 
     def test_wrong(self):
         for text, wanted in WRONG:
             self.assertEqual(translated((HEAD + text + "\n").encode(), "x.nt")[1], wanted, text)
 
     def test_machines(self):
-        for text, sizes, rows in MACHINES:
+        for text, sizes, rows, *names in MACHINES:
             top, faults = translated(text.encode(), "x.nt")
-            self.assertEqual((top, faults), ({"version": 1, "machine": {"nodes": sizes, "distance": rows}, "steps": []}, []))
+            machine = {"nodes": sizes, "distance": rows, **({"names": names} if names else {})}
+            self.assertEqual((top, faults), ({"version": 1, "machine": machine, "steps": []}, []))
         top, _ = translated(b"run_limit 3\r\nnodes 1\r\n", "x.nt")
         self.assertEqual((top["version"], top["run_limit"]), (2, 3))
 
@@ -171,7 +222,7 @@ class Back(Case):
         form = Form()
         back, faults = translated(notation_of(form, top).encode(), "x.nt")
         self.assertEqual(faults, [], what)
-        self.assertEqual(without_places(back), known_keys(form, top), what)
+        self.assertEqual(known_keys(form, back), known_keys(form, top), what)
 
     def test_traces(self):
         for path in TRACES:
@@ -187,7 +238,31 @@ class Back(Case):
         for path in EXAMPLES:
             with open(path[: -len("json")] + "nt", "rb") as file:
                 top, faults = translated(file.read(), "x.nt")
-            self.assertEqual((without_places(top), faults), (json.loads(read(path)), []), path)
+            self.assertEqual((known_keys(Form(), top), faults), (json.loads(read(path)), []), path)
+
+    def test_names(self):
+        for text in (NAMED, NAMED.replace("spawn db", "exit app\nspawn app").replace("db", "app")):
+            top, faults = translated(text.encode(), "x.nt")
+            self.assertEqual(faults, [])
+            again, _ = translated(notation_of(Form(), top).encode(), "x.nt")
+            self.assertEqual(known_keys(Form(), again, SAID_KEYS), known_keys(Form(), top, SAID_KEYS))
+        self.assertEqual(notation_of(Form(), translated(NAMED.encode(), "x.nt")[0]), NAMED)
+
+    def test_names_that_occur_again(self):
+        top, _ = translated(b"nodes 2x4\nspawn a\nmap a h 2\nspawn b\nmap b h 2\nread b h\nexit b\nspawn b pid 9\nunmap a h\nmap a h 1\n", "x.nt")
+        top["steps"][0]["name"], top["steps"][1]["name"] = "all", ["h"]
+        self.assertEqual(notation_of(Form(), top), (
+            "nodes 2x4\nspawn p1 uid 1000 home 0\nmap p1 A 2\nspawn b uid 1000 home 0\nmap b h 2\nread b h[*]\nexit b\n"
+            "spawn b pid 9 uid 1000 home 0\nunmap p1 A[*]\nmap p1 h 1\n"))
+        top["steps"][0]["name"], top["steps"][1]["name"] = "b", "h"
+        self.assertEqual(notation_of(Form(), top).splitlines()[1:5], [
+            "spawn b uid 1000 home 0", "map b h 2", "spawn b_2 uid 1000 home 0", "map b_2 h 2"])
+
+    def test_notes(self):
+        text = 'nodes 4\nrepeat 2 as i\nnote "turn {i}, \\"{j}\\""\nfree 0\nend\nnote "a"\nnote "b"\n'
+        top, faults = translated(text.encode(), "x.nt")
+        self.assertEqual((faults, [step["note"] for step in top["steps"]], top["note_at_end"]), ([], ['turn 0, "{j}"', 'turn 1, "{j}"'], "a\nb"))
+        self.assertEqual(notation_of(Form(), top), 'nodes 4\nnote "turn 0, \\"{j}\\""\nfree all\nnote "turn 1, \\"{j}\\""\nfree all\nnote "a"\nnote "b"\n')
 
     def test_ten_lines(self):
         text = read("examples/half_demoted.nt")
@@ -205,7 +280,7 @@ class Command(Case):
         source = self.written("a.nt", HEAD + "read p A[0]\n")
         self.assertEqual(run("write", "a.nt", "-o", "b.json", folder=self.there), (0, "", ""))
         self.assertEqual(run("write", "b.json", "-o", "c.nt", folder=self.there), (0, "", ""))
-        self.assertEqual(read(os.path.join(self.there, "c.nt")), HEAD.replace(" p", " p1").replace("100", "100 home 0") + "read p1 A[0]\n")
+        self.assertEqual(read(os.path.join(self.there, "c.nt")), HEAD.replace("100", "100 home 0") + "read p A[0]\n")
         self.assertIn('"at":"a.nt:4"', read(os.path.join(self.there, "b.json")))
         self.assertEqual(run("write", "--no-places", given=HEAD), run("write", "--no-places", "-", given=HEAD))
         self.assertEqual(run("write", source, source)[0], 2)

@@ -28,6 +28,8 @@ class Package(Case):
         project = read("lab/pyproject.toml")
         for key, value in [("name", wheel_of.NAME), ("version", wheel_of.VERSION), ("version", numalab.__version__), ("description", wheel_of.SUMMARY)]:
             self.assertIn(f'{key} = "{value}"', project)
+        for name, module in wheel_of.EXTRAS.items():
+            self.assertIn(f'{name} = ["{module}"]', project)
         self.assertEqual(read("VERSION").strip(), wheel_of.VERSION)
         self.assertIn(re.search(r"numalab = (\S+)", wheel_of.COMMANDS)[1], project)
 
@@ -36,7 +38,9 @@ class Package(Case):
         with zipfile.ZipFile(os.path.join(self.there, name)) as wheel:
             names = set(wheel.namelist())
             wheel.extractall(self.there)
-        self.assertTrue({"numalab/cli.py", "numalab/commands/show.py", "numalab/trace.schema.json", "numalab/picture.html"} <= names)
+        self.assertTrue({"numalab/cli.py", "numalab/commands/show.py", "numalab/trace.schema.json", "numalab/picture.html",
+                         "numalab/policies/builtin.py", "numalab/policies/comparison.html", "numalab/policies/sweep.html", "numalab/policies/common.css",
+                         "numalab/policies/common.js"} <= names)
         ran = subprocess.run([sys.executable, "-m", "numalab", "why", f"{ROOT}/examples/three_pages.json"], cwd=self.there, capture_output=True,
                              check=False)
         self.assertEqual((ran.returncode, ran.stdout), (0, b"good\n"))

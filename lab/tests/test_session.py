@@ -2,6 +2,7 @@
 import json
 import os
 import stat
+import sys
 import unittest
 
 from support import LAB, ROOT, Case, read, started
@@ -86,6 +87,23 @@ class Steps(Case):
         session.close()
         with self.assertRaisesRegex(Failed, "the session has ended"):
             session.step(SPAWN)
+
+    def test_a_copy_of_the_process(self):
+        with Session(TOP, PROGRAM) as session:
+            session.step(SPAWN)
+            code = ("import os, sys\nsys.path.insert(0, sys.argv[1])\nfrom numalab import Session\nsession = Session({}, sys.argv[2])\n"
+                    "if os.fork() == 0:\n    sys.exit()\nos.wait()\nprint(session.step({{'op': 'free', 'node': 0}}))").format(TOP)
+            told = started("-c", code, LAB, PROGRAM, command=sys.executable)
+            self.assertEqual(told, (0, "['0 free 4: 0 1 2 3']\n", ""))
+            self.assertEqual(session.step({"op": "free", "node": 1}), ["1 free 4: 4 5 6 7"])
+
+    def test_several_steps(self):
+        with Session(TOP, PROGRAM) as session:
+            replies = session.steps([SPAWN, {"op": "leap"}, {"op": "free", "node": 1}])
+            self.assertEqual([replies[0], replies[2]], [["0 spawn ok"], ["1 free 4: 4 5 6 7"]])
+            self.assertEqual((type(replies[1]), str(replies[1])), (Fault, "bad step 1"))
+            self.assertEqual(session.steps([{"op": "free", "node": 1}] * 500)[-1], ["501 free 4: 4 5 6 7"])
+            self.assertEqual(session.steps([]), [])
 
     def test_example(self):
         environment = {**os.environ, "PYTHONPATH": LAB, "PYTHONDONTWRITEBYTECODE": "1"}

@@ -3,7 +3,11 @@ import json
 import unittest
 
 from support import ROOT, TRACES, Case, loaded, read, run
+from numalab import model
+from numalab.faults import Form
+from numalab.notate import known_keys
 from numalab.reasons import explained
+from numalab.translate import trace_from
 
 DRAWN = 150
 ROWS = """     0  spawn 1 uid 100 home 0 allowed all                    ok
@@ -23,20 +27,86 @@ ROWS = """     0  spawn 1 uid 100 home 0 allowed all                    ok
            because: nothing has been touched there
           0x13000 to node 1                                   -14 EFAULT
            because: the page of zeros: it was read but never written
-          0x10000 to node 1                                   1
-           because: it moved from frame 0 on node 0 to frame 4, the front of node 1's list
-          0x11000 to node 1                                   1
-           because: it moved from frame 1 on node 0 to frame 5, the front of node 1's list
+          0x10000..0x11000 (2 pages) to node 1                1
+           because: it moved from frames 0 1 on node 0 to frames 4 5, the front of node 1's list
           0x12000 to node 1                                   -12 ENOMEM
            because: node 1 has no free frame left: its run took 2 frames
           0x10000 to node 1                                   1
            because: it is already there, in frame 4
      7  pagemap 1                                             4 entries
-          0x10000..0x11000 (2 pages)                          frames 4..5 on node 1
+          0x10000..0x11000 (2 pages)                          frames 4 5 on node 1
           0x12000                                             frame 2 on node 0
           0x13000                                             the page of zeros
      8  free 0                                                3 free frames: 3 0 1
      9  free 1                                                0 free frames
+"""
+
+NAMED = """nodes 2x2 + cxl 8
+spawn app
+spawn db home 1 privileged
+map app heap 6
+map app log 1 shared
+attach db seen of log
+note "fills"
+write app heap[0:5] "x"
+read db seen
+read app log
+pin app heap[0]
+note "moves"
+move_pages app heap[0:3], log, 0x90000 to cxl
+pagemap app
+mbind app heap MPOL_BIND cxl flags MPOL_MF_MOVE
+numa_maps app
+offline cxl
+mbind app heap[4:] MPOL_BIND cxl flags MPOL_MF_STRICT
+note "over"
+"""
+NAMED_ROWS = """     0  spawn app (1) uid 1000 home 0 allowed all             ok
+     1  spawn db (2) uid 1000 home 1 allowed all privileged   ok
+     2  map app heap 6 pages at 0x10000                       segment=0
+     3  map app log 1 page at 0x20000 shared                  segment=1
+     4  attach db seen segment 1 offset 0 1 page at 0x30000   ok
+        # fills
+  5..9  write app heap[0:5] "x"                               ok
+           because: heap[0:2] (2 pages): a new page, frames 0 1: node 0, first in the order 0 1 2 (home 0)
+           because: heap[2:4] (2 pages): a new page, frames 2 3: node 1, second in the order 0 1 2 (home 0); 0 is full
+           because: heap[4]: a new page, frame 4: node 2 (cxl), third in the order 0 1 2 (home 0); 0 and 1 are full
+    10  read db seen[0] len 1                                 00
+           because: a new page, frame 5: node 2 (cxl), third in the order 1 0 2 (home 1); 1 and 0 are full
+    11  read app log[0] len 1                                 00
+           because: page 0 of segment 1 was touched before: it is in frame 5, on node 2 (cxl)
+    12  pin app heap[0]                                       ok
+        # moves
+    13  move_pages app 5 entries flags MPOL_MF_MOVE           1 failed
+          heap[0] to node 2 (cxl)                             -16 EBUSY
+           because: it has 1 pin
+          heap[1] to node 2 (cxl)                             2
+           because: it moved from frame 1 on node 0 to frame 6, the front of node 2's list
+          heap[2] to node 2 (cxl)                             2
+           because: it moved from frame 2 on node 1 to frame 7, the front of node 2's list
+          log[0] to node 2 (cxl)                              2
+           because: it is already there, in frame 5
+          0x90000 to node 2 (cxl)                             -14 EFAULT
+           because: no area covers this address
+    14  pagemap app                                           6 entries
+          heap[0]                                             frame 0 on node 0
+          heap[1:3] (2 pages)                                 frames 6 7 on node 2 (cxl)
+          heap[3]                                             frame 3 on node 1
+          heap[4]                                             frame 4 on node 2 (cxl)
+          log[0]                                              frame 5 on node 2 (cxl)
+    15  mbind app heap[*] MPOL_BIND cxl flags MPOL_MF_MOVE    0
+           because: heap[0] to 2 (cxl): -16 EBUSY: it has 1 pin
+           because: heap[3] to 2 (cxl): 2: it moved from frame 3 on node 1 to frame 8, the front of node 2's list
+    16  numa_maps app                                         2 areas
+          00010000 bind:2 anon=5 N0=1 N2=4 kernelpagesize_kB=4  (heap[0])
+          00020000 default anon=1 mapmax=2 N2=1 kernelpagesize_kB=4  (log[0])
+    17  offline 2 (cxl)                                       error EBUSY
+           because: page 1 of segment 0: frame 6 to frame 1, on node 0
+           because: pages 2 3 of segment 0: frames 7 8 to frames 2 3, on node 1
+           because: 2 pages of node 2 (cxl) stay: heap[4] of app (process 1) found no free frame; log[0] of app (process 1) found no free frame
+    18  mbind app heap[4:6] MPOL_BIND cxl flags MPOL_MF_STRICT  0
+           because: MPOL_MF_STRICT: the one page that the process sees there follows bind:2
+        # over
 """
 
 # Statements after a machine of [2, 2, 2], the step that is asked about, and its reasons with what they are about.
@@ -79,9 +149,40 @@ class Show(Case):
         name = f"{ROOT}/examples/why_not_moved"
         self.assertEqual(run("show", "--why", name + ".json", name + ".report"), (0, ROWS, ""))
         plain = "".join(line + "\n" for line in ROWS.splitlines() if "because" not in line)
-        two = "          0x10000 to node 1                                   1\n          0x11000 to node 1                                   1\n"
-        plain = plain.replace(two, "          0x10000..0x11000 (2 pages) to node 1                1\n")
-        self.assertEqual(run("show", name + ".nt", name + ".report"), (0, plain, ""))
+        self.assertEqual(run("show", name + ".json", name + ".report"), (0, plain, ""))
+
+    def test_named_rows(self):
+        trace, report = self.written("named.nt", NAMED), self.written("named.report", model.report(trace_from(NAMED.encode(), "named.nt")))
+        self.assertEqual(run("show", "--why", trace, report), (0, NAMED_ROWS, ""))
+
+    def test_areas_that_touch(self):
+        text = 'nodes 8\nspawn p\nmap p A 2 at 0x10000\nmap p B 2 at 0x12000\nrepeat 4 as i\nread p 0x10000[i]\nend\n'
+        trace, report = self.written("x.nt", text), self.written("x.report", model.report(trace_from(text.encode(), "x.nt")))
+        self.assertEqual(run("show", trace, report)[1].splitlines()[3:], [
+            "  3..4  read p A[*] len 1                                     00", "  5..6  read p B[*] len 1                                     00"])
+
+    def test_kernels_beside_steps(self):
+        text = read("lab/scenarios/move-pinned.nt").split("pagemap")[0]
+        text = text.replace("write", "read p A[*]\nwrite", 1)
+        trace, report = self.written("x.nt", text), self.written("x.report", model.report(trace_from(text.encode(), "x.nt")))
+        status, out, err = run("show", "--why", "--kernel", "6.1", trace, report)
+        rows = out.splitlines()
+        self.assertEqual((status, err, rows[-2]), (0, "", "           on Linux 6.1: 1: - - -"))
+        self.assertIn("read p A[*] len 1", next(row for row in rows if ".." in row))
+
+    def test_few_lines(self):
+        text = read("examples/half_demoted.nt")
+        trace, report = self.written("x.nt", text), self.written("x.report", model.report(trace_from(text.encode(), "x.nt")))
+        status, out, err = run("show", "--why", trace, report)
+        self.assertEqual((status, err), (0, ""))
+        self.assertLess(len(out.splitlines()), 30)
+        for line in ["           because: heap[0:1999:2] (1,000 pages): a new page, frames 0..999: node 0, first in the order 0 1 2 (interleave:0-1)",
+                     "          heap[1:2000:2] (1,000 pages)                        frames 1200..2199 on node 1"]:
+            self.assertIn(line, out.splitlines())
+        shown = [line[4:] for line in read("docs/MANUAL.md").splitlines() if "..2002 " in line or "heap[0:1999:2]" in line or "heap[1:2000:2]" in line]
+        self.assertEqual([line for line in out.splitlines() if line in shown], shown)
+        self.assertEqual(len(shown), 3)
+        self.assertGreater(len(run("show", "--why", "--all", trace, report)[1].splitlines()), 4000)
 
     def test_numa_maps_stands_under_its_step(self):
         out = run("show", f"{ROOT}/examples/evacuate.json", f"{ROOT}/examples/evacuate.report")[1]
@@ -143,8 +244,8 @@ class Reasons(unittest.TestCase):
         for text, k, reasons in REASONS:
             top, faults = translated((HEAD + text + "\n").encode(), "x.nt")
             self.assertEqual(faults, [], text)
-            told = list(explained(top))[k][1]
-            self.assertEqual([tuple(reason) for reason in told], reasons, text)
+            told = list(explained(known_keys(Form(), top)))[k][1]
+            self.assertEqual([reason[:2] for reason in told], reasons, text)
 
     def test_drawn(self):
         drawn = loaded("tests/drawn.py")

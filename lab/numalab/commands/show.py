@@ -53,23 +53,25 @@ def objects(trace, lines, reasons, parted):
     """Each step as a JSON object."""
     for k, line in enumerate(lines):
         step = trace.steps[k]
-        told = {"step": k, "op": line.op, "arguments": {key: value for key, value in step.items() if key not in ("op", "at")}}
+        told = {"step": k, "op": line.op, "arguments": {key: value for key, value in step.items() if key not in ("op", "at", "note", "name")}}
         if "at" in step:
             told["at"] = step["at"]
-        told["answer"] = answer_of(line)
+        told["answer"] = answer_of(line).as_object()
+        for key in ("name", "note"):
+            if key in step:
+                told[key] = step[key]
         if reasons:
-            told["why"] = [{**about_object(about), "reason": text} for about, text in reasons[k]]
+            told["why"] = [{**about_object(reason.about), "reason": reason.text} for reason in reasons[k]]
         if k in parted:
             told["kernel"] = {"lines": parted[k].lines, "rows": parted[k].rows}
         yield json.dumps(told, separators=(",", ":"))
 
 
 def rows(trace, lines, reasons, parted, all_rows):
-    table = Table(trace.top, all_rows)
-    for k, line in enumerate(lines):
-        yield from table.lines(k, line, reasons and reasons[k])
-        if k in parted:
-            yield from parted[k].texts
+    for group, told in Table(trace.top, all_rows).groups(lines, reasons):
+        yield from told
+        for k in group:
+            yield from parted[k].texts if k in parted else ()
 
 
 def show(one, asked, file, jsonl):

@@ -10,13 +10,13 @@ import subprocess
 import tempfile
 import time
 
+from ..machines import NODES, listed, of_folder
 from ..model import PAGE
 from ..traces import Bad
 from .recorded import ABOUT_NODES, MOST_FRAMES, Seen
 from .strace import Reader, begun_call, number
 
 NO_STRACE = "there is no strace: it is in Debian's package strace"
-NODES = "/sys/devices/system/node"
 CALLS = ("mmap,munmap,brk,mremap,madvise,mbind,migrate_pages,move_pages,set_mempolicy,set_mempolicy_home_node,clone,clone3,fork,vfork,execve,"
          "shmat,mlock,mlockall,setuid,setresuid,capset,exit_group")
 DELAY = 20000  # microseconds for which a process is stopped before each call about nodes
@@ -30,23 +30,16 @@ def text_of(path):
         return file.read()
 
 
-def listed(text):
-    """The numbers of a list such as 0-2,5."""
-    return [value for part in text.split(",") if part.strip()
-            for value in range(int(part.split("-")[0]), int(part.split("-")[-1]) + 1)]
-
-
 def machine_here():
     """The pages and distances of this machine's nodes."""
     try:
-        nodes = listed(text_of(f"{NODES}/has_memory").strip())
-        distance = [[int(word) for word in text_of(f"{NODES}/node{node}/distance").split()] for node in nodes]
-        sizes = [int(re.search(r"MemTotal:\s+(\d+)", text_of(f"{NODES}/node{node}/meminfo"))[1]) // 4 for node in nodes]
-    except OSError as error:
-        raise Bad(f"this kernel has no NUMA: {error.filename}: {error.strerror}; --machine FILE names another machine") from error
-    if nodes != list(range(len(nodes))) or any(len(row) != len(nodes) for row in distance):
+        nodes = of_folder(NODES)
+    except Bad as error:
+        raise Bad(f"this kernel has no NUMA: {error}; --machine FILE names another machine") from error
+    numbers = list(range(len(nodes)))
+    if [node.number for node in nodes] != numbers or any(list(node.distances) != numbers for node in nodes):
         raise Bad("the nodes of this machine are not numbered consecutively: --machine FILE names another machine")
-    return sizes, distance
+    return [node.pages for node in nodes], [list(node.distances.values()) for node in nodes]
 
 
 def node_of_cpu(cpus):

@@ -1,0 +1,1 @@
+"""Edits that must fail, tried many at once: tests/edits.py is the command."""
