@@ -9,14 +9,14 @@ import re
 import sys
 
 from . import __version__
-from .commands import compare, machine, picture, policies, predict, record, replay, show, why, write
+from .commands import compare, export, machine, picture, policies, predict, record, replay, show, why, write
 from .faults import close
 from .program import Failed
 from .traces import Bad
 from .words import printable
 
 COMMANDS = {"write": write, "why": why, "show": show, "picture": picture, "machine": machine, "replay": replay, "compare": compare,
-            "predict": predict, "record": record, "policies": policies}
+            "predict": predict, "export": export, "record": record, "policies": policies}
 ABOUT = "Traces for numatrace that a person can write, and its reports as a person can read them."
 PROMISE = ("Every report but those of replay and predict comes from the program numatrace, which is proved. Nothing that numalab itself "
            "says is proved.")

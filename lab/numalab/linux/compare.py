@@ -96,13 +96,13 @@ def worst(found):
 Parting = namedtuple("Parting", "lines rows texts")
 
 
-def partings(top, report, version):
+def partings(top, report, version, privilege=kernel.BOTH):
     """By step, where a kernel is expected to differ from the model. For a trace with accesses in flight nothing is expected."""
     if any(step.get("during") for step in top["steps"]):
         return {}
     own = [frames_apart(top, lines) for lines in by_step(report.decode().split("\n")[:-1], "the report")]
     found, last = {}, []
-    for k, one in enumerate(kernel.given(top, version)):
+    for k, one in enumerate(kernel.given(top, version, privilege)):
         last, lines = one.rows or last, [str(line) for line in one.lines]
         if lines != own[k]:
             reasons = [f"           {name}: {row_of(name)['reason'] or 'no reason is on record'}" for name in one.rows] or [

@@ -19,6 +19,10 @@ PRIVILEGES = {"nice": 1, "both": 2}
 OWN = {"spawn", "map", "attach", "pin", "unpin"}
 
 
+class Unplayable(Bad):
+    """A trace that no kernel can be made to play."""
+
+
 class Watched(Machine):
     """The plain model, which notes targets that fill up within a step."""
 
@@ -53,7 +57,7 @@ class Instructions:
         return "".join(line + "\n" for line in [f"trace {short_name(self.name)}", *self.shared, *self.body])
 
     def cannot(self, why):
-        raise Bad(f"{self.name}: step {self.k}: {why}")
+        raise Unplayable(f"{self.name}: step {self.k}: {why}")
 
     def add(self, step):
         """Adds a step, and plays it on the model."""

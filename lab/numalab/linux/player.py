@@ -1,6 +1,7 @@
 """The player: a program in C that makes the calls of a trace. It is built on first use, and kept in the cache folder."""
 import hashlib
 import os
+import re
 import shutil
 import subprocess
 import tempfile
@@ -12,6 +13,7 @@ HERE = os.path.dirname(os.path.abspath(__file__))
 SOURCE = os.path.join(HERE, "player.c")
 FLAGS = ["-std=c17", "-O1", "-Wall", "-Wextra", "-static-pie"]
 NO_COMPILER = "there is no gcc: it is in Debian's package gcc, with libc6-dev"
+INCLUDE = re.compile(r'#include "([a-z]+\.c)"')
 NODES = "/sys/devices/system/node"
 LIMIT = 120
 
@@ -20,10 +22,17 @@ def cache_folder():
     return os.path.join(os.environ.get("XDG_CACHE_HOME") or os.path.join(os.path.expanduser("~"), ".cache"), "numalab")
 
 
+def source_text(path):
+    """A source in C, with the text of each file beside it that it includes by name."""
+    with open(path, encoding="utf-8") as file:
+        lines = file.read().split("\n")
+    texts = [INCLUDE.fullmatch(line) for line in lines]
+    return "\n".join(source_text(os.path.join(HERE, found[1])).rstrip("\n") if found else line for line, found in zip(lines, texts))
+
+
 def built():
     """The path of the player, which is built if it does not exist yet."""
-    with open(SOURCE, "rb") as file:
-        name = "player-" + hashlib.sha256(file.read() + " ".join(FLAGS).encode()).hexdigest()[:16]
+    name = "player-" + hashlib.sha256(source_text(SOURCE).encode() + " ".join(FLAGS).encode()).hexdigest()[:16]
     path = os.path.join(cache_folder(), name)
     if os.path.exists(path):
         return path
@@ -65,18 +74,10 @@ def refuse_here(trace):
         raise Bad(f"{trace.name}: the trace has {wanted} node(s), and this machine has {there}: only a trace of {there} nodes can be played here")
 
 
-def as_myself(program):
-    """Instructions in which each process keeps the current user."""
-    lines = [line.split(" ") for line in program.split("\n")]
-    return "\n".join(" ".join([*line[:3], "0", *line[4:]] if line[1:2] == ["spawn"] else line) for line in lines)
-
-
 def play_here(trace, privilege="both"):
     """The report of this machine's kernel."""
     refuse_here(trace)
     program = Instructions(trace, True, privilege).text()
-    if os.geteuid() != 0:
-        program = as_myself(program)
     try:
         ran = subprocess.run([built()], input=program.encode(), capture_output=True, check=False, timeout=LIMIT)
     except subprocess.TimeoutExpired as error:
