@@ -15,8 +15,8 @@ const PIECE: usize = 4096;
 /// What to do with each request of a run, in order, from a look at what it names. Up to `workers` threads each look at a
 /// piece of the run, if it is long enough for two pieces of 4,096 requests or more. A shorter run is looked at by the
 /// calling thread, and so is one whose first and last pages are as close as those of one array, since looks at pages close
-/// together cost less than threads. The view must show frames of this machine only. An error means that the host is out of memory; a run
-/// without requests takes none. The target's number is also used as a status, so it must be below 2^31.
+/// together cost less than threads. The view must show frames of this machine only. An error means that the host is out of
+/// memory; a run without requests takes none. The target's number is also used as a status, so it must be below 2^31.
 pub fn classify<R: Threads + Sync, A: Allocator + Copy + Send + Sync, V: PageView + Sync>(
     rt: &R,
     workers: usize,

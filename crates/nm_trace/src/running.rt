@@ -96,9 +96,8 @@ fn run_bytes<A: Allocator + Copy + Send + Sync, C: RunCrew<A>, W: TellingWriter>
 /// If it returns no fault, the report on the trace was written: on its calls, made one after another, each as one
 /// request after another, with the frames that a run leaves free at its end; the system is in the state of these calls,
 /// and its machine is sound; and no call except a write, and those that add or remove areas, changed a byte that a
-/// process reads, except by its own writes in flight. Which crew it is, and how many
-/// workers it has, makes no difference to any of this. The
-/// system, the bytes and the lines are in the memory of `alloc`, and the JSON tree in that of `heap`.
+/// process reads, except by its own writes in flight. Which crew it is, and how many workers it has, makes no difference
+/// to any of this. The system, the bytes and the lines are in the memory of `alloc`, and the JSON tree in that of `heap`.
 ///
 /// Faults, in order: `ReadFault` if the reader failed or gave more than 16,777,216 bytes; those of `read_trace`; those
 /// of `play`. Nothing is written before the whole trace is checked.

@@ -97,9 +97,9 @@ pub(crate) fn unread_words<E: Write>(kind: io::ErrorKind, err: &mut E) -> u8
 }
 
 /// Runs the program: reads the words, then the trace from the reader, and writes the report to `out`. `--workers N`
-/// sets how many workers copy, 1 to 64, and 4 if it is not given; it changes no byte of the report. Returns the exit
-/// status: 0 after a whole report; 2 for a bad trace, for words that are refused, and for `--help` and `--version`; 3
-/// if the host is out of memory; 4 for a read or write fault. A fault is reported on `err`, in one line or in clap's
+/// sets how many workers copy and look, 1 to 64, and 4 if it is not given; it changes no byte of the report. Returns the
+/// exit status: 0 after a whole report; 2 for a bad trace, for words that are refused, and for `--help` and `--version`;
+/// 3 if the host is out of memory; 4 for a read or write fault. A fault is reported on `err`, in one line or in clap's
 /// own text, and a fault of `err` does not change the status.
 pub fn run_words<T: Threads + Wait, R: TellingReader, W: TellingWriter, E: Write>(
     rt: &T,
