@@ -1,0 +1,3 @@
+mod Handles
+mod LowBits
+mod RawBoxes

@@ -1,0 +1,14 @@
+-- What a handle owns: the block of its session, or, with no session, nothing: then it is null.
+use Rattle.std.specs.Prelude.{◌≡◌}
+use Rattle.std.specs.declared.option.Option.{Option}
+use Rattle.std.specs.declared.option.Option.TheVariants.{None, Some}
+use Rattle.std.specs.declared.alloc.Global.{Global}
+use Rattle.std.specs.contracts.impls.GlobalAllocator.TheImpl.{ghosts}
+use Rattle.std_alloc.specs.Box.Ownership.{box_owns}
+use base.Fml.{Fml, ftrue, fex}
+use denote.RattleType.{RattleType}
+use denote.RawPtr.{Ptr, null_ptr}
+
+abbrev pub kept : (R : RattleType) → Global → Ptr → Option R.Denot → Fml
+kept R a p None = fex (p ≡ null_ptr) (λ _. ftrue)
+kept R a p (Some x) = box_owns (ghosts.dealloc_token a) R p x

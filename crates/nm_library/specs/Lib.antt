@@ -1,0 +1,5 @@
+pub mod Calls
+pub mod Entries
+pub mod Held
+pub mod Rooms
+pub mod Statuses

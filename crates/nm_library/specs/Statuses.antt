@@ -1,0 +1,67 @@
+-- What traces, sessions and steps tell and leave.
+use Rattle.std.specs.Prelude.{◌≡◌, ◌⊎◌, ℕ, ℤ, pos, List, [], Option, Some, None, Ok, Err}
+use Rattle.nm_library.specs.declared.handle.Kept.{Kept}
+use Rattle.nm_library.specs.Rooms.{Tells}
+use Rattle.nm_steps.specs.Calls.{Call}
+use Rattle.nm_steps.specs.Faults.{Plan, trace_of}
+use Rattle.nm_steps.specs.declared.trace_error.TraceError.{TraceError}
+use Rattle.nm_steps.specs.declared.trace_error.TraceError.TheVariants.{NotJson, BadMachine, BadStep, ReadFault, WriteFault, HostMemory}
+use Rattle.nm_trace.specs.Played.{report_of}
+use Rattle.nm_trace.specs.Session.{asked, next, next_lines, opened, StopsShort}
+
+-- the status of a fault. A writer to memory fails only where there is none, and a reader of memory only where a trace is too long
+abbrev pub fault_status : TraceError → ℤ
+fault_status NotJson = pos 4
+fault_status BadMachine = pos 2
+fault_status (BadStep k) = pos 2
+fault_status ReadFault = pos 1
+fault_status WriteFault = pos 3
+fault_status (HostMemory k) = pos 3
+
+-- the fault is one of the bytes
+abbrev pub IsBad : TraceError → Type 0
+IsBad NotJson = Unit {0}
+IsBad BadMachine = Unit {0}
+IsBad (BadStep k) = Unit {0}
+IsBad ReadFault = ⊥
+IsBad WriteFault = ⊥
+IsBad (HostMemory k) = ⊥
+
+-- the text is the report on the trace that these bytes are
+abbrev pub IsReport : List ℕ → List ℕ → Type 0
+IsReport trace text = (plan : Plan) × (trace_of trace ≡ Ok plan) × (text ≡ report_of plan)
+
+-- the report on a trace is told; or nothing is, for a fault, which is that of the bytes if it is one of bytes
+abbrev pub Reports : List ℕ → ℤ → List ℕ → List ℕ → ℕ → ℕ → Type 0
+Reports trace status old new before needed =
+    ((text : List ℕ) × IsReport trace text × Tells text status old new needed)
+    ⊎ ((fault : TraceError) × (status ≡ fault_status fault) × (IsBad fault → trace_of trace ≡ Err fault)
+    × (new ≡ old) × (needed ≡ before))
+
+-- a session that is open stays; where there is none, the one that the top of a trace begins is opened, or none, for a fault
+abbrev pub Opens : List ℕ → ℤ → Option Kept → Option Kept → Type 0
+Opens top status (Some kept) new = (status ≡ pos 1) × (new ≡ Some kept)
+Opens top status None (Some kept) = (status ≡ pos 0) × (opened top ≡ Ok kept.session) × (kept.lines.items ≡ [])
+Opens top status None None = (fault : TraceError) × (status ≡ fault_status fault) × (IsBad fault → opened top ≡ Err fault)
+
+-- the call that the bytes are is made as the session's next step, and its lines are kept
+abbrev pub IsStep : Kept → List ℕ → Kept → Type 0
+IsStep old step new =
+    (call : Call) × (asked old.session step ≡ Ok call)
+    × (new.lines.items ≡ next_lines old.session call) × (new.session ≡ next old.session call)
+
+-- a fault of the bytes leaves the session as it was; lack of memory may leave the call made in part, or whole
+abbrev pub LeavesStep : TraceError → Kept → List ℕ → Kept → Type 0
+LeavesStep NotJson old step new = (asked old.session step ≡ Err NotJson) × (new.session ≡ old.session)
+LeavesStep BadMachine old step new = ⊥
+LeavesStep (BadStep k) old step new = (asked old.session step ≡ Err (BadStep k)) × (new.session ≡ old.session)
+LeavesStep ReadFault old step new = ⊥
+LeavesStep WriteFault old step new = ⊥
+LeavesStep (HostMemory k) old step new = StopsShort old.session step new.session
+
+-- a step is made and its lines are told; or nothing is, for a fault, and the lines of the step before are kept
+abbrev pub Steps : List ℕ → List ℕ → List ℕ → ℕ → ℕ → ℤ → Kept → Kept → Type 0
+Steps step before after needed_before needed status old new =
+    (IsStep old step new × Tells new.lines.items status before after needed)
+    ⊎ ((fault : TraceError) × (status ≡ fault_status fault) × LeavesStep fault old step new × (new.lines ≡ old.lines)
+    × (after ≡ before) × (needed ≡ needed_before))
