@@ -9,14 +9,15 @@ import re
 import sys
 
 from . import __version__
-from .commands import compare, export, machine, picture, policies, predict, record, replay, show, why, write
+from .commands import (compare, export, hunt, machine, picture, policies, predict, record, reduce, replay, show,
+                       why, write)
 from .faults import close
 from .program import Failed
-from .traces import Bad
+from .traces import Bad, EndedEarly
 from .words import printable
 
 COMMANDS = {"write": write, "why": why, "show": show, "picture": picture, "machine": machine, "replay": replay, "compare": compare,
-            "predict": predict, "export": export, "record": record, "policies": policies}
+            "predict": predict, "export": export, "hunt": hunt, "reduce": reduce, "record": record, "policies": policies}
 ABOUT = "Traces for numatrace that a person can write, and its reports as a person can read them."
 PROMISE = ("Every report but those of replay and predict comes from the program numatrace, which is proved. Nothing that numalab itself "
            "says is proved.")
@@ -79,7 +80,8 @@ def main(words=None):
         return status
     except (Bad, Failed) as fault:
         sys.stdout.flush()
-        print(f"numalab: {printable(str(fault))}", file=sys.stderr)
+        lines = str(fault).split("\n") if isinstance(fault, EndedEarly) else [str(fault)]
+        print("numalab: " + "\n".join(map(printable, lines)), file=sys.stderr)
         return 2 if isinstance(fault, Bad) else 1
     except BrokenPipeError:
         # Nobody is reading any more: discard what Python would write when it ends.

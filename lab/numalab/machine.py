@@ -1,4 +1,4 @@
-"""A modelled machine in Python: calls as methods, each answered by the program numatrace_session when it returns.
+"""A modelled machine in Python: calls as methods, each answered when it returns, by the library or the program numatrace_session.
 
     from numalab import Machine
     with Machine(nodes=[4, 4]) as m:
@@ -29,7 +29,7 @@ from .page import page_of
 from .program import Failed, played
 from .reasons import Beside, refusal_text
 from .report import read_report
-from .session import Fault, Session
+from .session import Fault, session_by
 from .statements import machine_said, tier_distances
 from .traces import Bad, Trace, json_text, load, write_file
 from .words import PAGE, left_out_text
@@ -193,10 +193,12 @@ class Process(Modelled):
 
 class Machine(Modelled, AbstractContextManager):
     """A machine of nodes, and the calls made on it so far. The nodes are their numbers of frames, such as [1200, 1200, 4096], or
-    what follows `nodes` in the notation, such as "2x1200 + cxl 4096"; `names` names them. `program` is the path of numatrace_session
-    where it is not the one in this repository or on the PATH."""
+    what follows `nodes` in the notation, such as "2x1200 + cxl 4096"; `names` names them. It is asked in this process, by the library
+    libnumatrace, or by pipes to the program numatrace_session, whose path `program` is where it is not the one in this repository or
+    on the PATH: `by` chooses "library" or "pipes" (default: the library where it is found, unless a program is named), and the
+    attribute `by` tells which one it is. The answers are the same."""
 
-    def __init__(self, nodes, distance=None, run_limit=None, program=None, names=None):
+    def __init__(self, nodes, distance=None, run_limit=None, program=None, names=None, by=None):
         if isinstance(nodes, str):
             machine = machine_said(nodes)
         else:
@@ -207,16 +209,16 @@ class Machine(Modelled, AbstractContextManager):
         if names is not None:
             machine["names"] = [name_or_none("names", name) for name in arguments.items("names", names, "a name for each node")]
         version = {"version": 1} if run_limit is None else {"version": 2, "run_limit": run_limit}
-        self._begin({**version, "machine": machine, "steps": []}, program)
+        self._begin({**version, "machine": machine, "steps": []}, program, by)
 
     @classmethod
-    def of_trace(cls, path, program=None):
+    def of_trace(cls, path, program=None, by=None):
         """The machine that a trace or a file in the notation has, on which no call is made yet."""
         machine = cls.__new__(cls)
-        machine._begin(head_of(Form(), load(str(path)).check().top), program)
+        machine._begin(head_of(Form(), load(str(path)).check().top), program, by)
         return machine
 
-    def _begin(self, top, program):
+    def _begin(self, top, program, by):
         self._top, self._form = top, Form()
         for fault in machine_faults(self._form, top):
             raise Bad(fault.text)
@@ -224,7 +226,8 @@ class Machine(Modelled, AbstractContextManager):
         self._lines, self._notes, self._beside = [], [], None
         self._next, self._pid = FIRST_ADDRESS, 0
         self.processes = []
-        self._session = Session(top, program)
+        self._session = session_by(top, program, by)
+        self.by = self._session.by
 
     def __exit__(self, *kind):
         self._session.__exit__(*kind)

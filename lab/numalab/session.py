@@ -14,6 +14,7 @@ import subprocess
 import weakref
 from contextlib import AbstractContextManager
 
+from .library import InProcess, library
 from .program import SESSION, Failed, found
 from .traces import Bad
 
@@ -145,3 +146,14 @@ class Session(AbstractContextManager):
             raise
         self._process = process
         return replies
+
+
+def session_by(top, program=None, by=None):
+    """A session by the library, in this process, or by pipes to a program: as `by` says, "library" or "pipes", or else the variable
+    NUMALAB_BY; without either by the library where it is found, unless a program is named."""
+    by = by or os.environ.get("NUMALAB_BY") or ("pipes" if program or os.environ.get(SESSION[2]) or library() is None else "library")
+    if by not in ("library", "pipes"):
+        raise Bad(f"by: \"library\" or \"pipes\", and not {by!r}")
+    session = Session(top, program) if by == "pipes" else InProcess(top, Fault)
+    session.by = by
+    return session

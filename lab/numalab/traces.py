@@ -7,8 +7,16 @@ from contextlib import contextmanager
 from .faults import MOST_BYTES, verdict
 
 
+# How the names of traces end in a folder.
+ENDINGS = (".nt", ".json")
+
+
 class Bad(ValueError):
     """What is wrong with a trace, a report or an argument. The command ends with status 2."""
+
+
+class EndedEarly(Bad):
+    """A guest that ended early: what happened, and on further lines the end of its console."""
 
 
 def read_file(path, most=-1):
@@ -111,3 +119,22 @@ def load(path):
 
 def name_without_ending(path):
     return os.path.splitext(path)[0]
+
+
+def is_trace_name(path):
+    """Whether a name is that of a trace, or standard input."""
+    return path == "-" or path.endswith(ENDINGS)
+
+
+def traces_named(paths):
+    """The paths of all traces, those of a folder by name."""
+    found = []
+    for path in paths:
+        if os.path.isdir(path):
+            there = sorted(name for name in os.listdir(path) if name.endswith(ENDINGS))
+            if not there:
+                raise Bad(f"{path}: there is no trace, whose name would end in {' or '.join(ENDINGS)}")
+            found += [os.path.join(path, name) for name in there]
+        else:
+            found.append(path)
+    return found

@@ -72,7 +72,10 @@ class Kept(Case):
         scenarios, steps = many.scenarios(), []
         for (trace, privilege), text in zip(scenarios, many.kept(scenarios, answered_by)):
             made = export.steps_of(trace, Instructions(trace, privilege=privilege), export.answers_of_kernel(trace, expected_of, privilege))
-            for step, lines in zip(made, replayed.read_replayed(text, trace.name).steps):
+            told = replayed.read_replayed(text, trace.name)
+            for k, (step, lines) in enumerate(zip(made, told.steps)):
+                if k in told.compacted:
+                    continue  # The totals are also those of pages that the kernel moved by itself.
                 number, op, answer = lines[0].split(" ", 2)
                 steps.append(step._replace(name=f"{os.path.basename(trace.name)} {number}", instructions=f"{number} say {op} {';'.join([answer, *lines[1:]])}"))
         trace = scenarios[0][0]

@@ -6,6 +6,7 @@ import json
 import os
 import subprocess
 import unittest
+from unittest import mock
 
 from support import Case, run
 from numalab import model
@@ -75,6 +76,15 @@ class Here(Case):
         trace = load(path)
         kinds = compare.compared(trace.top, model.report(trace.top).encode(), found)
         self.assertEqual([(one.step, one.kernel) for one in kinds if one.kind == compare.OTHER], [])
+
+    @needs("gcc")
+    @unittest.skipUnless(os.path.isdir(player.NODES), "this kernel has no NUMA")
+    @unittest.skipIf(errno.EPERM in asked_of_kernel(), "calls about nodes are forbidden here, as a container's filter may do")
+    def test_a_hunt(self):
+        with mock.patch.dict(os.environ, {"XDG_CACHE_HOME": self.there}):
+            status, out, err = run("hunt", "--here", "--count", "20", "--seed", "3")
+        self.assertEqual((status, err), (0, ""), out)
+        self.assertRegex(out, r"20 traces of \d+ nodes? and 30 calls; seed 3; [\d,]+ steps as expected; 0 unexplained\n$")
 
     @needs("strace")
     def test_a_command(self):

@@ -11,6 +11,7 @@ from unittest import mock
 
 from support import COMMAND, ROOT, Case, built, loaded, needs_both, read
 from numalab import Machine, Refused, program
+from numalab.library import library
 from numalab.machine import Process
 from numalab.traces import Trace, json_text, load
 
@@ -83,7 +84,8 @@ class Beside(Case):
         drawn, refusals = loaded("tests/drawn.py"), 0
         for number in range(TRACES):
             trace = drawn.Drawing(number).draw().trace
-            with Machine(trace["machine"]["nodes"], trace["machine"]["distance"], trace["run_limit"] if trace["version"] == 2 else None) as m:
+            machine, limit = trace["machine"], trace["run_limit"] if trace["version"] == 2 else None
+            with Machine(machine["nodes"], machine["distance"], limit, by="library" if number % 2 and library() else "pipes") as m:
                 calls = Calls(m)
                 for step in trace["steps"]:
                     try:
@@ -134,7 +136,7 @@ def blocks(words):
 
 @needs_both
 class Manual(Case):
-    """The examples of the manual do what they say."""
+    """The examples of the manual, and examples/epochs.py, do what they say."""
 
     def run_here(self, code):
         here = os.getcwd()
@@ -152,11 +154,9 @@ class Manual(Case):
         self.assertEqual(len(load(os.path.join(self.there, "trace.json")).steps), 4)
 
     def test_epochs(self):
-        whole = read("examples/epochs.py")
-        code, = blocks("from numalab import Machine\n\nwith")
-        self.assertEqual(whole.split("\n", 1)[1].strip(), code.strip())
+        code = read("examples/epochs.py").split("\n", 1)[1]
         self.assertLessEqual(len([line for line in code.splitlines() if line]), 20)
-        told, = re.findall("It prints `(.*?)`", read("docs/MANUAL.md"))
+        told, = re.findall("It prints `(.*?)`", read("lab/docs/DRAWING.md"))
         with mock.patch("builtins.print") as prints:
             self.run_here(code)
         self.assertEqual(str(prints.call_args[0][0]), told)

@@ -1,5 +1,5 @@
 """The laboratory for policies with the programs: what policies see is what numatrace answers to the trace of their calls, no page is in
-two places, the command of the manual works as written, and how long and how much memory a large workload takes."""
+two places, the command of the page on policies works as written, and how long and how much memory a large workload takes."""
 import json
 import os
 import shutil
@@ -22,7 +22,7 @@ SEEDS = 200
 MOST_SECONDS, MOST_KIB = 60, 300 * 1024
 WORKLOADS = ["zipf pages=40 accesses=900 epochs=5 pinned=0.1", "phases pages=40 hot=0.2 every=2 accesses=900 epochs=5",
              "stencil pages=42 processes=3 border=4 accesses=900 epochs=5", "zipf pages=40 processes=2 accesses=900 epochs=5"]
-COMMAND_OF_MANUAL = ("policies --machine cxl.nt --workload|zipf pages=4000 a=0.99 accesses=5e6|--policy first-touch --policy interleave "
+COMMAND_OF_PAGE = ("policies --machine cxl.nt --workload|zipf pages=4000 a=0.99 accesses=5e6|--policy first-touch --policy interleave "
                      "--policy hints --policy my.py:HotCold -o report.html")
 
 
@@ -135,7 +135,7 @@ class Answers(Case):
 @needs_program
 @needs_session
 class AsWritten(Case):
-    """What the manual shows."""
+    """What the page on policies shows."""
 
     def setUp(self):
         super().setUp()
@@ -144,11 +144,11 @@ class AsWritten(Case):
                 shutil.copy(os.path.join(EXAMPLES, name), self.there)
 
     def test_command(self):
-        front, workload, rest = COMMAND_OF_MANUAL.split("|")
+        front, workload, rest = COMMAND_OF_PAGE.split("|")
         status, out, err = run(*front.split(), workload, *rest.split(), folder=self.there)
         self.assertEqual((status, err), (0, ""))
         self.assertEqual(len(out.splitlines()), 4 + 7)
-        self.assertIn(textwrap.indent(out, "    "), read("docs/MANUAL.md"))
+        self.assertIn(textwrap.indent(out, "    "), read("lab/docs/POLICIES.md"))
         self.assertGreater(os.path.getsize(os.path.join(self.there, "report.html")), 50000)
 
     def test_trace_is_explained(self):

@@ -1,4 +1,4 @@
-"""What is drawn of reports, with and without their traces; that nothing overlaps or leaves the picture; that docs/ has the
+"""What is drawn of reports, with and without their traces; that nothing overlaps or leaves the picture; that lab/docs/ has the
 picture that is drawn now; and what is said of bad input."""
 import glob
 import json
@@ -15,7 +15,7 @@ from numalab.commands import picture
 from numalab.traces import Bad, read_file, trace_of
 
 NO_SQUARES = ("zeros", "flight", "counted")
-SHOWN = "docs/chain_of_nodes.svg", "examples/chain_of_nodes"
+SHOWN = "lab/docs/chain_of_nodes.svg", "examples/chain_of_nodes"
 Box = namedtuple("Box", "left top right bottom")
 Square = namedtuple("Square", "box kind tip")
 
@@ -475,7 +475,7 @@ def check_command(there):
 
 
 def check_shown():
-    """The picture in docs/ is what is drawn."""
+    """The picture in lab/docs/ is what is drawn."""
     path, example = (os.path.join(ROOT, name) for name in SHOWN)
     with open(path, encoding="utf-8") as file:
         if file.read() != picture_of(example + ".report", example + ".nt"):

@@ -81,8 +81,8 @@ class Machines(Case):
         self.assertEqual(self.told("x", NUMACTL), (0, FROM_NUMACTL, ""))
         self.assertEqual(run("machine", "-", given=NUMACTL), (0, FROM_NUMACTL, ""))
 
-    def test_manual(self):
-        shown = read("docs/MANUAL.md").split("    # one frame stands for 4,096 pages")[1].split("\n\n")[0].splitlines()[1:]
+    def test_page(self):
+        shown = read("lab/docs/RECORDING.md").split("    # one frame stands for 4,096 pages")[1].split("\n\n")[0].splitlines()[1:]
         self.assertEqual([line.strip() for line in shown], [line for line in FROM_NUMACTL.splitlines()[1:] if "left out" not in line])
 
     def test_hwloc(self):

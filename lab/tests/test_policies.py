@@ -450,7 +450,7 @@ class Lengths(unittest.TestCase):
             text = file.read()
         self.assertLessEqual(len(text[text.index("class"):].splitlines()), 15)
         body = re.sub(r"\n\n\n", "\n\n", text.split('"""\n', 1)[1])
-        self.assertIn(textwrap.indent(body, "    "), read("docs/MANUAL.md"))
+        self.assertIn(textwrap.indent(body, "    "), read("lab/docs/POLICIES.md"))
 
 
 class Samples(unittest.TestCase):

@@ -11,12 +11,11 @@ from ..linux import export
 from ..linux.differences import KERNELS
 from ..linux.instructions import Unplayable
 from ..program import found as program_found, played
-from ..traces import Bad, load, read_file, write_file
+from ..traces import Bad, load, read_file, traces_named, write_file
 from ..words import printable
 from .replay import privilege_of
 
 SUMMARY = "a trace as a test in C, for a kernel"
-ENDINGS = (".nt", ".json")
 
 
 def arguments(words):
@@ -30,20 +29,6 @@ def arguments(words):
     words.add_argument("--nice-alone", action="store_true", help="privileged processes have CAP_SYS_NICE without CAP_SYS_PTRACE")
     words.add_argument("-o", metavar="OUT", dest="out", help="a file, or the folder of a suite; standard output if none is named")
     words.add_argument("--program", metavar="PATH", help="with --model, the program numatrace")
-
-
-def traces_named(paths):
-    """The paths of all traces, those of a folder by name."""
-    found = []
-    for path in paths:
-        if os.path.isdir(path):
-            there = sorted(name for name in os.listdir(path) if name.endswith(ENDINGS))
-            if not there:
-                raise Bad(f"{path}: there is no trace, whose name would end in {' or '.join(ENDINGS)}")
-            found += [os.path.join(path, name) for name in there]
-        else:
-            found.append(path)
-    return found
 
 
 def source_for(path, asked):

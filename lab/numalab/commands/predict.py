@@ -1,7 +1,7 @@
 """Prints the report that a kernel is expected to give for a trace: the plain model with the rules of the known differences in place. Its
 form is that of `numalab replay`; ? is a node that the rules do not determine. Nothing is claimed: `numalab compare` says where a
 kernel answered differently."""
-from ..linux import kernel
+from ..linux import worlds
 from ..linux.differences import KERNELS
 from ..traces import Bad, load, write_file
 from .replay import privilege_of
@@ -20,5 +20,5 @@ def run(asked):
     trace = load(asked.trace).check()
     if any(step.get("during") for step in trace.steps):
         raise Bad(f"{trace.name}: accesses in flight exist only in the model, and nothing is predicted about them")
-    write_file(asked.out, kernel.report(trace.top, asked.kernel, privilege_of(asked)))
+    write_file(asked.out, worlds.report(trace.top, asked.kernel, privilege_of(asked)))
     return 0

@@ -34,7 +34,7 @@ def replayed_text(trace, asked):
     if asked.kernel and not asked.qemu:
         raise Bad("--kernel needs --qemu")
     if asked.qemu:
-        return many.replay_in_guest([(trace, privilege_of(asked))], guest.kernel_asked(asked.kernel))[0]
+        return many.replayed_in_guest([(trace, privilege_of(asked))], guest.kernel_asked(asked.kernel))[0]
     return many.replay_here(trace, privilege_of(asked))
 
 

@@ -43,10 +43,11 @@ enum outcome { DONE, GONE, LATE };
 static struct process processes[MOST_PROCESSES];
 static int segments[MOST_SEGMENTS];
 
-// A process that fills a node, and the pipes through which it is told to look for room again.
+// A process that fills a node with pages of a source, and the pipes through which it is told to look for room again.
 static struct {
     pid_t pid;
     int to, from;
+    unsigned long source;
 } fillers[MOST_NODES];
 static int pins[MOST_PINS][2];
 static bool away[MOST_NODES];
@@ -354,15 +355,15 @@ static void say_area(char *text)
 {
     unsigned long counts[MOST_NODES] = {0}, sum = 0, most = 0, node, count;
     char *rest = text, *address = strtok_r(rest, " \n", &rest), *policy = strtok_r(rest, " \n", &rest), *field;
-    const char *many = "";
+    const char *many = "", *joint = !strcmp(policy, "weighted") ? "-" : "";
     while ((field = strtok_r(rest, " \n", &rest))) {
-        if (*field == '(')
-            many = field; // prefer (many):1
+        if (*field == '(' || !strncmp(field, "interleave", 10))
+            many = field; // prefer (many):1, weighted interleave:1
         if (sscanf(field, "N%lu=%lu", &node, &count) == 2 && node < MOST_NODES)
             sum += counts[node] = count;
         sscanf(field, "mapmax=%lu", &most);
     }
-    say(";%s %s%s", address, policy, many);
+    say(";%s %s%s%s", address, policy, joint, many);
     if (!sum)
         return;
     say(" anon=%lu", sum);
@@ -483,6 +484,9 @@ static void live(int from, int done, unsigned long user, unsigned long privilege
     prctl(PR_SET_PDEATHSIG, SIGKILL);
     leave_vdso();
     become(user, privilege);
+    words = line; // What a call writes to is there before the first one.
+    *line = 0;
+    say_nothing();
     eventfd_write(done, 1);
     while (read_line(from, line, -1)) {
         words = line;
@@ -663,79 +667,6 @@ static void do_exit(void)
     say(process ? "ok" : "error ESRCH");
 }
 
-// The nodes of a process's pages of the player itself, which migrate_pages moves as well.
-static unsigned long own_pages(pid_t pid, void **found, int *where)
-{
-    char path[64], text[512];
-    unsigned long first, end, count = 0;
-    snprintf(path, sizeof path, "/proc/%d/maps", pid);
-    FILE *maps = fopen(path, "re");
-    while (maps && fgets(text, sizeof text, maps)) {
-        if (sscanf(text, "%lx-%lx", &first, &end) != 2 || first < own_low)
-            continue;
-        for (unsigned long at = first; at < end && count < MOST_ENTRIES; at += PAGE)
-            found[count++] = (void *)at;
-    }
-    if (maps)
-        fclose(maps);
-    if (!count || syscall(SYS_move_pages, pid, count, found, NULL, where, 0) != 0)
-        return 0;
-    return count;
-}
-
-static void ask(struct process *process, const char *sent)
-{
-    write_all(process->to, sent);
-    enum outcome outcome = wait_for(process);
-    if (outcome == DONE)
-        return;
-    bury(process);
-    say_nothing();
-    say(outcome == GONE ? "killed" : "hangs");
-}
-
-// migrate_pages, with the player's own pages left out of the totals. The same page may have had another node before.
-static void ask_to_migrate(struct process *process, struct process *target, const char *sent)
-{
-    static int before[MOST_ENTRIES], after[MOST_ENTRIES];
-    unsigned long count = target ? own_pages(target->pid, pages, before) : 0;
-    ask(process, sent);
-    if (!count || own_pages(target->pid, pages, after) != count)
-        return;
-    for (unsigned long at = 0; at < count; at++)
-        before_all.moved += before[at] >= 0 && after[at] >= 0 && before[at] != after[at];
-}
-
-// Sends a call to its process, with the real pids of the processes that it names.
-static void hand_on(const char *call)
-{
-    static char sent[BUFFER];
-    struct process *process = process_of(number());
-    if (!process) {
-        say("error ESRCH");
-        return;
-    }
-    if (strcmp(call, "move_pages") && strcmp(call, "query") && strcmp(call, "migrate_pages")) {
-        snprintf(sent, sizeof sent, "%s %s\n", call, words ? words : "");
-        ask(process, sent);
-        return;
-    }
-    unsigned long asked = number();
-    struct process *target = asked ? process_of(asked) : process;
-    snprintf(sent, sizeof sent, "%s %d %s\n", call, !asked ? 0 : target ? target->pid : NO_PID, words ? words : "");
-    if (*call == 'm' && call[1] == 'i')
-        ask_to_migrate(process, target, sent);
-    else
-        ask(process, sent);
-}
-
-static void do_vmstat(void)
-{
-    struct totals now = read_totals();
-    compacted = now.compacted != before_all.compacted;
-    say("pgmigrate_success %ld pgmigrate_fail %ld", now.moved - before_all.moved, now.failed - before_all.failed);
-}
-
 // ---- full nodes: a process takes all that is free, by first touches while there is plenty, then by moves up to the watermark
 
 static unsigned long free_pages_of(unsigned long node)
@@ -806,9 +737,8 @@ static void fill(unsigned long node, unsigned long source, int from, int to)
     _exit(0);
 }
 
-static void do_fill(void)
+static void start_filler(unsigned long node, unsigned long source)
 {
-    unsigned long node = number() % MOST_NODES, source = number();
     struct totals before = read_totals();
     int down[2], up[2];
     if (pipe2(down, O_CLOEXEC) < 0 || pipe2(up, O_CLOEXEC) < 0)
@@ -823,11 +753,29 @@ static void do_fill(void)
     close(up[1]);
     fillers[node].to = down[1];
     fillers[node].from = up[0];
+    fillers[node].source = source;
     if (!read_line(up[0], answer, PATIENCE))
         stop_for_child("a node was not filled");
     wait_for_rest();
     leave_out(before);
     before_all.compacted += read_totals().compacted - before.compacted;
+}
+
+static void do_fill(void)
+{
+    unsigned long node = number() % MOST_NODES;
+    start_filler(node, number());
+}
+
+static void drain(unsigned long node)
+{
+    if (!fillers[node].pid)
+        return;
+    kill(fillers[node].pid, SIGKILL);
+    waitpid(fillers[node].pid, NULL, 0);
+    close(fillers[node].to);
+    close(fillers[node].from);
+    fillers[node].pid = 0;
 }
 
 // Fills nodes that must be full again, before a call for which it matters.
@@ -845,15 +793,182 @@ static void keep_full(void)
     }
 }
 
-static void drain(unsigned long node)
+// ---- calls
+
+// The nodes of a process's pages of the player itself, which migrate_pages moves as well.
+static unsigned long own_pages(pid_t pid, void **found, int *where)
 {
-    if (!fillers[node].pid)
+    char path[64], text[512];
+    unsigned long first, end, count = 0;
+    snprintf(path, sizeof path, "/proc/%d/maps", pid);
+    FILE *maps = fopen(path, "re");
+    while (maps && fgets(text, sizeof text, maps)) {
+        if (sscanf(text, "%lx-%lx", &first, &end) != 2 || first < own_low)
+            continue;
+        for (unsigned long at = first; at < end && count < MOST_ENTRIES; at += PAGE)
+            found[count++] = (void *)at;
+    }
+    if (maps)
+        fclose(maps);
+    if (!count || syscall(SYS_move_pages, pid, count, found, NULL, where, 0) != 0)
+        return 0;
+    return count;
+}
+
+static void ask(struct process *process, const char *sent)
+{
+    write_all(process->to, sent);
+    enum outcome outcome = wait_for(process);
+    if (outcome == DONE)
         return;
-    kill(fillers[node].pid, SIGKILL);
-    waitpid(fillers[node].pid, NULL, 0);
-    close(fillers[node].to);
-    close(fillers[node].from);
-    fillers[node].pid = 0;
+    bury(process);
+    say_nothing();
+    say(outcome == GONE ? "killed" : "hangs");
+}
+
+// The nodes that a file lists after some words at the beginning of a line, as bits.
+static unsigned long listed_nodes(const char *path, const char *begin)
+{
+    char text[PAGE];
+    unsigned long bits = 0;
+    FILE *file = fopen(path, "re");
+    while (file && fgets(text, sizeof text, file)) {
+        if (strncmp(text, begin, strlen(begin)))
+            continue;
+        cpu_set_t set;
+        CPU_ZERO(&set);
+        add_listed(text + strlen(begin) + strspn(text + strlen(begin), " \t"), &set);
+        for (unsigned long node = 0; node < MOST_NODES; node++)
+            bits |= CPU_ISSET(node, &set) ? 1UL << node : 0;
+    }
+    if (file)
+        fclose(file);
+    return bits;
+}
+
+static unsigned long nodes_allowed(pid_t pid)
+{
+    char path[64];
+    snprintf(path, sizeof path, "/proc/%d/status", pid);
+    return listed_nodes(path, "Mems_allowed_list:");
+}
+
+// Which of the nodes in a set comes where a node comes in another, as the kernel counts round.
+static int counterpart(int node, unsigned long from, unsigned long to)
+{
+    int place = __builtin_popcountl(from & ((1UL << node) - 1)) % __builtin_popcountl(to);
+    while (place--)
+        to &= to - 1;
+    return __builtin_ctzl(to);
+}
+
+// Where migrate_pages moves a page that is on some node, and in how many moves: node by node, as do_migrate_pages goes.
+static int goes_to(int node, unsigned long from, unsigned long to, long *moves)
+{
+    *moves = 0;
+    for (unsigned long left = from; left && to;) {
+        int source = -1, target = 0;
+        for (unsigned long rest = left; rest; rest &= rest - 1) {
+            int one = __builtin_ctzl(rest), other = counterpart(one, from, to);
+            if (one == other || (__builtin_popcountl(from) != __builtin_popcountl(to) && to >> one & 1))
+                continue;
+            source = one;
+            target = other;
+            if (!(left >> other & 1))
+                break;
+        }
+        if (source < 0)
+            break;
+        left &= ~(1UL << source);
+        if (node == source) {
+            node = target;
+            ++*moves;
+        }
+    }
+    return node;
+}
+
+// Moves the player's own pages of a process to a node that migrate_pages leaves alone, if the process may use one: where it is full, it is
+// filled again after that.
+static void set_aside(pid_t pid, unsigned long from, unsigned long to)
+{
+    static int where[MOST_ENTRIES];
+    unsigned long usable = listed_nodes("/sys/devices/system/node/has_memory", "") & nodes_allowed(pid), found = 0;
+    long moves;
+    int node = -1;
+    for (int one = 0; one < MOST_NODES; one++)
+        if (usable >> one & 1 && (goes_to(one, from, to, &moves), !moves) && (node < 0 || fillers[node].pid))
+            node = one;
+    if (node < 0)
+        return;
+    unsigned long count = own_pages(pid, pages, where);
+    for (unsigned long at = 0; at < count; at++) {
+        if (where[at] >= 0 && (goes_to(where[at], from, to, &moves), moves)) {
+            pages[found] = pages[at];
+            nodes[found++] = node;
+        }
+    }
+    if (!found)
+        return;
+    bool full = fillers[node].pid;
+    if (full)
+        drain((unsigned long)node);
+    struct totals before = read_totals();
+    syscall(SYS_move_pages, pid, found, pages, nodes, statuses, geteuid() == 0 ? 4 : 2);
+    leave_out(before);
+    if (full)
+        start_filler((unsigned long)node, fillers[node].source);
+}
+
+// migrate_pages, with the player's own pages out of its way, or else left out of the totals.
+static void ask_to_migrate(struct process *process, struct process *target, const char *sent, unsigned long from, unsigned long to)
+{
+    static int before[MOST_ENTRIES], after[MOST_ENTRIES];
+    long moves;
+    to &= nodes_allowed(process->pid);
+    if (target) {
+        set_aside(target->pid, from, to);
+        keep_full(); // A full node may have lost some pages by that.
+    }
+    unsigned long count = target ? own_pages(target->pid, pages, before) : 0;
+    say_nothing();
+    ask(process, sent);
+    if (!count || own_pages(target->pid, pages, after) != count)
+        return;
+    for (unsigned long at = 0; at < count; at++)
+        if (before[at] >= 0 && goes_to(before[at], from, to, &moves) == after[at])
+            before_all.moved += moves;
+}
+
+// Sends a call to its process, with the real pids of the processes that it names.
+static void hand_on(const char *call)
+{
+    static char sent[BUFFER];
+    struct process *process = process_of(number());
+    if (!process) {
+        say("error ESRCH");
+        return;
+    }
+    if (strcmp(call, "move_pages") && strcmp(call, "query") && strcmp(call, "migrate_pages")) {
+        snprintf(sent, sizeof sent, "%s %s\n", call, words ? words : "");
+        ask(process, sent);
+        return;
+    }
+    unsigned long asked = number();
+    struct process *target = asked ? process_of(asked) : process;
+    snprintf(sent, sizeof sent, "%s %d %s\n", call, !asked ? 0 : target ? target->pid : NO_PID, words ? words : "");
+    if (*call == 'm' && call[1] == 'i') {
+        unsigned long from = number(), to = number();
+        ask_to_migrate(process, target, sent, from, to);
+    } else
+        ask(process, sent);
+}
+
+static void do_vmstat(void)
+{
+    struct totals now = read_totals();
+    compacted = now.compacted != before_all.compacted;
+    say("pgmigrate_success %ld pgmigrate_fail %ld", now.moved - before_all.moved, now.failed - before_all.failed);
 }
 
 // ---- nodes that go and come
@@ -899,6 +1014,7 @@ static void do_offline(void)
     away[node] = status == 0;
     if (!away[node])
         set_blocks(node, "online_movable");
+    wait_for_rest(); // Cpusets change a moment later, and their pages move then.
     say(away[node] ? "ok" : "error EBUSY");
 }
 
@@ -910,7 +1026,9 @@ static bool bring_back(unsigned long node)
 
 static void do_online(void)
 {
-    say(bring_back(number()) ? "ok" : "error EIO");
+    bool well = bring_back(number());
+    wait_for_rest();
+    say(well ? "ok" : "error EIO");
 }
 
 // ---- a trace

@@ -4,48 +4,40 @@ A difference is one that rows explain where the plain model with the rules of th
 import re
 from collections import namedtuple
 
-from . import kernel
 from .differences import row_of
+from .kernel import BOTH, NEWER, numbers_of
 from .replayed import by_step, frames_apart
+from .worlds import Prediction, given
 
 SAME, EXPLAINED, OTHER = "same", "differs", "DIFFERS"
 # A step's number, how it compares, the rows that explain it, and the lines of the model, of the kernel, and of the rules.
 Compared = namedtuple("Compared", "step kind rows model kernel expected")
 
 
+def version_in(release):
+    """The version in a release, such as 6.12."""
+    found = re.match(r"\d+\.\d+", release)
+    return found[0] if found else "0.0"
+
+
 def rules_for(release):
-    """The kernel whose rules apply to a release, and what there is to say about that."""
-    found = re.match(r"(\d+)\.(\d+)", release)
-    version = (int(found[1]), int(found[2])) if found else (0, 0)
-    name = "6.1" if version < (6, 12) else "6.12"
-    exact = f"{version[0]}.{version[1]}" == name
-    return name, "" if exact else f"there are no rows for Linux {release}: those of {name} are used"
+    """The kernel whose rows apply to a release, and what there is to say about that."""
+    name = "6.1" if numbers_of(version_in(release)) < NEWER else "6.12"
+    return name, "" if version_in(release) == name else f"there are no rows for Linux {release}: those of {name} are used"
 
 
-def fits(expected, told):
-    """Whether lines are as expected, where ? is what is not known."""
-    if len(expected) != len(told):
-        return False
-    for line, other in zip(expected, told):
-        form = [re.escape(part) for part in re.split(r"(?<==)\?| \?(?= |$)", str(line))]
-        marks = [r"\d+" if mark == "?" else r"(?: -?\d+| N\d+=\d+)+" for mark in re.findall(r"(?<==)\?| \?(?= |$)", str(line))]
-        if not re.fullmatch("".join(part + mark for part, mark in zip(form, [*marks, ""])), other):
-            return False
-    return True
-
-
-def compared(top, report, replayed, privilege=kernel.BOTH):
+def compared(top, report, replayed, privilege=BOTH):
     """Each step of a trace with the lines of the program's report and those of a replay."""
     own = [frames_apart(top, lines) for lines in by_step(report.decode().split("\n")[:-1], "the report")]
-    version, _ = rules_for(replayed.release)
-    last, found = [], []
-    for k, one in enumerate(kernel.given(top, version, privilege)):
-        told = replayed.steps[k] if k < len(replayed.steps) else ["(nothing)"]
-        last = one.rows or last
+    prediction, last, found = Prediction(top, version_in(replayed.release), privilege), [], []
+    for k, step in enumerate(top["steps"]):
+        one, told = prediction.give(step), replayed.steps[k] if k < len(replayed.steps) else ["(nothing)"]
+        rows = prediction.settle(told)
+        last = rows or one.rows or last
         if told == own[k]:
             found.append(Compared(k, SAME, [], own[k], told, one.lines))
-        elif fits(one.lines, told) and last:
-            found.append(Compared(k, EXPLAINED, one.rows or last, own[k], told, one.lines))
+        elif rows is not None and last:
+            found.append(Compared(k, EXPLAINED, last, own[k], told, one.lines))
         elif k in replayed.compacted:
             found.append(Compared(k, EXPLAINED, ["vmstat-compaction"], own[k], told, one.lines))
         else:
@@ -63,7 +55,7 @@ def words_of_row(name, version):
 def lines_of(found, release):
     """What a comparison says, step by step, with each row once at the end."""
     version, note = rules_for(release)
-    named = []
+    kernel, named = f"Linux {version_in(release)}", []
     if note:
         yield note
     for one in found:
@@ -73,7 +65,7 @@ def lines_of(found, release):
             continue
         as_rows = f"differs as documented: {', '.join(one.rows)}" if one.kind == EXPLAINED else "DIFFERS"
         yield f"{one.step:6}  {op:14} {as_rows}"
-        for who, lines in [("this model", one.model), (f"Linux {version}", one.kernel), *([("expected", one.expected)] if one.kind == OTHER else [])]:
+        for who, lines in [("this model", one.model), (kernel, one.kernel), *([("expected", one.expected)] if one.kind == OTHER else [])]:
             yield from (f"          {who + ':' if place == 0 else '':12} {line}" for place, line in enumerate(lines))
         named += [row for row in one.rows if row not in named]
     for name in named:
@@ -96,13 +88,13 @@ def worst(found):
 Parting = namedtuple("Parting", "lines rows texts")
 
 
-def partings(top, report, version, privilege=kernel.BOTH):
+def partings(top, report, version, privilege=BOTH):
     """By step, where a kernel is expected to differ from the model. For a trace with accesses in flight nothing is expected."""
     if any(step.get("during") for step in top["steps"]):
         return {}
     own = [frames_apart(top, lines) for lines in by_step(report.decode().split("\n")[:-1], "the report")]
     found, last = {}, []
-    for k, one in enumerate(kernel.given(top, version, privilege)):
+    for k, one in enumerate(given(top, version, privilege)):
         last, lines = one.rows or last, [str(line) for line in one.lines]
         if lines != own[k]:
             reasons = [f"           {name}: {row_of(name)['reason'] or 'no reason is on record'}" for name in one.rows] or [

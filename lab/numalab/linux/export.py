@@ -12,12 +12,12 @@ from ..names import notes_of
 from ..notate import Notator, notation_of
 from ..table import Plain
 from ..words import nodes_text, printable
-from . import kernel
 from .compare import partings
 from .differences import KERNELS
 from .instructions import HIGHEST, Instructions, Unplayable, short_name
 from .player import HERE, source_text
 from .replayed import by_step, frames_apart
+from .worlds import given
 
 FORMS = ("tap", "ltp", "kselftest")
 COMPILED = {
@@ -28,6 +28,7 @@ COMPILED = {
 MADE = "made by numalab export"
 MOST_LETTERS, MOST_COLUMNS, MOST_NODES, MOST_LINES = 100, 118, 64, 200
 UNCHECKED_FREE = "kernels do not show their free frames"
+UNCHECKED_OPEN = "what decides it is not known beforehand"
 UNCHECKED_OWN = "the model alone refuses it: it is not made"
 
 # What a step of a test has: what it is called, its instructions, the answer that is expected, what is said of that answer, and why it is
@@ -83,17 +84,17 @@ def remark_of_entries(places, who):
 
 def answers_of_kernel(trace, version, privilege):
     """For each step the answer that a kernel is expected to give, and a remark."""
-    for one in kernel.given(trace.top, version, privilege):
+    for one in given(trace.top, version, privilege):
         yield answer_text(one.lines), remark_of_entries(unwritten(one.lines), f"Linux {version} writes")
 
 
 def answers_of_model(trace, report, privilege):
     """For each step the answer of the model, without the statuses that neither kernel writes, and what is known of kernels."""
     own = [frames_apart(trace.top, lines) for lines in by_step(report.decode().split("\n")[:-1], "the report")]
-    given = {version: kernel.given(trace.top, version, privilege) for version in KERNELS}
+    expected = {version: given(trace.top, version, privilege) for version in KERNELS}
     differ = {version: partings(trace.top, report, version, privilege) for version in KERNELS}
     for k, lines in enumerate(own):
-        places = set.intersection(*(unwritten(told[k].lines) for told in given.values()))
+        places = set.intersection(*(unwritten(told[k].lines) for told in expected.values()))
         words = lines[0].split(" ")
         if words[1] == "move_pages" and words[2] != "error":
             lines = [" ".join("-" if place - 3 in places else word for place, word in enumerate(words))]
@@ -116,7 +117,7 @@ def steps_of(trace, instructions, answers):
     """The steps of a test."""
     for lines, title, (expected, remark) in zip(instructions_by_step(instructions), titles_of(trace.top), answers):
         said = lines[-1].split(" ")[1:3]
-        unchecked = "" if said[0] != "say" else UNCHECKED_FREE if said[1] == "free" else UNCHECKED_OWN
+        unchecked = UNCHECKED_OPEN if expected == "?" else "" if said[0] != "say" else UNCHECKED_FREE if said[1] == "free" else UNCHECKED_OWN
         yield Step(title, "\n".join(lines), expected, remark, unchecked)
 
 

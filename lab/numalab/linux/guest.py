@@ -3,11 +3,14 @@ import contextlib
 import os
 import re
 import shutil
+import signal
 import subprocess
 import tempfile
+import threading
 import time
+from collections import namedtuple
 
-from ..traces import Bad
+from ..traces import Bad, EndedEarly
 from .player import cache_folder
 
 QEMU = "qemu-system-x86_64"
@@ -17,11 +20,14 @@ NO_KERNEL = ("there is no kernel: lab/kernels fetches those from Debian's packag
 MEGABYTE = 1 << 20
 FIRST_NODE, OTHER_NODE, BLOCK = 192, 64, 128
 MOST_NODES = 16
-# A boot takes some six seconds. A guest that has not ended after this many has hung.
-BOOT_LIMIT, TRACE_LIMIT = 120, 20
+# A boot takes some six seconds, and a step at most a minute, but on a busy host much more. A guest that has told nothing for this long has
+# hung.
+BOOT_LIMIT, STEP_LIMIT, PAUSE = 300, 300, 0.1
 CONSOLE_LINES = 12
+# On a busy host a guest's timer is late, which a kernel would take for a broken one; and where nodes can go, a kernel would take 64 MiB
+# of the last other node for its software IO TLB.
 APPEND = ("console=ttyS0 quiet panic=-1 transparent_hugepage=never numa_balancing=disable memhp_default_state=online_movable "
-          "random.trust_cpu=on mitigations=off")
+          "random.trust_cpu=on mitigations=off no_timer_check swiotlb=noforce")
 RELEASE = re.compile(rb"(\d+\.\d+\.\d+[^\x00\s]*) \(")
 
 
@@ -87,14 +93,15 @@ def entry_of_archive(name, mode, data=b"", device=(0, 0)):
     return text + data + b"\0" * (-len(data) % 4)
 
 
-def archive(player, program):
-    """The files of the guest: the player, and its instructions."""
+def archive(player, program, more=()):
+    """The files of the guest: the player, its instructions, and perhaps more programs, by their paths there."""
     with open(player, "rb") as file:
         image = file.read()
     return b"".join([
         entry_of_archive("dev", 0o40755), entry_of_archive("dev/console", 0o20600, device=(5, 1)),
         entry_of_archive("init", 0o100755, image), entry_of_archive("program", 0o100644, program.encode()),
-        entry_of_archive("TRAILER!!!", 0)])
+        *(entry_of_archive(folder, 0o40755) for folder in sorted({os.path.dirname(path) for path, _ in more})),
+        *(entry_of_archive(path, 0o100755, data) for path, data in more), entry_of_archive("TRAILER!!!", 0)])
 
 
 def words_of(kernel, folder, shape):
@@ -129,26 +136,95 @@ def last_lines(folder):
     return "\n  (nothing)"
 
 
-def boot(kernel, player, program, shape, traces=1):
-    """Boots a guest that plays some instructions; returns its report."""
+# What a guest has told: its report as far as it got, and what went wrong, or None.
+Told = namedtuple("Told", "report trouble")
+
+
+class Signals:
+    """Notes requests to end this program while it waits for guests, in a `with`, and obeys them only when it is asked to: nothing is
+    left behind then, no guest and none of its files. In other threads it notes nothing: there an event ends a guest."""
+
+    NOTED = (signal.SIGINT, signal.SIGTERM, signal.SIGHUP)
+
+    def __init__(self):
+        self.sent, self.before = None, {}
+
+    def note(self, number, _):
+        self.sent = number
+
+    def __enter__(self):
+        if threading.current_thread() is threading.main_thread():
+            for number in self.NOTED:
+                if signal.getsignal(number) in (signal.SIG_DFL, signal.default_int_handler):
+                    self.before[number] = signal.signal(number, self.note)
+        return self
+
+    def __exit__(self, *_):
+        for number, before in self.before.items():
+            signal.signal(number, before)
+
+    def obey(self):
+        if self.sent == signal.SIGINT:
+            raise KeyboardInterrupt
+        if self.sent:
+            raise SystemExit(128 + self.sent)
+
+
+def report_of(folder):
+    with contextlib.suppress(OSError), open(os.path.join(folder, "report"), "rb") as file:
+        return file.read().decode("utf-8", "replace").replace("\r\n", "\n")
+    return ""
+
+
+def wait_for(process, folder, stop, signals):
+    """Waits until a guest has ended; returns why it is to be ended before, or None."""
+    path, size, since, limit = os.path.join(folder, "report"), 0, time.monotonic(), BOOT_LIMIT
+    while True:
+        with contextlib.suppress(subprocess.TimeoutExpired):
+            process.wait(PAUSE)
+            return None
+        now = os.path.getsize(path) if os.path.exists(path) else 0
+        if now != size:
+            size, since, limit = now, time.monotonic(), STEP_LIMIT
+        if signals.sent or stop is not None and stop.is_set():
+            return "the guest was stopped"
+        if time.monotonic() - since > limit:
+            return f"the guest has told nothing for {limit} seconds"
+
+
+def told_by(kernel, player, program, shape, stop=None, more=()):
+    """Boots a guest that plays some instructions; returns what it has told. It is ended where an event says so."""
     if not shutil.which(QEMU):
         raise Bad(NO_QEMU)
-    with tempfile.TemporaryDirectory(prefix="numalab-") as folder:
+    with Signals() as signals, tempfile.TemporaryDirectory(prefix="numalab-") as folder:
         with open(os.path.join(folder, "initrd"), "wb") as file:
-            file.write(archive(player, program))
-        words = words_of(kernel, folder, shape)
-        limit = BOOT_LIMIT + TRACE_LIMIT * traces
+            file.write(archive(player, program, more))
+        # Where this program is killed, so is the guest.
+        words = [*(["setpriv", "--pdeathsig", "KILL"] if shutil.which("setpriv") else []), *words_of(kernel, folder, shape)]
         begun = time.monotonic()
         try:
-            ran = subprocess.run(words, capture_output=True, check=False, timeout=limit, stdin=subprocess.DEVNULL)
-        except subprocess.TimeoutExpired as error:
-            raise Bad(f"the guest did not end within {limit} seconds; its console shows{last_lines(folder)}") from error
+            with open(os.path.join(folder, "errors"), "wb") as errors, subprocess.Popen(
+                    words, stdin=subprocess.DEVNULL, stdout=subprocess.DEVNULL, stderr=errors) as process:
+                try:
+                    trouble = wait_for(process, folder, stop, signals)
+                finally:
+                    process.kill()
+            with open(os.path.join(folder, "errors"), "rb") as errors:
+                said = errors.read().decode("utf-8", "replace").strip()
         except OSError as error:
             raise Bad(f"{QEMU}: {error.strerror}") from error
-        if ran.returncode != 0:
-            raise Bad(f"{QEMU} ended with status {ran.returncode}: {ran.stderr.decode('utf-8', 'replace').strip()}")
-        with open(os.path.join(folder, "report"), "rb") as file:
-            report = file.read().decode("utf-8", "replace").replace("\r\n", "\n")
-        if not report.endswith("# end\n"):
-            raise Bad(f"the guest ended after {time.monotonic() - begun:.0f} seconds without a whole report; its console shows{last_lines(folder)}")
-        return report
+        signals.obey()
+        report, seconds = report_of(folder), time.monotonic() - begun
+        if trouble is None and process.returncode != 0:
+            raise EndedEarly(f"{QEMU} ended with status {process.returncode}: {said}")
+        if trouble is None and not report.endswith("# end\n"):
+            trouble = f"the guest ended after {seconds:.0f} seconds without a whole report"
+        return Told(report, trouble and f"{trouble}; its console shows{last_lines(folder)}")
+
+
+def boot(kernel, player, program, shape):
+    """The whole report of a guest."""
+    told = told_by(kernel, player, program, shape)
+    if told.trouble:
+        raise EndedEarly(told.trouble)
+    return told.report

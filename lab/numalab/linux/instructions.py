@@ -15,12 +15,23 @@ MOST_PAGES = 1 << 20
 MOST_PROCESSES, MOST_SEGMENTS, MOST_AT_ONCE = 256, 1024, 256
 # The privilege of a privileged process.
 PRIVILEGES = {"nice": 1, "both": 2}
-# The steps for which the player prints the model's answer where the model refuses them.
+
+
+# The steps that the player does not make where the model refuses them, but answers as the model does.
 OWN = {"spawn", "map", "attach", "pin", "unpin"}
 
 
+def is_said(op, answer):
+    """Whether the player says the answer of the model, because the call is the model's own."""
+    return answer.startswith("error ") and (op in OWN or op in ("read", "write") and answer in ("error EINVAL", "error ESRCH"))
+
+
 class Unplayable(Bad):
-    """A trace that no kernel can be made to play."""
+    """A trace that no kernel can be made to play, and the step because of which."""
+
+    def __init__(self, told, step=None):
+        super().__init__(told)
+        self.step = step
 
 
 class Watched(Machine):
@@ -57,7 +68,7 @@ class Instructions:
         return "".join(line + "\n" for line in [f"trace {short_name(self.name)}", *self.shared, *self.body])
 
     def cannot(self, why):
-        raise Unplayable(f"{self.name}: step {self.k}: {why}")
+        raise Unplayable(f"{self.name}: step {self.k}: {why}", self.k)
 
     def add(self, step):
         """Adds a step, and plays it on the model."""
@@ -69,10 +80,9 @@ class Instructions:
         head = machine.play(step)[0].split(" ", 2)[2]
         if machine.ran_full is not None:
             self.cannot(f"node {machine.ran_full} fills up within the step, and a kernel's node can only be filled before a step")
-        refused = head.startswith("error ")
         if op == "free":
-            self.say(op, "-" if not refused else head)
-        elif refused and (op in OWN or op in ("read", "write") and head in ("error EINVAL", "error ESRCH")):
+            self.say(op, head if head.startswith("error ") else "-")
+        elif is_said(op, head):
             self.say(op, head)
         else:
             self.body.append(f"{self.k} {op} {getattr(self, op)(step) if place is None else self.pin_words(step, place)}")

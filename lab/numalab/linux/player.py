@@ -7,7 +7,7 @@ import subprocess
 import tempfile
 
 from ..traces import Bad
-from .instructions import Instructions
+from .instructions import Instructions, Unplayable
 
 HERE = os.path.dirname(os.path.abspath(__file__))
 SOURCE = os.path.join(HERE, "player.c")
@@ -66,12 +66,12 @@ def refuse_here(trace):
     """Refuses a trace for which this machine lacks something."""
     wanted, there = len(trace.top["machine"]["nodes"]), nodes_here()
     if there < wanted:
-        raise Bad(f"{trace.name}: the trace has {wanted} nodes, and this machine has {there}: --qemu plays it on a kernel of its own")
+        raise Unplayable(f"{trace.name}: the trace has {wanted} nodes, and this machine has {there}: --qemu plays it on a kernel of its own")
     spawns = [step for step in trace.steps if step["op"] == "spawn"]
     if os.geteuid() != 0 and (len({step["uid"] for step in spawns}) > 1 or any(step.get("privileged", False) for step in spawns)):
-        raise Bad(f"{trace.name}: only root can play several users or privileged processes: sudo numalab replay --here, or --qemu")
+        raise Unplayable(f"{trace.name}: only root can play several users or privileged processes: sudo numalab replay --here, or --qemu")
     if there > wanted and any(len(set(step["allowed"])) == wanted for step in spawns):
-        raise Bad(f"{trace.name}: the trace has {wanted} node(s), and this machine has {there}: only a trace of {there} nodes can be played here")
+        raise Unplayable(f"{trace.name}: the trace has {wanted} node(s), and this machine has {there}: only a trace of {there} nodes can be played here")
 
 
 def play_here(trace, privilege="both"):

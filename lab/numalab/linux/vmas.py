@@ -3,37 +3,51 @@ from collections import namedtuple
 
 from ..model import DEFAULT
 
+# From which version on a new area becomes part of the one before it rather than of the one behind it, and an area without a private
+# page takes in others: these were seen to have it, and not those before them of differences.KERNELS.
+MAPPED_LEFT, MERGED_UNTOUCHED = (6, 12), (6, 18)
+
 # A range of page numbers, its policy, what keeps its private pages together once one is there (anon), and for shared memory its
 # segment with where that would begin.
 Vma = namedtuple("Vma", "first end policy anon origin")
 
 
-def alike(left, right):
-    """Whether two areas next to each other become one."""
-    return (left.end == right.first and left.policy == right.policy and left.origin == right.origin
-            and (left.anon is None or right.anon is None or left.anon == right.anon))
+def near(left, right):
+    """Whether two areas, or none, could be one but for what keeps their private pages together."""
+    return bool(left and right and left.end == right.first and left.policy == right.policy and left.origin == right.origin)
+
+
+def agree(left, right):
+    """Whether the private pages of two areas can be kept together."""
+    return left.anon is None or right.anon is None or left.anon == right.anon
 
 
 class Vmas:
-    """The areas of one process, by address."""
+    """The areas of one process, by address, as a version of the kernel has them, which is two numbers."""
 
-    def __init__(self):
-        self.all, self.anons = [], 0
+    def __init__(self, version):
+        self.version, self.all, self.anons = version, [], 0
+
+    def takes(self, neighbour, anon):
+        """Whether an area can have in it private pages that are kept together by anon: before MERGED_UNTOUCHED one without a page
+        takes none of others (is_mergeable_anon_vma, where an empty chain is not singular)."""
+        if neighbour.anon is None and self.version >= MERGED_UNTOUCHED:
+            return True
+        return neighbour.anon == anon or neighbour.anon is not None and anon is None
+
+    def copied(self):
+        other = Vmas(self.version)
+        other.all, other.anons = list(self.all), self.anons
+        return other
 
     def over(self, number):
         return next((vma for vma in self.all if vma.first <= number < vma.end), None)
 
-    def merged(self, first, end):
-        """Merges areas where one begins or ends within a range; says whether any were merged."""
-        found, before = [], len(self.all)
-        for vma in self.all:
-            if found and first <= vma.first <= end and alike(found[-1], vma):
-                anon = found[-1].anon if found[-1].anon is not None else vma.anon
-                found[-1] = found[-1]._replace(end=vma.end, anon=anon)
-            else:
-                found.append(vma)
-        self.all = found
-        return len(found) < before
+    def ending(self, number):
+        return next((vma for vma in self.all if vma.end == number), None)
+
+    def beginning(self, number):
+        return next((vma for vma in self.all if vma.first == number), None)
 
     def cut(self, first, end):
         """Splits the areas at both ends of a range; removes those inside, and returns them."""
@@ -48,14 +62,26 @@ class Vmas:
     def put(self, vmas):
         self.all = sorted([*self.all, *vmas], key=lambda vma: vma.first)
 
+    def join(self, *vmas):
+        """Makes one area of some that follow one another; returns it."""
+        whole = vmas[0]._replace(end=vmas[-1].end, anon=next((vma.anon for vma in vmas if vma.anon is not None), None))
+        self.cut(whole.first, whole.end)
+        self.put([whole])
+        return whole
+
     def map(self, first, end, origin):
         """A new area; says whether it became part of another."""
-        self.put([Vma(first, end, DEFAULT, None, origin)])
-        return self.merged(first, end)
+        new = Vma(first, end, DEFAULT, None, origin)
+        before, behind = self.ending(first), self.beginning(end)
+        left, right = near(before, new), near(new, behind)
+        if left and right and not (agree(before, behind) if self.version >= MAPPED_LEFT else self.takes(before, behind.anon)):
+            left, right = self.version >= MAPPED_LEFT, self.version < MAPPED_LEFT
+        self.join(*[before] * left, new, *[behind] * right)
+        return left or right
 
     def set_policy(self, first, end, policy):
-        """Sets a policy where an area has another one; returns the ranges where it is new, whether areas were merged, and whether
-        one was left whole."""
+        """Sets a policy where an area has another one; returns the areas that have got it, as they are then, whether areas were
+        merged, and whether one was left whole."""
         merged = same = False
         changed = []
         for vma in list(self.all):
@@ -65,19 +91,29 @@ class Vmas:
             if vma.policy == policy:
                 same = same or (low, high) != (vma.first, vma.end)
                 continue
-            changed.append((low, high))
-            self.put([part._replace(policy=policy) for part in self.cut(low, high)])
-            merged = self.merged(low, high) or merged
+            part = vma._replace(first=low, end=high, policy=policy)
+            before, behind = self.ending(vma.first) if low == vma.first else None, self.beginning(vma.end) if high == vma.end else None
+            left = near(before, part) and self.takes(before, part.anon)
+            right = near(part, behind) and self.takes(behind, part.anon) and (not left or agree(before, behind))
+            self.put([inside._replace(policy=policy) for inside in self.cut(low, high)])
+            changed.append(self.join(*[before] * left, part, *[behind] * right))
+            merged = merged or left or right
         return changed, merged, same
 
     def touched(self, number):
-        """From its first private page on, an area can only be merged with neighbours that have the same anon or none."""
-        place = next((place for place, vma in enumerate(self.all) if vma.first <= number < vma.end), None)
-        if place is None or self.all[place].anon is not None or self.all[place].origin is not None:
+        """From its first private page on, an area can only be merged with neighbours that have the same anon or none. It has that of
+        the area behind it, or of the one before it, where these are near (find_mergeable_anon_vma)."""
+        vma = self.over(number)
+        if vma is None or vma.anon is not None or vma.origin is not None:
             return
-        vma, self.anons = self.all[place], self.anons + 1
-        near = [other for other in self.all[max(0, place - 1) : place + 2] if other.anon is not None and (alike(other, vma) or alike(vma, other))]
-        self.all[place] = vma._replace(anon=near[0].anon if near else self.anons)
+        before, behind = self.ending(vma.first), self.beginning(vma.end)
+        anon = behind.anon if near(vma, behind) else None
+        if anon is None:
+            anon = before.anon if near(before, vma) else None
+        if anon is None:
+            self.anons += 1
+            anon = self.anons
+        self.all = [vma._replace(anon=anon) if other is vma else other for other in self.all]
 
     def rebind(self, change):
         """Changes the policies of all areas."""
