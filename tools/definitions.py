@@ -1,10 +1,11 @@
 #!/usr/bin/env python3
-"""Lists every public definition of the specifications, each with its file and the comment above it: docs/DEFINITIONS_ALL.md.
+"""Lists every public definition of the specifications, each with its file and the comment above it.
 
-Without an argument it writes the list. With --check it writes nothing, and ends with status 1 where the list is not that of the
-sources, or where docs/DEFINITIONS.md names a definition that is not in the file that it says, or more than 45, or does not
-say what the contract of run_trace rests on.
-
+    tools/definitions.py                             writes the list to docs/DEFINITIONS_ALL.md, which git does not keep
+    tools/definitions.py --to FILE                   writes it to a file, as ./release does
+    tools/definitions.py --check                     writes nothing, and ends with status 1 where docs/DEFINITIONS.md names a definition
+                                                     that is not in the file that it says, or more than 45, or does not say what the
+                                                     contract of run_trace rests on
     tools/definitions.py --count run_trace           how many definitions, lines and files the contract of run_trace rests on
     tools/definitions.py --count run_trace --list    those definitions too, by file"""
 import os
@@ -24,7 +25,7 @@ MUTUAL = re.compile(r"^(?:(?:abbrev|unfoldable|opaque) )?mutual$")
 MEMBER = re.compile(r"^ +pub ([^\s({:]+) :")
 HEAD = """# All definitions
 
-Every public definition of the specifications, by crate and file, with the comment above it. `tools/definitions.py` writes this list; `docs/DEFINITIONS.md` has those to read first.
+Every public definition of the specifications, by crate and file, with the comment above it, as `tools/definitions.py` finds them. `docs/DEFINITIONS.md` has those to read first.
 """
 
 
@@ -88,11 +89,8 @@ def listed():
     return "\n".join(text), names
 
 
-def faults(text, names):
-    """What is wrong with the two pages."""
-    with open(LIST, encoding="utf-8") as file:
-        if file.read() != text:
-            yield "docs/DEFINITIONS_ALL.md is not the list of the sources: run tools/definitions.py to write it"
+def faults(names):
+    """What is wrong with the page of those to read first."""
     with open(PAGE, encoding="utf-8") as file:
         page = file.read()
     if counting.sentence("run_trace") not in page:
@@ -108,14 +106,15 @@ def faults(text, names):
 def main():
     if sys.argv[1:2] == ["--count"]:
         return counting.count(sys.argv[2:])
-    if sys.argv[1:] not in ([], ["--check"]):
-        sys.exit("tools/definitions.py: it takes no argument other than --check and --count")
+    is_given = sys.argv[1:2] == ["--to"] and len(sys.argv) == 3
+    if not is_given and sys.argv[1:] not in ([], ["--check"]):
+        sys.exit("tools/definitions.py: it takes no argument other than --to FILE, --check and --count")
     text, names = listed()
-    if sys.argv[1:]:
-        said = list(faults(text, names))
+    if sys.argv[1:] == ["--check"]:
+        said = list(faults(names))
         print("\n".join(said), end="\n" if said else "")
         return 1 if said else 0
-    with open(LIST, "w", encoding="utf-8") as file:
+    with open(sys.argv[2] if is_given else LIST, "w", encoding="utf-8") as file:
         file.write(text)
     return 0
 
