@@ -1,5 +1,5 @@
 #!/usr/bin/env python3
-"""Times the built program on each kind of trace, and writes the table of docs/PERFORMANCE.md.
+"""Times the built program on each kind of trace, and writes a table, of which docs/PERFORMANCE.md has the last row of each kind.
 
 The sizes are 1, 2, 4 and 8 times the smallest; the table has seconds of processor time (the best of five runs), peak memory,
 and how the time grows. With `--against PROGRAM` it plays each kind at its largest size on that program and on the built one in

@@ -7,6 +7,7 @@ set -eu
 cd "$(dirname "$0")/.."
 program=crates/numatrace/out/numatrace
 session=crates/numatrace_session/out/numatrace_session
+library=crates/nm_library/out/lib/libnumatrace.so.1
 fail() {
     echo "tests/release.sh: $1" >&2
     exit 1
@@ -14,7 +15,7 @@ fail() {
 note() {
     echo "tests/release.sh: $1" >&2
 }
-for each in "$program" "$session"; do [ -x "$each" ] || fail "there is no program $each: run ./build first"; done
+for each in "$program" "$session" "$library"; do [ -x "$each" ] || fail "there is no $each: run ./build first"; done
 there=$(mktemp -d)
 trap 'rm -rf "$there"' EXIT
 trap 'exit 130' HUP INT TERM
@@ -27,7 +28,7 @@ twins() {
         git ls-files -z | tar --null -T - -cf - | tar -C "$other" -xf -
         "$other/build" < /dev/null
     fi
-    for each in "$program" "$session"; do
+    for each in "$program" "$session" "$library"; do
         cmp "$each" "$other/$each" || fail "the programs of two clones differ"
         echo "one program in two folders: sha256 $(sha256sum < "$each" | cut -c 1-64)"
     done
@@ -97,9 +98,10 @@ expect_report enter '/opt/a prefix/bin/numatrace' --workers 64
 tar -C "$root" -xzf "dist/$name.tar.gz"
 enter "/$name/install" --uninstall --prefix '/opt/a prefix'
 [ -z "$(find "$root/opt" -mindepth 1)" ] || fail "--uninstall leaves something of a release: $(find "$root/opt")"
-for each in "$program" "$session"; do
+for each in "$program" "$session" "$library"; do
     grep -q "^sha256:   $(sha256sum < "$each" | cut -c 1-64)$" "$root/$name/PROVENANCE" || fail "PROVENANCE has a different sum"
 done
+grep -q '^| `IsPlayed` |' "$root/$name/share/doc/numatrace/docs/DEFINITIONS_ALL.md" || fail "the list of all definitions is not that of the sources"
 rm -r "${root:?}/$name"
 
 # The package puts the command and the man page in place, and its removal takes them away.
@@ -143,6 +145,12 @@ expect_report "$prefix/bin/numatrace"
 expect_replies "$prefix/bin/numatrace-session"
 ln -s "$prefix/bin/numatrace" "$there/link"
 expect_report "$there/link"
+if command -v cc > /dev/null && command -v pkg-config > /dev/null; then
+    # shellcheck disable=SC2046 # (the flags are words)
+    cc -o "$there/machine" examples/library/machine.c $(PKG_CONFIG_PATH=$prefix/lib/pkgconfig pkg-config --cflags --libs numatrace) ||
+        fail "a program in C cannot be linked with the installed library"
+    LD_LIBRARY_PATH=$prefix/lib "$there/machine" | cmp - examples/library/expected || fail "a program in C with the installed library writes something else"
+fi
 ./install --prefix "$prefix" > "$there/out" || fail "install over an earlier one fails"
 ./install --uninstall --prefix "$prefix"
 [ "$(find "$prefix" -mindepth 1)" = "$prefix/bin" ] || fail "--uninstall leaves something: $(find "$prefix")"

@@ -168,6 +168,7 @@ done
 mkdir -p "crates/$name/out/rlib"
 echo "$name" > "crates/$name/out/rlib/stamp"
 [ "$1" = lib ] || { echo program > "crates/$name/out/$name" && chmod +x "crates/$name/out/$name"; }
+[ "$name" != nm_library ] || echo library > "crates/$name/out/libnm_library.a"
 echo "ends $name" >> "$NOTES"
 END
     chmod +x "$there/bin/rt" "$all/tools/prove.py"
@@ -178,6 +179,9 @@ cp tools/prove_all.py "$all/tools/"
 toolchain
 cp -R build crates.txt HANDLES "$all/"
 for crate in crates/*/; do mkdir -p "$all/$crate/src"; done
+mkdir "$all/packaging"
+printf '#!/bin/sh\necho links >> "$NOTES"\n' > "$all/packaging/library"
+chmod +x "$all/packaging/library"
 for crate in numatrace numatrace_session; do : | tee "$all/crates/$crate/stdin" > "$all/crates/$crate/src/main.rt"; done
 build_all() {
     : > "$there/notes"
@@ -204,17 +208,19 @@ until_free() {
     flock -w 300 "$all/crates" true || fail "processes of a build that was told to stop do not end"
 }
 
-# Each crate of the programs is proved once, after those below it, that of sessions last; no crate is proved that the programs do not
-# need.
+# Each crate of the programs is proved once, after those below it, that of sessions and then the library last; no crate is proved that
+# these do not need.
 build_all '' '' || fail "a build fails: $(cat "$there/err" "$there/notes")"
 proved=$(count stamp)
 [ "$(grep -c '^begins' "$there/notes")" = "$proved" ] || fail "a crate is proved more than once"
 [ ! -e "$all/crates/nm_checks/out" ] || fail "a build proves what the program does not depend on"
-[ "$(tail -n 3 "$there/notes" | tr '\n' ' ')" = "ends numatrace begins numatrace_session ends numatrace_session " ] ||
-    fail "a build does not make the program for sessions last: $(tail -n 4 "$there/notes")"
-for program in numatrace numatrace_session; do
-    [ -x "$all/crates/$program/out/$program" ] || fail "a build makes no program $program"
-    grep -q ' the kit$' "$all/crates/$program/out/$program.sources" || fail "a build does not note sources and kit of $program"
+[ "$(tail -n 6 "$there/notes" | tr '\n' ' ')" = "ends numatrace begins numatrace_session ends numatrace_session begins nm_library ends nm_library links " ] ||
+    fail "a build does not make the program for sessions and the library last: $(tail -n 6 "$there/notes")"
+for program in numatrace numatrace_session nm_library; do
+    made=$all/crates/$program/out/$program
+    [ "$program" != nm_library ] || made=$all/crates/nm_library/out/libnm_library.a
+    [ -f "$made" ] || fail "a build makes no $program"
+    grep -q ' the kit$' "$made.sources" || fail "a build does not note sources and kit of $program"
     [ "$("$all/build" --sources "$program")" = same ] || fail "the sources that were built are not recognized"
 done
 

@@ -1,5 +1,5 @@
 #!/usr/bin/env python3
-"""Runs a command, such as ./check or rt ci NAME, and prints what each crate cost in it, as a table for docs/PROVING.md: seconds of
+"""Runs a command, such as ./check or rt ci NAME, and prints what each crate cost in it, as a table: seconds of
 processor time for its proof, for its tests, for edits by rounds, for its proof again under the edits of must-fail/, and for all of
 these and the most expensive one.
 

@@ -6,8 +6,9 @@ ways.
   checks, and its library holds what other crates may cite of it, and not its proofs: that takes less time and memory, above all with
   several processes. Where `rt check` or `rt lib` kept work in the crate (out/incremental), that is used.
 - It locks the crate's folder alone, and not those below it: several crates over the same ones are proved at a time.
+- With --built the libraries below are taken as they stand: those that `rt ci` has just built from these sources.
 
-`tools/prove.py lib|run --jobs N`"""
+`tools/prove.py [--built] lib|run --jobs N`"""
 import importlib.machinery
 import importlib.util
 import os
@@ -24,6 +25,12 @@ def kit():
     return made
 
 
+def is_for_c():
+    """Whether the crate is a library for programs in C, which no crate stands on."""
+    with open("../../crates.txt", encoding="utf-8") as lines:
+        return any(line.partition(":")[0].split() == [os.path.basename(os.getcwd()), "staticlib"] for line in lines)
+
+
 def main(words):
     rt = kit()
     for name in ("KEPT", "lock"):
@@ -32,9 +39,12 @@ def main(words):
     lock = rt.rtlib.lock
     # (the crate itself comes last)
     rt.rtlib.lock = lambda crates: lock(crates[-1:])
+    if words[0] == "--built":
+        words = words[1:]
+        rt.rtlib.Crate.is_built = lambda crate: os.path.isdir(crate.rlib)
     if not os.path.isdir("out/incremental"):
         # The flags with which a check keeps its work, and, of a library, its proofs.
-        rt.rtlib.KEPT = ["--statements"] if words[0] == "lib" else []
+        rt.rtlib.KEPT = ["--statements"] if words[0] == "lib" and not is_for_c() else []
     return rt.main(words)
 
 

@@ -5,7 +5,7 @@ A crate starts as soon as those that it depends on are proved (graphlib orders t
 the longest way to the program first, in several processes where no other crate needs the processors. Standard error says which crates are
 being proved; what the toolchain prints about a crate goes to crates/NAME/out/build.log.
 
-`tools/prove_all.py [--alone] PROGRAM`, in the top folder"""
+`tools/prove_all.py [--alone] [--built] PROGRAM`, in the top folder; PROGRAM may also be the library for programs in C"""
 import argparse
 import glob
 import graphlib
@@ -85,7 +85,7 @@ def log_of(crate):
     return "crates/%s/out/build.log" % crate
 
 
-def start(crate, processes):
+def start(crate, processes, is_built):
     """Starts the proof of a crate."""
     say("proving " + crate)
     os.makedirs("crates/%s/out" % crate, exist_ok=True)
@@ -93,7 +93,7 @@ def start(crate, processes):
     # (the file that ./build locks stays open in each process, so that the lock lasts as long as they do)
     with open("crates/%s/stdin" % crate if is_program else os.devnull, "rb") as given, open(log_of(crate), "wb") as log:
         return subprocess.Popen(
-            [PROVE, "run" if is_program else "lib", "--jobs", str(processes)],
+            [PROVE, *["--built"] * is_built, "run" if is_program else "lib", "--jobs", str(processes)],
             cwd="crates/" + crate, stdin=given, stdout=log, stderr=subprocess.STDOUT, close_fds=False,
         )
 
@@ -101,7 +101,8 @@ def start(crate, processes):
 class Build:
     """Crates that are being proved, and those that are ready to be."""
 
-    def __init__(self, needs, named):
+    def __init__(self, needs, named, is_built):
+        self.is_built = is_built
         self.lengths = {crate: length(crate, named) for crate in needs}
         self.ways = ways(needs, self.lengths)
         self.order = graphlib.TopologicalSorter(needs)
@@ -126,7 +127,7 @@ class Build:
             if not processes:
                 break
             crate = self.ready.pop(0)
-            proof = start(crate, processes)
+            proof = start(crate, processes, self.is_built)
             self.running[proof.pid] = crate, processes, proof, time.monotonic()
 
     def wait(self):
@@ -163,12 +164,13 @@ def main():
     words = argparse.ArgumentParser(description=__doc__.split("\n")[0])
     words.add_argument("program", metavar="PROGRAM")
     words.add_argument("--alone", action="store_true", help="what the program depends on is proved")
+    words.add_argument("--built", action="store_true", help="the libraries below are those that rt ci has just built")
     given = words.parse_args()
     for number in (signal.SIGHUP, signal.SIGINT, signal.SIGTERM):
         signal.signal(number, lambda *_: sys.exit(130))
     named = below()
     needs = {given.program: []} if given.alone else with_below(given.program, named)
-    return Build(needs, named).make()
+    return Build(needs, named, given.built).make()
 
 
 if __name__ == "__main__":

@@ -71,7 +71,7 @@ class Function:
 
     def __init__(self, file, path, owner, name, start, header):
         self.file, self.modules, self.owner, self.name, self.start = file, path, owner, name, start
-        self.is_public = bool(re.search(r"\bpub\s+(?:(?:const|unsafe|final|default)\s+)*fn\b", header)) or bool(owner.trait)
+        self.is_public = bool(re.search(r"\bpub\s+(?:(?:const|unsafe|final|default|extern\s+\S+)\s+)*fn\b", header)) or bool(owner.trait)
         self.body = self.end = None
 
     @property

@@ -11,8 +11,6 @@ mod policy;
 mod ranges;
 mod scan;
 mod split;
-#[cfg(test)]
-mod tests;
 mod unmap;
 
 pub use areas::Areas;

@@ -30,8 +30,6 @@ impl<A: Allocator + Copy> Areas<A> {
         ensures ok { OnOk result (range_refusal self.now pid addr len ≡ None) }
         ensures range { IfOk result
             (λ range. (range.first ≡ addr / 4096) × (range.end ≡ addr / 4096 + pages_of len)) }
-        ensures mapped { IfOk result
-            (λ range. is_mapped self.now.areas pid range.first (range.end - range.first) ≡ true) }
         ensures err { IfErr result (λ e. range_refusal self.now pid addr len ≡ Some e) }
     {
         let Some(range) = PageRange::of_bytes(addr, len) else {
@@ -43,9 +41,8 @@ impl<A: Allocator + Copy> Areas<A> {
         Ok(range)
     }
 
-    /// Sets the policy of a range of page numbers that areas of the process cover, and of no others: the process's
-    /// areas are split at both ends, and those between get the policy. Areas are never merged. An empty range splits
-    /// nothing.
+    /// Sets the policy of a range of page numbers, and of no others: the process's areas are split at both ends, and
+    /// those between get the policy. Areas are never merged. An empty range splits nothing.
     ///
     /// An error means that nothing has changed. Allocates only if the range is not empty, and one of its ends lies
     /// within an area of the process: a range of whole areas takes no memory.
@@ -55,8 +52,6 @@ impl<A: Allocator + Copy> Areas<A> {
         range: PageRange,
         policy: Policy,
     ) -> Result<(), AllocError>
-        requires mapped { is_mapped self.old.areas pid range.first (range.end - range.first) ≡ true }
-
         // In any case
         ensures pages { (q v : ℕ) → page_at self.new.areas q v ≡ page_at self.old.areas q v }
 

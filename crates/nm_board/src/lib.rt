@@ -9,8 +9,6 @@ mod report;
 mod rule;
 mod slots;
 mod steps;
-#[cfg(test)]
-mod tests;
 mod view;
 
 pub use board::{Board, Short};

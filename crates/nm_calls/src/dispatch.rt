@@ -1,12 +1,10 @@
 //! Making calls that are given as values.
 
-ghost use Rattle.std.specs.Prelude.{Bool, Err, length, map, true, ℕ, ◌<◌, ◌≡◌};
-ghost use Rattle.nm_types.specs.Nodes.{is_in};
+ghost use Rattle.std.specs.Prelude.{map, ◌<◌};
 ghost use Rattle.nm_memory.specs.views.Accesses.{answer_shown};
 ghost use Rattle.nm_steps.specs.Calls as calls;
-ghost use Rattle.nm_calls.specs.declared.call_error.CallError.TheVariants.{HostMemory};
 ghost use Rattle.nm_calls.specs.definitions.Answers as answers;
-ghost use Rattle.nm_calls.specs.definitions.Does.{Does};
+ghost use Rattle.nm_calls.specs.definitions.Does.{Asks, Does};
 ghost use Rattle.nm_calls.specs.definitions.Memory.{MayAllocate};
 ghost use Rattle.nm_steps.specs.Views.{call_of};
 ghost use Rattle.nm_calls.specs.views.Answers.{answer_of};
@@ -51,9 +49,7 @@ fn mbind<A: Allocator + Copy + Send + Sync, C: RunCrew<A>>(
 ) -> Result<Answer<A>, CallError>
     ensures done { Does answer_of result system.old system.new
         (calls.Mbind request.now.caller request.now.addr request.now.len request.now.mode request.now.nodes request.now.flags) }
-    ensures asked { (runs : ℕ) (policy_set : Bool) →
-        result ≡ Err (HostMemory runs policy_set) →
-        MayAllocate system.old.state (calls.Mbind request.now.caller request.now.addr request.now.len request.now.mode request.now.nodes request.now.flags) }
+    ensures asked { Asks result (MayAllocate system.old.state (calls.Mbind request.now.caller request.now.addr request.now.len request.now.mode request.now.nodes request.now.flags)) }
 {
     system.mbind(crew, request)?;
     Ok(Answer::Failed(0))
@@ -66,9 +62,7 @@ fn offline<A: Allocator + Copy + Send + Sync, C: RunCrew<A>>(
     node: NodeId,
 ) -> Result<Answer<A>, CallError>
     ensures done { Does answer_of result system.old system.new (calls.Offline node) }
-    ensures asked { (runs : ℕ) (policy_set : Bool) →
-        result ≡ Err (HostMemory runs policy_set) →
-        is_in system.old.state.online node ≡ true }
+    ensures asked { Asks result (MayAllocate system.old.state (calls.Offline node)) }
 {
     system.offline(crew, node)?;
     Ok(Answer::Done)
@@ -80,7 +74,7 @@ fn online<A: Allocator + Copy + Send + Sync>(
     node: NodeId,
 ) -> Result<Answer<A>, CallError>
     ensures done { Does answer_of result system.old system.new (calls.Online node) }
-    ensures asked { (runs : ℕ) (policy_set : Bool) → result ≡ Err (HostMemory runs policy_set) → ⊥ }
+    ensures asked { Asks result (MayAllocate system.old.state (calls.Online node)) }
 {
     system.online(node)?;
     Ok(Answer::Done)
@@ -93,9 +87,7 @@ fn query<A: Allocator + Copy + Send + Sync>(
 ) -> Result<Moved<A>, CallError>
     ensures done { Does (λ moved. answers.Statuses moved.failed moved.statuses.items (map answer_shown moved.answers.items)) result system.now system.now
         (calls.Query question.now.caller question.now.pid question.now.pages.items question.now.flags) }
-    ensures asked { (runs : ℕ) (policy_set : Bool) →
-        result ≡ Err (HostMemory runs policy_set) →
-        0 < length question.now.pages.items }
+    ensures asked { Asks result (MayAllocate system.now.state (calls.Query question.now.caller question.now.pid question.now.pages.items question.now.flags)) }
 {
     Ok(Moved {
         failed: 0,
@@ -110,9 +102,7 @@ impl<A: Allocator + Copy + Send + Sync> System<A> {
     /// where `MayAllocate` holds: there is something to unmap, move, set or list, say.
     pub fn call<C: RunCrew<A>>(&mut self, crew: &C, call: &Call<A>) -> Result<Answer<A>, CallError>
         ensures done { Does answer_of result self.old self.new (call_of call.now) }
-        ensures asked { (runs : ℕ) (policy_set : Bool) →
-            result ≡ Err (HostMemory runs policy_set) →
-            MayAllocate self.old.state (call_of call.now) }
+        ensures asked { Asks result (MayAllocate self.old.state (call_of call.now)) }
     {
         match call {
             Call::Spawn(process) => spawn(self, process),

@@ -5,7 +5,6 @@ ghost use Rattle.std.specs.List.{AllByRecursion, list_any};
 ghost use Rattle.nm_types.specs.Layout.{node_count};
 ghost use Rattle.nm_areas.specs.Splits.{HasSplit};
 ghost use Rattle.nm_runs.specs.Targets.{Checks};
-ghost use Rattle.nm_model.specs.definitions.Areas.{is_mapped};
 ghost use Rattle.nm_model.specs.definitions.Effect.{set_policy};
 ghost use Rattle.nm_calls.specs.declared.call_error.CallError.TheVariants.{HostMemory};
 ghost use Rattle.nm_calls.specs.definitions.Permission.{info_at};
@@ -192,8 +191,6 @@ fn binding_of<A: Allocator + Copy + Send + Sync>(
         (range_refusal machine.now request.now.caller request.now.addr request.now.len policy flags) }
     ensures range { IfOk result
         (λ b. b ≡ range_of request.now.caller request.now.addr request.now.len policy) }
-    ensures mapped { IfOk result
-        (λ b. is_mapped machine.now.areas b.pid b.first (b.end - b.first) ≡ true) }
     ensures few { IfOk result (λ b. b.end - b.first ≤ 2 ^ 52) }
 {
     let MbindRequest {
@@ -227,8 +224,6 @@ pub(crate) fn ready<A: Allocator + Copy + Send + Sync>(
         (mbind_refusal machine.now request.now.caller request.now.addr request.now.len request.now.mode request.now.nodes request.now.flags) }
 
     // On success
-    ensures mapped { IfOk result
-        (λ r. is_mapped machine.now.areas r.1.pid r.1.first (r.1.end - r.1.first) ≡ true) }
     ensures binding { IfOk result
         (λ r. r.1 ≡ binding machine.now request.now.caller request.now.addr request.now.len request.now.mode request.now.nodes) }
     ensures home { IfOk result (λ r. r.0.home ≡ home_of (info_at machine.now request.now.caller)) }
@@ -285,9 +280,6 @@ pub(crate) fn bind<A: Allocator + Copy + Send + Sync, C: RunCrew<A>>(
     limit: usize,
 ) -> Result<(), CallError>
     requires some { 0 < limit }
-    requires mapped { is_mapped machine.old.areas binding.now.pid binding.now.first
-        (binding.now.end - binding.now.first)
-        ≡ true }
     requires nodes { AllByRecursion (λ n. n < node_count (machine.old.layout))
         (nodes_named binding.now.policy) }
     requires home { asked.home ≡ home_of (info_at machine.old binding.now.pid) }
@@ -310,7 +302,7 @@ pub(crate) fn bind<A: Allocator + Copy + Send + Sync, C: RunCrew<A>>(
         first: binding.first,
         end: binding.end,
     };
-    machine.set_policy(binding.pid, range, binding.policy)?;
+    machine.set_range_policy(binding.pid, range, binding.policy)?;
     if let Err(error) = make(crew, alloc, machine, way, limit) {
         return Err(error);
     }

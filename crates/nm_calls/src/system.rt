@@ -1,17 +1,8 @@
 //! A system: a machine and its limit on runs, and the calls that processes make.
 
-ghost use Rattle.std.specs.Prelude.{Bool, Err, IfOk, OnErr, Some, [], length, map, true, ℕ, ◌+◌, ◌/◌, ◌<◌, ◌≡◌, ◌≤◌, ◌⊎◌, ◌^◌};
-ghost use Rattle.std.specs.List.{list_any};
-ghost use Rattle.nm_types.specs.Nodes.{is_in};
+ghost use Rattle.std.specs.Prelude.{Err, IfOk, OnErr, [], length, map, true, ◌+◌, ◌<◌, ◌≡◌, ◌≤◌};
 ghost use Rattle.nm_types.specs.State.{free_list};
-ghost use Rattle.nm_types.specs.declared.page.Page.{Page};
-ghost use Rattle.nm_types.specs.declared.sight.Sight.TheVariants.{Sees};
-ghost use Rattle.nm_areas.specs.Lines.{lines_of};
-ghost use Rattle.nm_areas.specs.Splits.{HasSplit};
-ghost use Rattle.nm_model.specs.definitions.AreaRefusal.{overlaps};
 ghost use Rattle.nm_model.specs.definitions.PageTables.{entries_of};
-ghost use Rattle.nm_model.specs.definitions.Seen.{sight_at};
-ghost use Rattle.nm_calls.specs.declared.call_error.CallError.TheVariants.{HostMemory};
 ghost use Rattle.nm_model.specs.definitions.Sound.{audited};
 ghost use Rattle.nm_model.specs.definitions.Sound.{IsSound};
 ghost use Rattle.nm_memory.specs.views.Accesses.{answer_shown};
@@ -22,7 +13,7 @@ ghost use Rattle.nm_calls.specs.definitions.Maps.{lines_shown};
 ghost use Rattle.nm_calls.specs.definitions.Memory.{MayAllocate};
 ghost use Rattle.nm_calls.specs.definitions.Systems.{new_system, system_with};
 ghost use Rattle.nm_calls.specs.definitions.Outcome.{outcome};
-ghost use Rattle.nm_calls.specs.definitions.Does.{Does, DoesOrRefuses};
+ghost use Rattle.nm_calls.specs.definitions.Does.{Asks, Does, DoesOrRefuses};
 ghost use Rattle.nm_steps.specs.Views.{shown_during};
 
 use crate::answer::{Moved, PagemapEntry};
@@ -187,14 +178,7 @@ impl<A: Allocator + Copy + Send + Sync> System<A> {
     /// range, and only if it is split there or a page has a frame.
     pub fn unmap(&mut self, pid: Pid, addr: u64, pages: u64) -> Result<(), CallError>
         ensures done { Does (λ done. Done) result self.old self.new (Unmap pid addr pages) }
-        ensures asked { (runs : ℕ) (policy_set : Bool) →
-            result ≡ Err (HostMemory runs policy_set) →
-            list_any (overlaps pid (addr / 4096) (addr / 4096 + pages)) self.old.state.areas ≡ true }
-        ensures needed { (runs : ℕ) (policy_set : Bool) →
-            result ≡ Err (HostMemory runs policy_set) →
-            (0 < length self.old.state.place)
-            ⊎ HasSplit self.old.state.areas pid (addr / 4096)
-            ⊎ HasSplit self.old.state.areas pid (addr / 4096 + pages) }
+        ensures asked { Asks result (MayAllocate self.old.state (Unmap pid addr pages)) }
     {
         Ok(self.machine.unmap(pid, addr, pages)?)
     }
@@ -205,12 +189,7 @@ impl<A: Allocator + Copy + Send + Sync> System<A> {
     /// the process has an area, and a page has a frame.
     pub fn exit(&mut self, pid: Pid) -> Result<(), CallError>
         ensures done { Does (λ done. Done) result self.old self.new (Exit pid) }
-        ensures asked { (runs : ℕ) (policy_set : Bool) →
-            result ≡ Err (HostMemory runs policy_set) →
-            list_any (overlaps pid 0 (2 ^ 35)) self.old.state.areas ≡ true }
-        ensures needed { (runs : ℕ) (policy_set : Bool) →
-            result ≡ Err (HostMemory runs policy_set) →
-            0 < length self.old.state.place }
+        ensures asked { Asks result (MayAllocate self.old.state (Exit pid)) }
     {
         Ok(self.machine.exit(pid)?)
     }
@@ -251,11 +230,7 @@ impl<A: Allocator + Copy + Send + Sync> System<A> {
     pub fn write(&mut self, pid: Pid, addr: u64, bytes: &[u8]) -> Result<(), CallError>
         ensures done { Does (λ done. Done) result self.old self.new
             (WriteBytes pid addr bytes.now) }
-        ensures asked { (runs : ℕ) (policy_set : Bool) →
-            result ≡ Err (HostMemory runs policy_set) →
-            (page : Page) →
-            sight_at self.old.state pid (addr / 4096) ≡ Some (Sees page) →
-            ⊥ }
+        ensures asked { Asks result (MayAllocate self.old.state (WriteBytes pid addr bytes.now)) }
     {
         Ok(self.machine.write(pid, addr, bytes)?)
     }
@@ -295,9 +270,7 @@ impl<A: Allocator + Copy + Send + Sync> System<A> {
             (λ moved. Statuses moved.failed moved.statuses.items
             (map answer_shown moved.answers.items)) result self.old self.new
             (MovePages request.now.caller request.now.pid request.now.batch.pages.items request.now.batch.nodes.items request.now.flags (shown_during request.now.during.items)) }
-        ensures asked { (runs : ℕ) (policy_set : Bool) →
-            result ≡ Err (HostMemory runs policy_set) →
-            0 < length request.now.batch.pages.items + length request.now.during.items }
+        ensures asked { Asks result (MayAllocate self.old.state (MovePages request.now.caller request.now.pid request.now.batch.pages.items request.now.batch.nodes.items request.now.flags (shown_during request.now.during.items))) }
     {
         let permit = permit_of(&self.machine, request.caller, request.pid, request.flags)?;
         let batch = &request.batch;
@@ -366,9 +339,7 @@ impl<A: Allocator + Copy + Send + Sync> System<A> {
     ) -> Result<(), CallError>
         ensures done { Does (λ done. Failed 0) result self.old self.new
             (Mbind request.now.caller request.now.addr request.now.len request.now.mode request.now.nodes request.now.flags) }
-        ensures asked { (runs : ℕ) (policy_set : Bool) →
-            result ≡ Err (HostMemory runs policy_set) →
-            MayAllocate self.old.state (Mbind request.now.caller request.now.addr request.now.len request.now.mode request.now.nodes request.now.flags) }
+        ensures asked { Asks result (MayAllocate self.old.state (Mbind request.now.caller request.now.addr request.now.len request.now.mode request.now.nodes request.now.flags)) }
     {
         let (asked, binding) = ready(&self.machine, request)?;
         if request.len == 0 {
@@ -389,9 +360,7 @@ impl<A: Allocator + Copy + Send + Sync> System<A> {
     /// remain, and the node is online.
     pub fn offline<C: RunCrew<A>>(&mut self, crew: &C, node: NodeId) -> Result<(), CallError>
         ensures done { Does (λ done. Done) result self.old self.new (Offline node) }
-        ensures asked { (runs : ℕ) (policy_set : Bool) →
-            result ≡ Err (HostMemory runs policy_set) →
-            is_in self.old.state.online node ≡ true }
+        ensures asked { Asks result (MayAllocate self.old.state (Offline node)) }
     {
         check_offline(&self.machine, node)?;
         if !self.machine.online().contains(node) {
@@ -420,9 +389,7 @@ impl<A: Allocator + Copy + Send + Sync> System<A> {
     pub fn query(&self, question: &Question<A>) -> Result<Vec<i32, A>, CallError>
         ensures done { Does (λ statuses. Statuses 0 statuses.items []) result self.now self.now
             (Query question.now.caller question.now.pid question.now.pages.items question.now.flags) }
-        ensures asked { (runs : ℕ) (policy_set : Bool) →
-            result ≡ Err (HostMemory runs policy_set) →
-            0 < length question.now.pages.items }
+        ensures asked { Asks result (MayAllocate self.now.state (Query question.now.caller question.now.pid question.now.pages.items question.now.flags)) }
     {
         let Question {
             caller,
@@ -456,9 +423,7 @@ impl<A: Allocator + Copy + Send + Sync> System<A> {
     pub fn numa_maps(&self, pid: Pid) -> Result<Vec<String<A>, A>, CallError>
         ensures done { Does (λ lines. Lines (lines_shown lines.items)) result self.now self.now
             (NumaMaps pid) }
-        ensures asked { (runs : ℕ) (policy_set : Bool) →
-            result ≡ Err (HostMemory runs policy_set) →
-            0 < length (lines_of self.now.state.segments self.now.state.areas pid) }
+        ensures asked { Asks result (MayAllocate self.now.state (NumaMaps pid)) }
     {
         let spaces = self.machine.spaces();
         if spaces.info(pid).is_none() {
@@ -473,9 +438,7 @@ impl<A: Allocator + Copy + Send + Sync> System<A> {
     pub fn free_list(&self, node: NodeId) -> Result<Vec<FrameId, A>, CallError>
         ensures done { Does (λ frames. Frames frames.items) result self.now self.now
             (FreeList node) }
-        ensures asked { (runs : ℕ) (policy_set : Bool) →
-            result ≡ Err (HostMemory runs policy_set) →
-            0 < length (free_list self.now.state node) }
+        ensures asked { Asks result (MayAllocate self.now.state (FreeList node)) }
     {
         Ok(self.machine.free_list(node)?)
     }
@@ -485,9 +448,7 @@ impl<A: Allocator + Copy + Send + Sync> System<A> {
     pub fn pagemap(&self, pid: Pid) -> Result<Vec<PagemapEntry, A>, CallError>
         ensures done { Does (λ mapped. Entries (entries_mapped mapped.items)) result self.now
             self.now (Pagemap pid) }
-        ensures asked { (runs : ℕ) (policy_set : Bool) →
-            result ≡ Err (HostMemory runs policy_set) →
-            0 < length (entries_of self.now.state pid) }
+        ensures asked { Asks result (MayAllocate self.now.state (Pagemap pid)) }
     {
         let entries = entries_of(&self.machine, pid)?;
         Ok(mapped_of(self.alloc, entries.as_slice())?)

@@ -4,8 +4,6 @@
 mod parts;
 mod step;
 mod steps;
-#[cfg(test)]
-mod tests;
 
 pub use step::Step;
 pub use steps::Steps;

@@ -237,6 +237,7 @@ impl<A: Allocator + Copy + Send + Sync> Machine<A> {
         ensures err { OnErr result (self.new ≡ self.old) }
         ensures asked { OnErr result (0 < length requests.now.wanted.items + length accesses.now) }
     {
+        // The clause `orders` is this law about every order of a run's events, at this run.
         interleavings();
         let plan = self.plan(crew, requests)?;
         let answers = Vec::with_capacity(self.alloc, accesses.len())?;

@@ -7,8 +7,6 @@ mod gap;
 mod job;
 mod slot;
 mod store;
-#[cfg(test)]
-mod tests;
 
 pub use buf::FrameBuf;
 pub use job::CopyJob;

@@ -29,7 +29,8 @@ pub fn looks_suffice()
     ensures bounded { LooksAreBounded }
 {}
 
-/// Classing the requests of a run at its start and then deciding them gives the same as deciding one after another.
+/// Classing the requests of a run at its start and then deciding them gives the same as deciding one after another, if
+/// they are all by address, and may all move pages that other processes see or none may, or are all by page.
 pub fn plan_is_one_by_one()
     ensures { PlanIsOneByOne }
 {}

@@ -3,7 +3,5 @@
 
 mod list;
 mod pool;
-#[cfg(test)]
-mod tests;
 
 pub use pool::NodePool;

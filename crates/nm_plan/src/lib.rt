@@ -5,8 +5,6 @@ pub mod laws;
 mod outcome;
 mod planning;
 mod search;
-#[cfg(test)]
-mod tests;
 
 pub use nm_types::Taken;
 pub use outcome::Plan;

@@ -5,8 +5,6 @@ mod first_touch;
 pub mod laws;
 mod pairing;
 mod targets;
-#[cfg(test)]
-mod tests;
 mod zones;
 
 pub use first_touch::{first_touch_node, first_touch_order, follows};

@@ -5,7 +5,5 @@
 pub mod laws;
 mod mappings;
 mod reverse_map;
-#[cfg(test)]
-mod tests;
 
 pub use reverse_map::ReverseMap;

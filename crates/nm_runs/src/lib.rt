@@ -6,8 +6,6 @@ mod classes;
 mod cutting;
 pub mod laws;
 mod parallel;
-#[cfg(test)]
-mod tests;
 
 pub use check::check_batch;
 pub use classes::classes_of;

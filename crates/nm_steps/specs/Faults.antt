@@ -1,5 +1,5 @@
 -- Which bytes are which trace, and for the others the first fault.
-use Rattle.std.specs.Prelude.{◌≡◌, ℕ, suc, nat_le, List, length, if◌then◌else◌, Option, None, IfSome, is_some, Result, Ok, Err, codes}
+use Rattle.std.specs.Prelude.{◌≡◌, ℕ, suc, List, if◌then◌else◌, Option, None, is_some, Result, Ok, Err, codes}
 use Rattle.std.specs.Option.{ok_or}
 use Rattle.std.specs.Str.{is_utf8}
 use Rattle.serde_json.specs.Data.{Data, Items, no_items, item}
@@ -56,14 +56,6 @@ trace_of bytes = do
 -- the most bytes that a trace may have
 abbrev pub trace_limit : ℕ
 trace_limit = 16777216
-
--- the trace in these bytes; more bytes than a trace may have are not read
-abbrev pub trace_within : List ℕ → Result Plan TraceError
-trace_within bytes = if nat_le (length bytes) trace_limit then trace_of bytes else Err ReadFault
-
--- something holds of the trace in some bytes: if it is known which bytes are left to be read, of those
-abbrev pub OfSomeBytes : Option (List ℕ) → (Result Plan TraceError → Type 0) → Type 0
-OfSomeBytes remaining Holds = (bytes : List ℕ) × IfSome remaining (λ xs. bytes ≡ xs) × Holds (trace_within bytes)
 
 -- an error is the first fault of the trace, unless memory ran out before the first step
 abbrev pub Fails : {Y : Type 0} → TraceError → Result Y TraceError → Type 0

@@ -4,8 +4,6 @@
 mod blocks;
 mod branch;
 mod cell;
-#[cfg(test)]
-mod drawn;
 mod index;
 pub mod laws;
 mod leaf;
@@ -15,8 +13,6 @@ mod places;
 mod slot;
 mod subtree;
 mod table;
-#[cfg(test)]
-mod tests;
 
 pub use nm_types::Entry;
 pub use table::PageTable;

@@ -8,8 +8,6 @@ mod copying;
 mod gate;
 mod hired;
 mod room;
-#[cfg(test)]
-mod tests;
 mod worker;
 
 pub use classes::classify;

@@ -1,101 +1,114 @@
 -- A run that plays the trace of its bytes.
-use Rattle.std.proofs.Common.{◌≡◌, ℕ, ◌≤◌, List, [], ◌++◌, length, take, Option, Some, None, IfSome, IfErr, Result, Ok, Err, ◌⊎◌, refl, sym, ap, ◌∙◌, subst, append_assoc, inl, inr, arith}
-use Rattle.std.proofs.lemmas.List.{append-nil}
-use Rattle.std.specs.Io.KnownBytes.{Appends}
+use Rattle.std.proofs.Common.{◌≡◌, ℕ, ◌<◌, ◌≤◌, Bool, List, [], ◌++◌, length, Option, IfSome, Result, Ok, Err, refl, sym, ap, ◌∙◌, subst, append_assoc}
+use Rattle.std.proofs.lemmas.Option.{slice_get_within}
 use Rattle.nm_calls.specs.definitions.Systems.{SystemState, system_with}
 use Rattle.nm_steps.specs.Calls.{Call}
 use Rattle.nm_trace.specs.declared.playing.Summary.{Summary}
 use Rattle.nm_steps.specs.declared.trace_error.TraceError.{TraceError}
 use Rattle.nm_steps.specs.declared.trace_error.TraceError.TheVariants.{NotJson, BadMachine, BadStep, ReadFault, WriteFault, HostMemory}
-use Rattle.nm_steps.specs.Faults.{Plan, OfSomeBytes, trace_of, trace_within, trace_limit}
-use Rattle.nm_trace.specs.Report.{report_from}
-use Rattle.nm_trace.specs.Played.{Plays, PlaysNew, Runs, IsSilent, WritesFront, report_of}
+use Rattle.nm_steps.specs.Faults.{Fails, Gives, Plan, trace_of, trace_limit}
+use Rattle.nm_trace.specs.Headline.{Runs}
+use Rattle.nm_trace.specs.Played.{ComesTo, Plays}
+use Rattle.nm_trace.specs.Telling.{GivesTrace, IsTraceOf}
+use Rattle.nm_streams.proofs.Known.{appends_none}
 use Rattle.nm_trace.proofs.InParts.{report_front}
 
--- ---- a run
+-- a run from bytes
+abbrev pub RunsFrom : {P : Type 0} → (Plan → P → Type 0) → List ℕ → Option (List ℕ) → Option (List ℕ) → Result P TraceError → Type 0
+RunsFrom Ends bytes old new result =
+    (trace : Result Plan TraceError) × IsTraceOf bytes trace × Runs Ends trace old new result × ComesTo trace old new result
 
-pub runs_if : (trace : Result Plan TraceError) (plan : Plan) (old new : Option (List ℕ)) (result : Result Summary TraceError) → trace ≡ Ok plan → PlaysNew plan old new result → Runs trace old new result
-runs_if trace plan old new (Ok summary) t p = (plan, t, p)
-runs_if trace plan old new (Err NotJson) t p = absurd p.1
-runs_if trace plan old new (Err BadMachine) t p = absurd p.1
-runs_if trace plan old new (Err (BadStep k)) t p = absurd p.1
-runs_if trace plan old new (Err ReadFault) t p = absurd p.1
-runs_if trace plan old new (Err WriteFault) t p = (plan, t, p)
-runs_if trace plan old new (Err (HostMemory k)) t p = inr (plan, t, p)
+-- ---- no trace
 
--- what was played of the bytes
-pub runs : (bytes : List ℕ) (plan : Plan) (s t : SystemState) (calls : List Call) (old new : Option (List ℕ)) (result : Result Summary TraceError) → trace_of bytes ≡ Ok plan → s ≡ system_with plan.layout plan.run_limit → calls ≡ plan.calls → Plays s calls t old new result → Runs (trace_of bytes) old new result
-runs bytes plan s t calls old new result is start same p =
-    runs_if (trace_of bytes) plan old new result is (t, subst (λ (cs : List Call). Plays (system_with plan.layout plan.run_limit) cs t old new result) same (subst (λ (u : SystemState). Plays u calls t old new result) start p))
+pub no_trace : {P : Type 0} (Ends : Plan → P → Type 0) (bytes : List ℕ) (old : Option (List ℕ)) (e : TraceError) (result : Result P TraceError)
+    → Fails e (trace_of bytes) → ((k : ℕ) → e ≡ HostMemory k → 0 < length bytes) → result ≡ Err e → RunsFrom Ends bytes old old result
+no_trace Ends bytes old NotJson result h some is = (Err NotJson, sym h, (is, appends_none old), tt)
+no_trace Ends bytes old BadMachine result h some is = (Err BadMachine, sym h, (is, appends_none old), tt)
+no_trace Ends bytes old (BadStep k) result h some is = (Err (BadStep k), sym h, (is, appends_none old), tt)
+no_trace Ends bytes old ReadFault result h some is = absurd h
+no_trace Ends bytes old WriteFault result h some is = absurd h
+no_trace Ends bytes old (HostMemory k) result h some is = (Err (HostMemory k), (h, some k refl), (is, appends_none old), tt)
 
--- nothing is written where no step was completed
-pub silent : (s t : SystemState) (calls : List Call) (old new : Option (List ℕ)) (result : Result Summary TraceError) → Plays s calls t old new result → IfErr result (λ e. IsSilent e old new)
-silent s t calls old new (Ok summary) p = tt
-silent s t calls old new (Err NotJson) p = absurd p
-silent s t calls old new (Err BadMachine) p = absurd p
-silent s t calls old new (Err (BadStep k)) p = absurd p
-silent s t calls old new (Err ReadFault) p = absurd p
-silent s t calls old new (Err WriteFault) p = tt
-silent s t calls old new (Err (HostMemory k)) p = λ z. subst (λ (j : ℕ). Appends old new (report_from 0 s (take j calls))) z p.1
+-- the host has no memory for the machine
+pub no_memory : {P : Type 0} (Ends : Plan → P → Type 0) (bytes : List ℕ) (old : Option (List ℕ)) → 0 < length bytes → RunsFrom Ends bytes old old (Err (HostMemory 0))
+no_memory Ends bytes old some = (Err (HostMemory 0), (refl, some), (refl, appends_none old), tt)
 
--- ---- a front of the report
+-- what reading fails with is the trace's fault
+pub unread_fails : {X : Type 0} (view : X → Plan) (found : Result Plan TraceError) (r : Result X TraceError) (e : TraceError) → r ≡ Err e → Gives view r found → Fails e found
+unread_fails view found r e is gives = subst (λ (x : Result _ TraceError). Gives view x found) is gives
 
--- the written bytes, if known, grow by a prefix of the text
-abbrev AppendsFront : Option (List ℕ) → Option (List ℕ) → List ℕ → Type 0
-AppendsFront old new text = (front : List ℕ) × (rest : List ℕ) × (front ++ rest ≡ text) × Appends old new front
+-- ---- a trace that is played
 
--- nothing is a front of everything
-pub nothing : (trace : Result Plan TraceError) (old new : Option (List ℕ)) → Appends old new [] → WritesFront trace old new
-nothing (Ok plan) old new a = ([], report_of plan, refl, a)
-nothing (Err e) old new a = a
-
-ends_early : (trace : Result Plan TraceError) (plan : Plan) (old new : Option (List ℕ)) → trace ≡ Ok plan → AppendsFront old new (report_of plan) → WritesFront trace old new
-ends_early trace plan old new t a = rw t a
-
-pub front_played : (s t : SystemState) (calls : List Call) (old new : Option (List ℕ)) (result : Result Summary TraceError) → Plays s calls t old new result → AppendsFront old new (report_from 0 s calls)
-front_played s t calls old new (Ok summary) p = (report_from 0 s calls, [], append-nil (report_from 0 s calls), p.2)
-front_played s t calls old new (Err NotJson) p = absurd p
-front_played s t calls old new (Err BadMachine) p = absurd p
-front_played s t calls old new (Err (BadStep k)) p = absurd p
-front_played s t calls old new (Err ReadFault) p = absurd p
-front_played s t calls old new (Err WriteFault) p =
+-- a play that is cut short
+short : {P : Type 0} (Ends : Plan → P → Type 0) (plan : Plan) (t : SystemState) (old new : Option (List ℕ)) (e : TraceError)
+    → Plays (system_with plan.layout plan.run_limit) plan.calls t old new (Err e) → Runs Ends (Ok plan) old new (Err e)
+short Ends plan t old new NotJson p = absurd p
+short Ends plan t old new BadMachine p = absurd p
+short Ends plan t old new (BadStep k) p = absurd p
+short Ends plan t old new ReadFault p = absurd p
+short Ends plan t old new WriteFault p =
     let broken = p.3 in
-    let whole = report_front s calls p.0 in (
+    let whole = report_front (system_with plan.layout plan.run_limit) plan.calls p.0 in (
       broken.0,
       broken.1 ++ whole.0,
       sym (append_assoc broken.0 broken.1 whole.0) ∙ ap (λ (ls : List ℕ). ls ++ whole.0) broken.2 ∙ whole.1,
       broken.4,
     )
-front_played s t calls old new (Err (HostMemory k)) p =
-    let whole = report_front s calls k in
-    (report_from 0 s (take k calls), whole.0, whole.1, p.1)
+short Ends plan t old new (HostMemory k) p = (slice_get_within plan.calls k p.0.0 p.0.1, p.1)
 
--- what a run wrote is a front of the report
-pub front : (trace : Result Plan TraceError) (old new : Option (List ℕ)) (result : Result Summary TraceError) → Runs trace old new result → IfErr result (λ e. IsSilent e old new) → WritesFront trace old new
-front trace old new (Ok summary) r q = ends_early trace r.0 old new r.1 (front_played (system_with r.0.layout r.0.run_limit) r.2.0 r.0.calls old new (Ok summary) r.2.1)
-front trace old new (Err NotJson) r q = nothing trace old new q
-front trace old new (Err BadMachine) r q = nothing trace old new q
-front trace old new (Err (BadStep k)) r q = nothing trace old new q
-front trace old new (Err ReadFault) r q = nothing trace old new q
-front trace old new (Err WriteFault) r q = ends_early trace r.0 old new r.1 (front_played (system_with r.0.layout r.0.run_limit) r.2.0 r.0.calls old new (Err WriteFault) r.2.1)
-front trace old new (Err (HostMemory k)) (inl z) q = nothing trace old new (q z)
-front trace old new (Err (HostMemory k)) (inr r) q = ends_early trace r.0 old new r.1 (front_played (system_with r.0.layout r.0.run_limit) r.2.0 r.0.calls old new (Err (HostMemory k)) r.2.1)
+pub cut_short : {P : Type 0} (Ends : Plan → P → Type 0) (bytes : List ℕ) (plan : Plan) (s t : SystemState) (calls : List Call) (old new : Option (List ℕ))
+    (played : Result Summary TraceError) (e : TraceError) (result : Result P TraceError)
+    → trace_of bytes ≡ Ok plan → s ≡ system_with plan.layout plan.run_limit → calls ≡ plan.calls → Plays s calls t old new played → played ≡ Err e
+    → result ≡ Err e → RunsFrom Ends bytes old new result
+cut_short Ends bytes plan s t calls old new played e result trace start same p failed is =
+    let first = system_with plan.layout plan.run_limit in
+    let q = subst (λ (r : Result Summary TraceError). Plays first plan.calls t old new r) failed
+    (subst (λ (cs : List Call). Plays first cs t old new played) same (subst (λ (u : SystemState). Plays u calls t old new played) start p)) in (
+      Ok plan,
+      sym trace,
+      subst (Runs Ends (Ok plan) old new) (sym is) (short Ends plan t old new e q),
+      subst (ComesTo (Ok plan) old new) (sym is) (t, q),
+    )
+
+-- ---- what a run returns
+
+-- an error that is handed on
+same_fault : {P Q : Type 0} (Ends : Plan → P → Type 0) (Also : Plan → Q → Type 0) (plan : Plan) (old new : Option (List ℕ)) (e : TraceError)
+    → Runs Ends (Ok plan) old new (Err e) → Runs Also (Ok plan) old new (Err e)
+same_fault Ends Also plan old new NotJson h = h
+same_fault Ends Also plan old new BadMachine h = h
+same_fault Ends Also plan old new (BadStep k) h = h
+same_fault Ends Also plan old new ReadFault h = h
+same_fault Ends Also plan old new WriteFault h = h
+same_fault Ends Also plan old new (HostMemory k) h = h
+
+-- two errors of one result are one
+one_error : {P : Type 0} (r : Result P TraceError) (d e : TraceError) → r ≡ Err d → r ≡ Err e → d ≡ e
+one_error r d e one other = let is : Err d ≡ Err e = sym one ∙ other in cc
+
+pub handed_on : {P Q : Type 0} (Ends : Plan → P → Type 0) (Also : Plan → Q → Type 0) (trace : Result Plan TraceError) (old new : Option (List ℕ)) (e : TraceError)
+    (r : Result P TraceError) (s : Result Q TraceError) → r ≡ Err e → s ≡ Err e → Runs Ends trace old new r → Runs Also trace old new s
+handed_on Ends Also (Err d) old new e r s is it h = (it ∙ ap Err (one_error r e d is h.0), h.1)
+handed_on Ends Also (Ok plan) old new e r s is it h =
+    subst (Runs Also (Ok plan) old new) (sym it) (same_fault Ends Also plan old new e (subst (Runs Ends (Ok plan) old new) is h))
+
+-- another result of a run that played its trace to the end
+pub ended : {P Q : Type 0} (Ends : Plan → P → Type 0) (Also : Plan → Q → Type 0) (trace : Result Plan TraceError) (old new : Option (List ℕ)) (p : P) (q : Q)
+    (r : Result P TraceError) → r ≡ Ok p → ((plan : Plan) → Ends plan p → Also plan q) → Runs Ends trace old new r → Runs Also trace old new (Ok q)
+ended Ends Also (Err d) old new p q r is more h = let bad : Ok p ≡ Err d = sym is ∙ h.0 in absurd (cc)
+ended Ends Also (Ok plan) old new p q r is more h = more plan (subst (Runs Ends (Ok plan) old new) is h)
 
 -- ---- the bytes that were read
 
-within : (bytes : List ℕ) → length bytes ≤ trace_limit → trace_within bytes ≡ trace_of bytes
-within bytes h = grind (arith, h)
-
--- what holds of the bytes that were read holds of those that were there
-pub of_all_read : (Holds : Result Plan TraceError → Type 0) (remaining : Option (List ℕ)) (items bytes : List ℕ) → IfSome remaining (λ xs. items ≡ xs) → length items ≤ trace_limit → bytes ≡ items → Holds (trace_of bytes) → OfSomeBytes remaining Holds
-of_all_read Holds remaining items bytes left few is h = (items, left, subst Holds (ap trace_of is ∙ sym (within items few)) h)
-
--- what holds of every trace
-pub of_any : (Holds : Result Plan TraceError → Type 0) (remaining : Option (List ℕ)) → ((trace : Result Plan TraceError) → Holds trace) → OfSomeBytes remaining Holds
-of_any Holds None h = ([], tt, h (trace_within []))
-of_any Holds (Some xs) h = (xs, refl, h (trace_within xs))
-
--- where nothing was read, nothing is played
-pub not_read : (old new : Option (List ℕ)) (result : Result Summary TraceError) (e : TraceError) → result ≡ Err e → ((e ≡ ReadFault) ⊎ (e ≡ HostMemory 0)) → Appends old new [] → (trace : Result Plan TraceError) → Runs trace old new result × WritesFront trace old new
-not_read old new result e is (inl h) a trace = (rw (is, h) tt, nothing trace old new a)
-not_read old new result e is (inr h) a trace = (rw (is, h) (inl refl), nothing trace old new a)
+-- the trace of all of them
+pub gives_all : (remaining : Option (List ℕ)) (before now : Bool) (gave : ℕ → Type 0) (items bytes : List ℕ) (trace : Result Plan TraceError)
+    → IfSome remaining (λ xs. items ≡ xs) → length items ≤ trace_limit → gave (length items) → now ≡ before → bytes ≡ items
+    → IsTraceOf bytes trace → GivesTrace remaining before now gave trace
+gives_all remaining before now gave items bytes (Ok plan) left few given kept is h = (kept, (items, left, given, few, h ∙ ap trace_of is))
+gives_all remaining before now gave items bytes (Err NotJson) left few given kept is h = (kept, (items, left, given, few, h ∙ ap trace_of is))
+gives_all remaining before now gave items bytes (Err BadMachine) left few given kept is h = (kept, (items, left, given, few, h ∙ ap trace_of is))
+gives_all remaining before now gave items bytes (Err (BadStep k)) left few given kept is h = (kept, (items, left, given, few, h ∙ ap trace_of is))
+gives_all remaining before now gave items bytes (Err ReadFault) left few given kept is h = absurd h
+gives_all remaining before now gave items bytes (Err WriteFault) left few given kept is h = (kept, (items, left, given, few, h ∙ ap trace_of is))
+gives_all remaining before now gave items bytes (Err (HostMemory k)) left few given kept is h =
+    (h.0, kept, (length items, subst (λ (bs : List ℕ). 0 < length bs) is h.1, given))

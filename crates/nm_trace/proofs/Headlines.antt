@@ -1,6 +1,6 @@
 -- A trace that is played to its end leaves a sound system, and no move on the way changes a byte that a process reads.
 use Rattle.std.proofs.Common.{◌≡◌, ℕ, zero, suc, ◌+◌, List, [], ◌∷◌, take, sym, ap, subst, ◌∙◌, arith}
-use Rattle.std.specs.Prelude.{Option, Some, slice_get, Result, Ok, Err, IfErr, length}
+use Rattle.std.specs.Prelude.{Option, Some, slice_get, Result, Ok, length}
 use Rattle.std.specs.Io.KnownBytes.{Appends}
 use Rattle.nm_types.proofs.Cases.{some_is, none_some}
 use Rattle.nm_model.specs.definitions.Memory.{mem}
@@ -12,7 +12,7 @@ use Rattle.nm_calls.specs.definitions.Systems.{SystemState, system_with}
 use Rattle.nm_calls.proofs.CallLaws.BytesStay.{calls_keep_memory}
 use Rattle.nm_calls.proofs.CallLaws.StaysSound.{calls_stay_sound}
 use Rattle.nm_steps.specs.Faults.{Plan}
-use Rattle.nm_trace.specs.Headline.{summary_of, KeepMemory, IsPlayed}
+use Rattle.nm_trace.specs.Headline.{KeepMemory, IsPlayed}
 use Rattle.nm_trace.specs.Played.{Plays}
 use Rattle.nm_trace.specs.Report.{report_from, state_after}
 use Rattle.nm_trace.specs.declared.playing.Summary.{Summary}
@@ -48,8 +48,3 @@ played plan s t calls old new result summary start same done p =
       sound = subst (λ (u : SystemState). IsSound u.state) (sym state) (all_sound first plan.calls (new_sound plan.layout));
       memory = keep_memory first plan.calls (new_sound plan.layout);
     }
-
--- what holds of an error holds of it without the system
-pub err_of : {P : Type 0} (Q : TraceError → Type 0) (summary : P → Summary) (r : Result P TraceError) → IfErr r Q → IfErr (summary_of summary r) Q
-err_of Q summary (Ok p) h = h
-err_of Q summary (Err e) h = h

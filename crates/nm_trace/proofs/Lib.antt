@@ -1,3 +1,4 @@
+pub mod Beside
 pub mod Sessions
 pub mod InParts
 pub mod FromBytes

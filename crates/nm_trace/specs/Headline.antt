@@ -1,5 +1,5 @@
--- The headline: the result of playing a trace to its end on a new machine.
-use Rattle.std.specs.Prelude.{◌≡◌, ℕ, ◌+◌, false, List, length, take, slice_get, Option, Some, Result, Ok, Err}
+-- The headline: what a run from a trace does.
+use Rattle.std.specs.Prelude.{◌≡◌, ℕ, ◌+◌, ◌<◌, false, List, [], ◌++◌, length, take, slice_get, Option, Some, Result, Ok, Err}
 use Rattle.std.specs.Io.KnownBytes.{Appends}
 use Rattle.nm_model.specs.definitions.Memory.{mem}
 use Rattle.nm_model.specs.definitions.Sound.{IsSound}
@@ -8,15 +8,11 @@ use Rattle.nm_calls.specs.laws.Calls.{writes_or_maps, byte_after}
 use Rattle.nm_calls.specs.definitions.Outcome.{runs_of}
 use Rattle.nm_calls.specs.definitions.Systems.{SystemState, system_with}
 use Rattle.nm_steps.specs.Faults.{Plan}
+use Rattle.nm_trace.specs.declared.playing.Summary.{Summary}
 use Rattle.nm_trace.specs.Played.{report_of}
 use Rattle.nm_trace.specs.Report.{state_after}
-use Rattle.nm_trace.specs.declared.playing.Summary.{Summary}
 use Rattle.nm_steps.specs.declared.trace_error.TraceError.{TraceError}
-
--- the result of a run from bytes, without the system that it leaves
-abbrev pub summary_of : {P : Type 0} → (P → Summary) → Result P TraceError → Result Summary TraceError
-summary_of summary (Ok played) = Ok (summary played)
-summary_of summary (Err e) = Err e
+use Rattle.nm_steps.specs.declared.trace_error.TraceError.TheVariants.{WriteFault, HostMemory}
 
 -- no call except a write, and those that add or remove areas, changes a byte that a process has at an address: it is
 -- that of the last write in flight made there, or else the same as before the call
@@ -38,3 +34,26 @@ pub record IsPlayed (plan : Plan) (steps : ℕ) (system : SystemState) (old new 
   pub sound : IsSound system.state
   -- no move changed a byte that a process reads
   pub memory : KeepMemory (system_with plan.layout plan.run_limit) plan.calls
+
+-- the same, whatever system is left of it
+abbrev pub PlaysWhole : Option (List ℕ) → Option (List ℕ) → Plan → Summary → Type 0
+PlaysWhole old new plan summary = (system : SystemState) × IsPlayed plan summary.steps system old new
+
+-- the report on the steps of a trace before step k
+abbrev pub report_before : Plan → ℕ → List ℕ
+report_before plan k = report_of (record plan { calls = take k plan.calls })
+
+-- the written bytes, if known, grow by a front of a text
+abbrev pub AppendsFront : Option (List ℕ) → Option (List ℕ) → List ℕ → Type 0
+AppendsFront old new text = (front : List ℕ) × (rest : List ℕ) × (front ++ rest ≡ text) × Appends old new front
+
+-- what a run does with the trace that it was given: where there is none, it returns why, and writes nothing; of one that is played
+-- to its end and what it returns, `Ends` holds; where the writer fails, a front of the report was written; where the host has no
+-- memory for step k, the lines of the steps before it
+abbrev pub Runs : {P : Type 0} → (Plan → P → Type 0) → Result Plan TraceError → Option (List ℕ) → Option (List ℕ)
+    → Result P TraceError → Type 0
+Runs Ends (Err e) old new result = (result ≡ Err e) × Appends old new []
+Runs Ends (Ok plan) old new (Ok played) = Ends plan played
+Runs Ends (Ok plan) old new (Err WriteFault) = AppendsFront old new (report_of plan)
+Runs Ends (Ok plan) old new (Err (HostMemory k)) = (k < length plan.calls) × Appends old new (report_before plan k)
+Runs Ends (Ok plan) old new (Err e) = ⊥

@@ -7,7 +7,7 @@ use Rattle.nm_calls.specs.definitions.Does.{HostLeaves}
 use Rattle.nm_calls.specs.definitions.Memory.{MayAllocate}
 use Rattle.nm_trace.specs.declared.playing.Summary.{Summary}
 use Rattle.nm_steps.specs.declared.trace_error.TraceError.{TraceError}
-use Rattle.nm_steps.specs.declared.trace_error.TraceError.TheVariants.{ReadFault, WriteFault, HostMemory}
+use Rattle.nm_steps.specs.declared.trace_error.TraceError.TheVariants.{WriteFault, HostMemory}
 use Rattle.nm_steps.specs.Faults.{Plan}
 use Rattle.nm_calls.specs.definitions.Outcome.{outcome}
 use Rattle.nm_streams.specs.declared.block.Block.{Block}
@@ -57,24 +57,7 @@ report_of plan = report_from 0 (system_with plan.layout plan.run_limit) plan.cal
 abbrev pub PlaysNew : Plan → Option (List ℕ) → Option (List ℕ) → Result Summary TraceError → Type 0
 PlaysNew plan old new result = (t : SystemState) × Plays (system_with plan.layout plan.run_limit) plan.calls t old new result
 
--- a run from a trace's bytes: it plays the trace, or returns their first fault. A read fault, and lack of memory before
--- the first step, say nothing of them
-abbrev pub Runs : Result Plan TraceError → Option (List ℕ) → Option (List ℕ) → Result Summary TraceError → Type 0
-Runs trace old new (Ok summary) = (plan : Plan) × (trace ≡ Ok plan) × PlaysNew plan old new (Ok summary)
-Runs trace old new (Err ReadFault) = Unit {0}
-Runs trace old new (Err WriteFault) = (plan : Plan) × (trace ≡ Ok plan) × PlaysNew plan old new (Err WriteFault)
-Runs trace old new (Err (HostMemory k)) =
-    (k ≡ 0) ⊎ ((plan : Plan) × (trace ≡ Ok plan) × PlaysNew plan old new (Err (HostMemory k)))
-Runs trace old new (Err e) = trace ≡ Err e
-
--- if a fault comes before the first step, nothing was written
-abbrev pub IsSilent : TraceError → Option (List ℕ) → Option (List ℕ) → Type 0
-IsSilent WriteFault old new = Unit {0}
-IsSilent (HostMemory k) old new = k ≡ 0 → Appends old new []
-IsSilent e old new = Appends old new []
-
--- a prefix of the report was written; nothing if there is no report
-abbrev pub WritesFront : Result Plan TraceError → Option (List ℕ) → Option (List ℕ) → Type 0
-WritesFront (Ok plan) old new =
-    (front : List ℕ) × (rest : List ℕ) × (front ++ rest ≡ report_of plan) × Appends old new front
-WritesFront (Err e) old new = Appends old new []
+-- how far a trace is played that is not played to its end
+abbrev pub ComesTo : {P : Type 0} → Result Plan TraceError → Option (List ℕ) → Option (List ℕ) → Result P TraceError → Type 0
+ComesTo (Ok plan) old new (Err e) = PlaysNew plan old new (Err e)
+ComesTo trace old new result = Unit {0}

@@ -1,17 +1,25 @@
--- What the faults of a run say about its reader and its writer.
-use Rattle.std.specs.Prelude.{◌≡◌, ℕ, ◌<◌, ◌≤◌, Bool, true, false, Result, Err}
+-- What a run says about its reader and its writer.
+use Rattle.std.specs.Prelude.{◌≡◌, ℕ, ◌<◌, ◌≤◌, Bool, true, false, List, length, Option, IfSome, Result, Err}
 use Rattle.nm_steps.specs.declared.trace_error.TraceError.{TraceError}
 use Rattle.nm_steps.specs.declared.trace_error.TraceError.TheVariants.{ReadFault, WriteFault, HostMemory}
-use Rattle.nm_steps.specs.Faults.{trace_limit}
+use Rattle.nm_steps.specs.Faults.{Plan, trace_of, trace_limit}
 use Rattle.nm_streams.specs.Telling.{HasReadCause}
 
--- what a result says about the reader, given whether it had failed before and after, and how many bytes it gave in
--- between: a read fault has its cause; with any other result the reader has not failed anew, and gave no more bytes than
--- a trace may have; if the host is out of memory it gave at least one, and in a step after the first no more than these
-abbrev pub TellsReads : {X : Type 0} → Bool → Bool → (ℕ → Type 0) → Result X TraceError → Type 0
-TellsReads before now gave (Err ReadFault) = HasReadCause trace_limit now gave
-TellsReads before now gave (Err (HostMemory k)) = (now ≡ before) × ((n : ℕ) × (0 < n) × (0 < k → n ≤ trace_limit) × gave n)
-TellsReads before now gave result = (now ≡ before) × ((n : ℕ) × (n ≤ trace_limit) × gave n)
+-- a trace is that of bytes, or their first fault; or the host has no memory for them
+abbrev pub IsTraceOf : List ℕ → Result Plan TraceError → Type 0
+IsTraceOf bytes (Err ReadFault) = ⊥
+IsTraceOf bytes (Err (HostMemory k)) = (k ≡ 0) × (0 < length bytes)
+IsTraceOf bytes trace = trace ≡ trace_of bytes
+
+-- the trace that a reader gives, or why there is none, where it has these bytes left, if that is known, had failed or not before
+-- and after, and gave so many bytes in between: a read fault has its cause; if the host has no memory, the reader gave at least
+-- one byte; else the trace is that of all of its bytes, which are no more than a trace may have
+abbrev pub GivesTrace : Option (List ℕ) → Bool → Bool → (ℕ → Type 0) → Result Plan TraceError → Type 0
+GivesTrace remaining before now gave (Err ReadFault) = HasReadCause trace_limit now gave
+GivesTrace remaining before now gave (Err (HostMemory k)) = (k ≡ 0) × (now ≡ before) × ((n : ℕ) × (0 < n) × gave n)
+GivesTrace remaining before now gave trace =
+    (now ≡ before) × ((bytes : List ℕ) × IfSome remaining (λ xs. bytes ≡ xs) × gave (length bytes)
+    × (length bytes ≤ trace_limit) × (trace ≡ trace_of bytes))
 
 -- whether a result is a write fault
 abbrev pub is_write_fault : {X : Type 0} → Result X TraceError → Bool

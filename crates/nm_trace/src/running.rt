@@ -1,12 +1,11 @@
 //! From a reader's bytes to a writer's report.
 
-ghost use Rattle.std.specs.Prelude.{◌≡◌, ◌≢◌, ◌⊎◌, ◌||◌, ℕ, ◌<◌, ◌≤◌, length, Ok, IfOk, OnOk, IfErr, IfSome};
+ghost use Rattle.std.specs.Prelude.{◌≡◌, ◌⊎◌, ◌≤◌, ◌||◌, length, IfOk, OnOk, IfErr, IfSome, Err, Result};
 ghost use Rattle.std.specs.Io.KnownBytes.{IsAtEnd};
-ghost use Rattle.nm_steps.specs.Faults.{OfSomeBytes, Plan, trace_of, trace_limit};
-ghost use Rattle.nm_steps.specs.Memory.{IsSomeText};
-ghost use Rattle.nm_trace.specs.Headline.{IsPlayed, summary_of};
-ghost use Rattle.nm_trace.specs.Played.{Runs, IsSilent, WritesFront};
-ghost use Rattle.nm_trace.specs.Telling.{TellsReads, is_write_fault};
+ghost use Rattle.nm_steps.specs.Faults.{Plan, trace_limit};
+ghost use Rattle.nm_trace.specs.Headline.{IsPlayed, PlaysWhole, Runs};
+ghost use Rattle.nm_trace.specs.Played.{ComesTo};
+ghost use Rattle.nm_trace.specs.Telling.{GivesTrace, IsTraceOf, is_write_fault};
 
 use crate::playing::{Summary, play_calls};
 use nm_calls::{RunCrew, System};
@@ -27,13 +26,12 @@ fn read_bytes<A: Allocator + Copy, R: TellingReader>(
     ensures within { IfOk result (λ v. length v.items ≤ trace_limit) }
     ensures given { IfOk result (λ v. R.gave reader.old reader.new (length v.items)) }
     ensures end { OnOk result (IsAtEnd (R.remaining reader.new)) }
+    ensures kept { OnOk result (R.has_failed reader.new ≡ R.has_failed reader.old) }
 
     // On a fault
     ensures fault { IfErr result (λ e. (e ≡ TraceError.ReadFault) ⊎ (e ≡ TraceError.HostMemory 0)) }
-
-    // In any case
-    ensures told { TellsReads (R.has_failed reader.old) (R.has_failed reader.new)
-        (R.gave reader.old reader.new) result }
+    ensures told { IfErr result (λ e. GivesTrace (R.remaining reader.old)
+        (R.has_failed reader.old) (R.has_failed reader.new) (R.gave reader.old reader.new) (Err e)) }
 {
     match read_all(alloc, reader, TRACE_LIMIT) {
         Ok(bytes) => Ok(bytes),
@@ -59,20 +57,11 @@ fn run_bytes<A: Allocator + Copy + Send + Sync, C: RunCrew<A>, W: TellingWriter>
     bytes: &[u8],
     writer: &mut W,
 ) -> Result<Played<A>, TraceError>
-    // On success
-    ensures played { IfOk result
-        (λ p. (plan : Plan) × (trace_of bytes.now ≡ Ok plan)
-        × IsPlayed plan p.summary.steps p.system (W.contents writer.old)
-        (W.contents writer.new)) }
-
-    // In any case
-    ensures runs { Runs (trace_of bytes.now) (W.contents writer.old) (W.contents writer.new)
-        (summary_of (λ p. p.summary) result) }
-
-    // On a fault
-    ensures silent { IfErr result (λ e. IsSilent e (W.contents writer.old) (W.contents writer.new)) }
-    ensures unread { IfErr result (λ e. e ≢ TraceError.ReadFault) }
-    ensures asked { (k : ℕ) → result ≡ Err (TraceError.HostMemory k) → IsSomeText bytes.now }
+    // The trace
+    ensures runs { (trace : Result Plan TraceError) × IsTraceOf bytes.now trace
+        × Runs (λ plan p. IsPlayed plan p.summary.steps p.system (W.contents writer.old) (W.contents writer.new))
+        trace (W.contents writer.old) (W.contents writer.new) result
+        × ComesTo trace (W.contents writer.old) (W.contents writer.new) result }
 
     // The writer
     ensures writes { W.has_failed writer.new ≡ (is_write_fault result || W.has_failed writer.old) }
@@ -93,6 +82,32 @@ fn run_bytes<A: Allocator + Copy + Send + Sync, C: RunCrew<A>, W: TellingWriter>
 /// Reads a trace to its end, checks all of it, plays it on a new system with a crew, and writes the report. Also returns
 /// the system, for callers that want to look at it or to go on.
 ///
+/// What it promises is what `run_trace` does, of the system that it returns. With a fault, it also says how far the play
+/// came: at most 65,536 bytes of lines before the last step that was made were not written, and memory was refused in a
+/// step that asks for some.
+pub fn run_on<A: Allocator + Copy + Send + Sync, C: RunCrew<A>, R: TellingReader, W: TellingWriter>(
+    crew: &C,
+    alloc: A,
+    heap: Global,
+    reader: &mut R,
+    writer: &mut W,
+) -> Result<Played<A>, TraceError>
+    // The reader gives a trace, which is played to the writer
+    ensures runs { (trace : Result Plan TraceError)
+        × GivesTrace (R.remaining reader.old) (R.has_failed reader.old) (R.has_failed reader.new) (R.gave reader.old reader.new) trace
+        × Runs (λ plan p. IsPlayed plan p.summary.steps p.system (W.contents writer.old) (W.contents writer.new))
+        trace (W.contents writer.old) (W.contents writer.new) result
+        × ComesTo trace (W.contents writer.old) (W.contents writer.new) result }
+
+    // The writer fails with a write fault, and never else
+    ensures writes { W.has_failed writer.new ≡ (is_write_fault result || W.has_failed writer.old) }
+{
+    let bytes = read_bytes(alloc, reader)?;
+    run_bytes(crew, alloc, heap, bytes.as_slice(), writer)
+}
+
+/// Reads a trace to its end, checks all of it, plays it on a new system with a crew, and writes the report.
+///
 /// If it returns no fault, the report on the trace was written: on its calls, made one after another, each as one
 /// request after another, with the frames that a run leaves free at its end; the system is in the state of these calls,
 /// and its machine is sound; and no call except a write, and those that add or remove areas, changed a byte that a
@@ -101,50 +116,18 @@ fn run_bytes<A: Allocator + Copy + Send + Sync, C: RunCrew<A>, W: TellingWriter>
 ///
 /// Faults, in order: `ReadFault` if the reader failed or gave more than 16,777,216 bytes; those of `read_trace`; those
 /// of `play`. Nothing is written before the whole trace is checked.
-pub fn run_on<A: Allocator + Copy + Send + Sync, C: RunCrew<A>, R: TellingReader, W: TellingWriter>(
-    crew: &C,
-    alloc: A,
-    heap: Global,
-    reader: &mut R,
-    writer: &mut W,
-) -> Result<Played<A>, TraceError>
-    // On success
-    ensures played { OfSomeBytes (R.remaining reader.old) (λ trace. IfOk result (λ p. (plan : Plan) × (trace ≡ Ok plan)
-        × IsPlayed plan p.summary.steps p.system (W.contents writer.old) (W.contents writer.new))) }
-
-    // In any case
-    ensures runs { OfSomeBytes (R.remaining reader.old) (λ trace. Runs trace (W.contents writer.old) (W.contents writer.new) (summary_of (λ p. p.summary) result)
-        × WritesFront trace (W.contents writer.old) (W.contents writer.new)) }
-
-    // On a fault
-    ensures silent { IfErr result (λ e. IsSilent e (W.contents writer.old) (W.contents writer.new)) }
-
-    // The reader and the writer
-    ensures reads { TellsReads (R.has_failed reader.old) (R.has_failed reader.new)
-        (R.gave reader.old reader.new) result }
-    ensures writes { W.has_failed writer.new ≡ (is_write_fault result || W.has_failed writer.old) }
-{
-    let bytes = read_bytes(alloc, reader)?;
-    run_bytes(crew, alloc, heap, bytes.as_slice(), writer)
-}
-
-/// Does what `run_on` does, and returns only the number of steps, without the system.
 pub fn run_trace<
     A: Allocator + Copy + Send + Sync,
     C: RunCrew<A>,
     R: TellingReader,
     W: TellingWriter,
 >(crew: &C, alloc: A, heap: Global, reader: &mut R, writer: &mut W) -> Result<Summary, TraceError>
-    // In any case
-    ensures runs { OfSomeBytes (R.remaining reader.old) (λ trace. Runs trace (W.contents writer.old) (W.contents writer.new) result
-        × WritesFront trace (W.contents writer.old) (W.contents writer.new)) }
+    // The reader gives a trace, which is played to the writer
+    ensures runs { (trace : Result Plan TraceError)
+        × GivesTrace (R.remaining reader.old) (R.has_failed reader.old) (R.has_failed reader.new) (R.gave reader.old reader.new) trace
+        × Runs (PlaysWhole (W.contents writer.old) (W.contents writer.new)) trace (W.contents writer.old) (W.contents writer.new) result }
 
-    // On a fault
-    ensures silent { IfErr result (λ e. IsSilent e (W.contents writer.old) (W.contents writer.new)) }
-
-    // The reader and the writer
-    ensures reads { TellsReads (R.has_failed reader.old) (R.has_failed reader.new)
-        (R.gave reader.old reader.new) result }
+    // The writer fails with a write fault, and never else
     ensures writes { W.has_failed writer.new ≡ (is_write_fault result || W.has_failed writer.old) }
 {
     let played = run_on(crew, alloc, heap, reader, writer)?;

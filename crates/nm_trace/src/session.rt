@@ -8,6 +8,8 @@ ghost use Rattle.nm_steps.specs.Faults.{Gives};
 ghost use Rattle.nm_steps.specs.Memory.{IsSomeText, takes_memory};
 ghost use Rattle.nm_steps.specs.declared.trace_error.TraceError.TheVariants.{HostMemory};
 
+mod calls;
+
 use crate::playing::make_step;
 use json::{Scratch, Value};
 use nm_calls::{Call, RunCrew, System};

@@ -9,7 +9,7 @@ pub enum Entry {
     Zero,
     /// A page in this frame.
     Frame(FrameId),
-    /// A page that is on its way to this frame, as in the run machine of the definitions. No call of a machine sets
-    /// such an entry: which pages are held is known from the run.
+    /// A page that is on its way to this frame: every entry that shows a page which a run moves, from the run's
+    /// beginning to its end. Between two calls no page table has one.
     Held(FrameId),
 }

@@ -19,8 +19,6 @@ mod request;
 mod seen;
 mod sight;
 mod taken;
-#[cfg(test)]
-mod tests;
 
 pub use access::Access;
 pub use area::{Area, Policy, Segment};

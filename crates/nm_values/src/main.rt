@@ -3,6 +3,11 @@
 //! faster by `read_trace`.
 #![tactic(auto)]
 
+ghost use Rattle.std.specs.Prelude.{◌≡◌, ◌⊎◌, Err};
+ghost use Rattle.nm_steps.specs.Plans.{plan_in};
+ghost use Rattle.nm_steps.specs.declared.trace_error.TraceError.TheVariants.{HostMemory};
+ghost use Rattle.nm_trace.specs.Played.{PlaysNew};
+
 mod making;
 mod reading;
 #[cfg(test)]
@@ -31,12 +36,15 @@ fn trace_of(heap: Global, bytes: &[u8]) -> Result<Trace<Global>, TraceError> {
     }
 }
 
-/// Plays a trace on a new system, on the calling thread.
-fn play_new(
+/// Plays a trace on a new system, on the calling thread; or the host has no memory for one.
+fn play_new<W: TellingWriter>(
     heap: Global,
     trace: &Trace<Global>,
-    out: &mut impl TellingWriter,
-) -> Result<Summary, TraceError> {
+    out: &mut W,
+) -> Result<Summary, TraceError>
+    ensures { (result ≡ Err (HostMemory 0))
+        ⊎ PlaysNew (plan_in trace.now) (W.contents out.old) (W.contents out.new) result }
+{
     // (the kit's borrow checker looks for what a crew works on among the types of this function)
     let _work: PhantomData<(CopyJob<Global>, AddressSpaces<Global>)> = PhantomData;
     let Ok(geometry) = trace.geometry.clone() else {

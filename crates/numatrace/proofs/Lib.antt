@@ -1,4 +1,1 @@
-pub mod Unread
-pub mod Streams
-pub mod Refused
 pub mod Ended

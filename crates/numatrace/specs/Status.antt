@@ -1,16 +1,17 @@
--- Exit statuses.
-use Rattle.std.specs.Prelude.{◌≡◌, ◌≢◌, ◌⊎◌, ℕ, ◌<◌, ◌≤◌, Bool, true, List, [], length, take, codes, Option, Result, Ok, Err}
+-- Exit statuses, and how the program ends.
+use Rattle.std.specs.Prelude.{◌≡◌, ◌⊎◌, ◌||◌, ℕ, Bool, true, List, [], codes, Option, Result, Ok, Err}
 use Rattle.std.specs.declared.io.ErrorKind.{ErrorKind}
 use Rattle.std.specs.declared.io.ErrorKind.TheVariants.{OutOfMemory}
-use Rattle.nm_steps.specs.declared.trace_error.TraceError.{TraceError}
-use Rattle.nm_steps.specs.declared.trace_error.TraceError.TheVariants.{NotJson, BadMachine, BadStep, ReadFault, WriteFault, HostMemory}
-use Rattle.nm_steps.specs.Faults.{Plan, OfSomeBytes, trace_limit}
 use Rattle.std.specs.Io.KnownBytes.{Appends}
-use Rattle.nm_trace.specs.Played.{report_of, WritesFront}
-use Rattle.nm_streams.specs.Telling.{HasReadCause}
-use Rattle.clap.specs.Words.{Kinds}
+use Rattle.clap.specs.Words.{IsAmong, Kinds}
 use Rattle.clap.specs.declared.error.kind.ErrorKind.{ErrorKind as ParseKind}
 use Rattle.clap.specs.declared.error.kind.ErrorKind.TheVariants as parse
+use Rattle.nm_steps.specs.declared.trace_error.TraceError.{TraceError}
+use Rattle.nm_steps.specs.declared.trace_error.TraceError.TheVariants.{NotJson, BadMachine, BadStep, ReadFault, WriteFault, HostMemory}
+use Rattle.nm_steps.specs.Faults.{Plan}
+use Rattle.nm_trace.specs.Headline.{PlaysWhole, Runs}
+use Rattle.nm_trace.specs.Telling.{GivesTrace, is_write_fault}
+use Rattle.nm_trace.specs.declared.playing.Summary.{Summary}
 
 -- the exit status of a fault
 abbrev pub status_of : TraceError → ℕ
@@ -21,83 +22,69 @@ status_of (HostMemory k) = 3
 status_of ReadFault = 4
 status_of WriteFault = 4
 
+-- the exit status of a run: 0 after a whole report, and else that of the fault
+abbrev pub status_after : Result Summary TraceError → ℕ
+status_after (Ok summary) = 0
+status_after (Err fault) = status_of fault
+
 -- the exit status if the program's words could not be read
 abbrev pub words_status : ErrorKind → ℕ
 words_status OutOfMemory = 3
 words_status kind = 2
-
--- the line on standard error if the program's words could not be read
-abbrev pub words_text : ErrorKind → List ℕ
-words_text OutOfMemory = codes "numatrace: host memory refused after 0 steps\n"
-words_text kind = codes "numatrace: a word is not UTF-8\n"
 
 -- the exit status of words that clap refuses
 abbrev pub refused_status : ParseKind → ℕ
 refused_status parse.OutOfMemory = 3
 refused_status kind = 2
 
--- the line on standard error of words that are refused for lack of memory; clap has its own text for the others
-abbrev pub TellsRefusal : ParseKind → Option (List ℕ) → Option (List ℕ) → Type 0
-TellsRefusal parse.OutOfMemory old new = Appends old new (codes "numatrace: host memory refused after 0 steps\n")
-TellsRefusal kind old new = Unit {0}
+-- ---- what standard error has
 
--- 0 after a whole report, 2 for bad input, 3 if the host is out of memory, 4 for a fault of a stream
-abbrev pub IsStatus : ℕ → Type 0
-IsStatus status = (status ≡ 0) ⊎ ((status ≡ 2) ⊎ ((status ≡ 3) ⊎ (status ≡ 4)))
+-- the line where the host has no memory for the words
+abbrev pub memory_line : List ℕ
+memory_line = codes "numatrace: host memory refused after 0 steps\n"
 
--- there is a trace, and the report on it was written
-abbrev pub ReportsWhole : Result Plan TraceError → Option (List ℕ) → Option (List ℕ) → Type 0
-ReportsWhole trace old new = (plan : Plan) × (trace ≡ Ok plan) × Appends old new (report_of plan)
+-- the line if the program's words could not be read
+abbrev pub words_text : ErrorKind → List ℕ
+words_text OutOfMemory = memory_line
+words_text kind = codes "numatrace: a word is not UTF-8\n"
 
--- the lines of the steps before step k
-abbrev pub report_before : Plan → ℕ → List ℕ
-report_before plan k = report_of (record plan { calls = take k plan.calls })
+-- a text was written, or a write has failed
+abbrev pub Tells : Option (List ℕ) → Option (List ℕ) → Bool → List ℕ → Type 0
+Tells old new failed text = Appends old new text ⊎ (failed ≡ true)
 
--- nothing was written; or there is a trace, and the lines of the steps before one of its steps were written
-abbrev pub ReportsBefore : Result Plan TraceError → Option (List ℕ) → Option (List ℕ) → Type 0
-ReportsBefore trace old new =
-    Appends old new []
-    ⊎ ((plan : Plan) × (k : ℕ) × (trace ≡ Ok plan) × (k < length plan.calls) × Appends old new (report_before plan k))
+-- why words were refused; clap has texts of its own for all causes but lack of memory
+abbrev pub TellsRefusal : ParseKind → Option (List ℕ) → Option (List ℕ) → Bool → Type 0
+TellsRefusal parse.OutOfMemory old new failed = Tells old new failed memory_line
+TellsRefusal kind old new failed = Unit {0}
 
--- the bytes are no trace
-abbrev pub IsBad : Result Plan TraceError → Type 0
-IsBad trace = (trace ≡ Err NotJson) ⊎ ((trace ≡ Err BadMachine) ⊎ ((k : ℕ) × (trace ≡ Err (BadStep k))))
+-- ---- how the program ends, with a status, after words that are refused for some causes: what it leaves of the reader of the trace,
+-- the writer of the report and that of faults
 
--- a prefix of the report was written: after status 0 all of it, and after status 3 whole steps of it, or nothing; status 2
--- means that the words are refused, or the bytes are no trace
-abbrev pub Leaves : ℕ → Kinds → Result Plan TraceError → Option (List ℕ) → Option (List ℕ) → Type 0
-Leaves status refusals trace old new =
-    (status ≡ 0 → ReportsWhole trace old new) × (status ≡ 2 → (refusals ≢ []) ⊎ IsBad trace)
-    × (status ≡ 3 → ReportsBefore trace old new) × WritesFront trace old new
+-- the words are refused for one of the causes, or the host has no memory for them: nothing is read and no report is written
+pub record RefusesWords {R W E : Type 0} (told : E → Option (List ℕ)) (telling_failed : E → Bool) (refusals : Kinds) (status : ℕ)
+    (r s : R) (w v : W) (e f : E) : Type 0 where
+  pub kind : ParseKind
+  pub cause : (kind ≡ parse.OutOfMemory) ⊎ IsAmong kind refusals
+  pub ends : status ≡ refused_status kind
+  pub tells : TellsRefusal kind (told e) (told f) (telling_failed f)
+  pub unread : s ≡ r
+  pub unwritten : v ≡ w
 
--- refused words end in status 2, or in 3 for lack of memory
-abbrev pub Refuses : Kinds → ℕ → Type 0
-Refuses refusals status = (refusals ≡ []) ⊎ ((status ≡ 2) ⊎ (status ≡ 3))
-
--- the reader has failed or gave more bytes than a trace may have, or the writer has failed
-abbrev pub HasStreamCause : Bool → (ℕ → Type 0) → Bool → Type 0
-HasStreamCause reader gave writer = HasReadCause trace_limit reader gave ⊎ (writer ≡ true)
-
--- how the program ends, with a status, after words that are refused for these causes: what it leaves of the reader of the
--- trace, the writer of the report and that of faults
-pub record Ends {R W E : Type 0} (remaining : R → Option (List ℕ)) (read_failed : R → Bool) (gave : R → R → ℕ → Type 0)
+-- the words are accepted, and the trace that the reader gives is run; a fault is told, and success is not
+pub record RunsTrace {R W E : Type 0} (remaining : R → Option (List ℕ)) (read_failed : R → Bool) (gave : R → R → ℕ → Type 0)
     (contents : W → Option (List ℕ)) (write_failed : W → Bool) (refusals : Kinds) (status : ℕ)
     (r s : R) (w v : W) (e f : E) : Type 0 where
-  -- in any case
-  pub known : IsStatus status
-  pub reports : OfSomeBytes (remaining r) (λ trace. Leaves status refusals trace (contents w) (contents v))
-  -- if words are refused
-  pub refused : Refuses refusals status
-  pub untouched : (refusals ≡ []) ⊎ ((s ≡ r) × (v ≡ w))
-  -- after status 4
-  pub streams : status ≡ 4 → HasStreamCause (read_failed s) (gave r s) (write_failed v)
-  -- after status 3
-  pub asked : status ≡ 3 → ((n : ℕ) × (0 < n) × gave r s n) ⊎ ((s ≡ r) × (v ≡ w))
-  -- after any other status than 4
-  pub unfailed : (status ≡ 4 → ⊥) → (read_failed s ≡ read_failed r) × (write_failed v ≡ write_failed w)
-  -- after status 0 or 2
-  pub few : (status ≡ 0) ⊎ (status ≡ 2) → (n : ℕ) × (n ≤ trace_limit) × gave r s n
-  -- after status 2
-  pub bad : status ≡ 2 → Appends (contents w) (contents v) []
-  -- after status 0
+  pub accepted : refusals ≡ []
+  pub result : Result Summary TraceError
+  pub ends : status ≡ status_after result
+  pub runs : (trace : Result Plan TraceError) × GivesTrace (remaining r) (read_failed r) (read_failed s) (gave r s) trace
+      × Runs (PlaysWhole (contents w) (contents v)) trace (contents w) (contents v) result
+  pub writes : write_failed v ≡ (is_write_fault result || write_failed w)
   pub quiet : status ≡ 0 → f ≡ e
+
+-- one of these
+abbrev pub Ends : {R W E : Type 0} → (R → Option (List ℕ)) → (R → Bool) → (R → R → ℕ → Type 0) → (W → Option (List ℕ)) → (W → Bool)
+    → (E → Option (List ℕ)) → (E → Bool) → Kinds → ℕ → R → R → W → W → E → E → Type 0
+Ends remaining read_failed gave contents write_failed told telling_failed refusals status r s w v e f =
+    RefusesWords told telling_failed refusals status r s w v e f
+    ⊎ RunsTrace remaining read_failed gave contents write_failed refusals status r s w v e f

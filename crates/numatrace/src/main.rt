@@ -25,7 +25,7 @@ fn main(rt: HostRuntime) -> ExitCode {
             words.as_slice(),
             &mut Watched::new(rt.stdin()),
             &mut Watched::new(rt.stdout()),
-            &mut rt.stderr(),
+            &mut Watched::new(rt.stderr()),
         ),
         Err(kind) => words::unread_words(kind, &mut rt.stderr()),
     };

@@ -99,7 +99,7 @@ fn run<A: Allocator + Copy + Send + Sync, C: RunCrew<A> + Drop, H: FnOnce(usize)
     requires { (workers : ℕ) → 0 < workers → workers ≤ 64 → H.pre hire workers }
 {
     let words = words_of(global, "numatrace")?;
-    let mut err = Vec::new(global);
+    let mut err = Watched::new(Vec::new(global));
     let mut trace = TRACE.as_bytes();
     let mut watched = Watched::new(out);
     let status = run_words_by(
@@ -111,7 +111,7 @@ fn run<A: Allocator + Copy + Send + Sync, C: RunCrew<A> + Drop, H: FnOnce(usize)
         &mut watched,
         &mut err,
     );
-    Ok((status, err))
+    Ok((status, err.into_inner()))
 }
 
 /// Only a lack of memory is reported as such; `tests/hostile.py` has a word that is not UTF-8.
@@ -174,7 +174,7 @@ fn workers_hired(global: Global, text: &str) -> Result<Option<usize>, AllocError
         words.as_slice(),
         &mut TRACE.as_bytes(),
         &mut written,
-        &mut Vec::new(global),
+        &mut Watched::new(Vec::new(global)),
     );
     let told = status == 0 && written.get_ref().as_slice() == REPORT.as_bytes();
     Ok(told.then_some(hired.load(Ordering::SeqCst)))

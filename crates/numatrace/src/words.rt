@@ -1,9 +1,9 @@
 //! The program, for any words, reader and writers.
 
-ghost use Rattle.std.specs.Prelude.{◌≡◌, ◌⊎◌, ◌<◌, ◌≤◌, ℕ, [], OnOk, map, string_bytes};
+ghost use Rattle.std.specs.Prelude.{◌≡◌, ◌<◌, ◌≤◌, ℕ, [], OnOk, map, string_bytes};
 ghost use Rattle.std.specs.Io.KnownBytes.{Appends};
 ghost use Rattle.clap.specs.Words.{kind_of};
-ghost use Rattle.numatrace.specs.Status.{status_of, words_status, words_text, refused_status, Ends, TellsRefusal};
+ghost use Rattle.numatrace.specs.Status.{status_of, words_status, words_text, refused_status, Ends, RunsTrace, TellsRefusal};
 ghost use Rattle.nm_words.specs.Words.{refusals_of};
 
 use clap::Error;
@@ -11,7 +11,7 @@ use clap::error::ErrorKind;
 use nm_frames::CopyJob;
 use nm_spaces::AddressSpaces;
 use nm_threads::Hired;
-use nm_trace::{RunCrew, TellingReader, TellingWriter, TraceError, run_trace};
+use nm_trace::{RunCrew, TellingReader, TellingWriter, TraceError, run_trace, write_lines};
 use nm_words::read_words;
 use std::alloc::{Allocator, Global};
 use std::io;
@@ -46,8 +46,7 @@ fn status_of(fault: TraceError) -> u8
 /// The exit status for words that clap refuses: 3 if the host is out of memory, and 2 for any other cause, which may be
 /// that they ask for help or the version.
 fn refused_words(kind: ErrorKind) -> u8
-    ensures status { result ≡ refused_status kind }
-    ensures either { (result ≡ 2) ⊎ (result ≡ 3) }
+    ensures { result ≡ refused_status kind }
 {
     match kind {
         ErrorKind::OutOfMemory => HOST_REFUSAL,
@@ -55,14 +54,14 @@ fn refused_words(kind: ErrorKind) -> u8
     }
 }
 
-/// Writes why words were refused, in one line or in clap's own text.
-fn tell_refusal<E: Write>(error: &Error, err: &mut E) -> io::Result<()>
-    ensures { OnOk result (TellsRefusal (kind_of error.now) (E.contents err.old) (E.contents err.new)) }
+/// Writes why words were refused, in one line or in clap's own text. A fault of `err` is not reported.
+fn tell_refusal<E: TellingWriter>(error: &Error, err: &mut E)
+    ensures { TellsRefusal (kind_of error.now) (E.contents err.old) (E.contents err.new) (E.has_failed err.new) }
 {
     if matches!(error.kind(), ErrorKind::OutOfMemory) {
-        err.write_all(b"numatrace: host memory refused after 0 steps\n")
+        let _ = write_lines(err, b"numatrace: host memory refused after 0 steps\n");
     } else {
-        write!(err, "{error}")
+        let _ = write!(err, "{error}");
     }
 }
 
@@ -101,7 +100,7 @@ pub(crate) fn unread_words<E: Write>(kind: io::ErrorKind, err: &mut E) -> u8
 /// exit status: 0 after a whole report; 2 for a bad trace, for words that are refused, and for `--help` and `--version`;
 /// 3 if the host is out of memory; 4 for a read or write fault. A fault is reported on `err`, in one line or in clap's
 /// own text, and a fault of `err` does not change the status.
-pub fn run_words<T: Threads + Wait, R: TellingReader, W: TellingWriter, E: Write>(
+pub fn run_words<T: Threads + Wait, R: TellingReader, W: TellingWriter, E: TellingWriter>(
     rt: &T,
     heap: Global,
     words: &[String],
@@ -109,7 +108,7 @@ pub fn run_words<T: Threads + Wait, R: TellingReader, W: TellingWriter, E: Write
     out: &mut W,
     err: &mut E,
 ) -> u8
-    ensures { Ends R.remaining R.has_failed R.gave W.contents W.has_failed
+    ensures { Ends R.remaining R.has_failed R.gave W.contents W.has_failed E.contents E.has_failed
         (refusals_of (map string_bytes words.now)) result reader.old reader.new out.old out.new err.old err.new }
 {
     // (the kit's borrow checker looks for what a crew works on among the types of this function)
@@ -128,16 +127,16 @@ pub(crate) fn run_words_by<
     A: Allocator + Copy + Send + Sync,
     R: TellingReader,
     W: TellingWriter,
-    E: Write,
+    E: TellingWriter,
 >(hire: H, alloc: A, heap: Global, words: &[String], reader: &mut R, out: &mut W, err: &mut E) -> u8
     requires { (workers : ℕ) → 0 < workers → workers ≤ 64 → H.pre hire workers }
-    ensures { Ends R.remaining R.has_failed R.gave W.contents W.has_failed
+    ensures { Ends R.remaining R.has_failed R.gave W.contents W.has_failed E.contents E.has_failed
         (refusals_of (map string_bytes words.now)) result reader.old reader.new out.old out.new err.old err.new }
 {
     let workers = match read_words(heap, words) {
         Ok(workers) => workers,
         Err(error) => {
-            let _ = tell_refusal(&error, err);
+            tell_refusal(&error, err);
             return refused_words(error.kind());
         }
     };
@@ -151,9 +150,9 @@ fn run_with<
     C: RunCrew<A>,
     R: TellingReader,
     W: TellingWriter,
-    E: Write,
+    E: TellingWriter,
 >(crew: &C, alloc: A, heap: Global, reader: &mut R, out: &mut W, err: &mut E) -> u8
-    ensures { Ends R.remaining R.has_failed R.gave W.contents W.has_failed
+    ensures { RunsTrace R.remaining R.has_failed R.gave W.contents W.has_failed
         [] result reader.old reader.new out.old out.new err.old err.new }
 {
     match run_trace(crew, alloc, heap, reader, out) {

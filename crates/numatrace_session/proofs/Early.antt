@@ -1,42 +1,47 @@
 -- Where a session ends before its input does.
-use Rattle.std.proofs.Common.{◌≡◌, ℕ, List, [], ◌∷◌, ◌++◌, Bool, true, Option, IfSome, Result, Ok, Err, ap, subst, sym, ◌∙◌, ◌⊎◌, inl, inr, append_assoc}
+use Rattle.std.proofs.Common.{arith, ◌≡◌, ℕ, List, [], ◌∷◌, ◌++◌, Bool, true, Option, IfSome, Result, Ok, Err, ap, subst, sym, ◌∙◌, ◌⊎◌, inl, inr, append_assoc}
 use Rattle.std.proofs.lemmas.List.{append-nil}
 use Rattle.std.specs.Prelude.{IfErr}
 use Rattle.std.specs.Io.BufRead.{take_through, DropsThrough}
+use Rattle.std.specs.Io.{StopsAt}
 use Rattle.std.specs.Io.KnownBytes.{Consumes}
 use Rattle.nm_trace.specs.Session.{SessionState, asked, opened}
 use Rattle.nm_streams.proofs.Known.{appends_more, appends_nothing, consumes_none}
 use Rattle.numatrace_session.specs.declared.End.{End}
 use Rattle.numatrace_session.specs.declared.End.TheVariants.{BadTop, HostMemory, Stream}
-use Rattle.numatrace_session.specs.Replies.{HasByte, reply_of, replies_to, EndsEarly, EndsTalk, Replies, RepliesToLines}
+use Rattle.numatrace_session.specs.Replies.{HasByte, reply_of, replies_to, EndsEarly, EndsTalk, ReadsUpToLine, Replies, RepliesToLines}
 use Rattle.numatrace_session.proofs.Lines.{all_more, reads_more, reads_none, reads_top, replied_before, replies_but_last, replies_more}
 
 -- what holds of an error holds of the result that has it
 pub if_err : {X E : Type 0} (Holds : E → Type 0) (e : E) (result : Result X E) → result ≡ Err e → Holds e → IfErr result Holds
 if_err Holds e result is h = subst (λ r. IfErr r Holds) (sym is) h
 
+-- nothing is read
+pub none_beyond : (a : Option (List ℕ)) → ReadsUpToLine a a
+none_beyond a = ([], consumes_none a, λ k d few. absurd (omega (arith, few)))
+
 -- the next line could not be read
 pub unread : (s t : SessionState) (a b c old new : Option (List ℕ)) (failed fails : Bool) (bytes : List ℕ) (e : End) → RepliesToLines s t a b old new
-    → Consumes b c bytes → fails ≡ failed → ((e ≡ HostMemory) ⊎ (e ≡ Stream)) → EndsEarly e s a c old new failed fails
-unread s t a b c old new failed fails bytes e h gone same (inl is) =
-    subst (λ (d : End). EndsEarly d s a c old new failed fails) (sym is) (h.0, (b, bytes, h.1, gone), h.4, h.3, same)
-unread s t a b c old new failed fails bytes e h gone same (inr is) =
-    subst (λ (d : End). EndsEarly d s a c old new failed fails) (sym is) (h.0, (b, bytes, h.1, gone), h.4, inl (h.3, same))
+    → Consumes b c bytes → StopsAt bytes 10 → fails ≡ failed → ((e ≡ HostMemory) ⊎ (e ≡ Stream)) → EndsEarly e s a c old new failed fails
+unread s t a b c old new failed fails bytes e h gone stops same (inl is) =
+    subst (λ (d : End). EndsEarly d s a c old new failed fails) (sym is) (h.0, (b, h.1, (bytes, gone, stops)), h.4, h.3, same)
+unread s t a b c old new failed fails bytes e h gone stops same (inr is) =
+    subst (λ (d : End). EndsEarly d s a c old new failed fails) (sym is) (h.0, (b, h.1, (bytes, gone, stops)), h.4, inl (h.3, same))
 
 -- it could not be replied to
 pub unreplied : (s t u : SessionState) (a b c old new newer : Option (List ℕ)) (failed mid fails : Bool) (line : List ℕ) (e : End) → RepliesToLines s t a b old new
-    → IfSome b (λ xs. line ≡ take_through 10 xs) → DropsThrough b c 10 → Consumes b c line → HasByte line
+    → IfSome b (λ xs. line ≡ take_through 10 xs) → DropsThrough b c 10 → Consumes b c line → StopsAt line 10 → HasByte line
     → mid ≡ failed → Replies t u line new newer mid fails (Err e) → EndsEarly e s a c old newer failed fails
-unreplied s t u a b c old new newer failed mid fails line (BadTop fault) h is drops gone some same w = absurd w.0
-unreplied s t u a b c old new newer failed mid fails line HostMemory h is drops gone some same w =
-    (h.0, (b, line, h.1, gone), h.4, appends_nothing old new newer (replies_to s h.0) h.3 w.1, w.2 ∙ same)
-unreplied s t u a b c old new newer failed mid fails line Stream h is drops gone some same w =
+unreplied s t u a b c old new newer failed mid fails line (BadTop fault) h is drops gone stops some same w = absurd w.0
+unreplied s t u a b c old new newer failed mid fails line HostMemory h is drops gone stops some same w =
+    (h.0, (b, h.1, (line, gone, stops)), h.4, appends_nothing old new newer (replies_to s h.0) h.3 w.1, w.2 ∙ same)
+unreplied s t u a b c old new newer failed mid fails line Stream h is drops gone stops some same w =
     let lines = h.0 in
     let so_far = replies_to s lines in
     let broken = w.0.0 in
     let text = ap (λ (v : SessionState). reply_of v (asked v line)) h.2 in (
       lines ++ line ∷ [],
-      (c, [], reads_more a b c lines line h.1 is drops, consumes_none c),
+      (c, reads_more a b c lines line h.1 is drops, none_beyond c),
       all_more lines line h.4 some,
       inr (
         so_far ++ broken.0,
@@ -55,7 +60,7 @@ pub unflushed : (s t : SessionState) (a c old new : Option (List ℕ)) (failed f
 unflushed s t a c old new failed fails e h is told =
     let whole = replies_to s h.0 in
     subst (λ (d : End). EndsEarly d s a c old new failed fails) (sym is)
-    (h.0, (c, [], h.1, consumes_none c), h.4, inr (whole, [], append-nil whole, h.3, told, replies_but_last s h.0, h.1))
+    (h.0, (c, h.1, none_beyond c), h.4, inr (whole, [], append-nil whole, h.3, told, replies_but_last s h.0, h.1))
 
 -- ---- from the first line on
 

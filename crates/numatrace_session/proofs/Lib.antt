@@ -1,4 +1,5 @@
 pub mod Replied
 pub mod Lines
 pub mod Early
+pub mod Causes
 pub mod Served

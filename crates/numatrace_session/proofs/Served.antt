@@ -1,16 +1,15 @@
--- What is served through buffers.
+-- What a talk says once the replies that wait are flushed.
 use Rattle.std.proofs.Common.{◌≡◌, ◌⊎◌, ℕ, Bool, true, List, [], ◌∷◌, Option, Some, None, Result, Ok, Err, refl, subst, ap, ◌∙◌, inl, inr}
 use Rattle.std.specs.Prelude.{IfErr, OnOk}
 use Rattle.std.specs.Io.BufRead.{drop_through, DropsThrough}
-use Rattle.std.specs.Io.Buffered.{reader_buffer, reader_capacity, reader_inner, reader_remaining}
-use Rattle.std.specs.Io.KnownBytes.{Keeps, prepend_known}
-use Rattle.std.specs.declared.io.buffered.BufReader.{BufReader}
+use Rattle.std.specs.Io.KnownBytes.{Keeps}
 use Rattle.nm_steps.specs.declared.trace_error.TraceError.{TraceError}
 use Rattle.nm_trace.specs.Session.{SessionState}
-use Rattle.nm_streams.proofs.Known.{appends_kept, consumes_none}
+use Rattle.nm_streams.proofs.Known.{appends_kept}
 use Rattle.numatrace_session.specs.declared.End.{End}
 use Rattle.numatrace_session.specs.declared.End.TheVariants.{BadTop, HostMemory, Stream}
-use Rattle.numatrace_session.specs.Replies.{replies_to, BeginsNone, EndsEarly, EndsFlushed, EndsTalk, EndsWithin, IsRefused, ReachesEnd, ReadsLines, Talks, TalksThrough, WritesReplies}
+use Rattle.numatrace_session.specs.Replies.{replies_to, EndsEarly, EndsFlushed, EndsTalk, IsRefused, ReachesEnd, ReadsLines, Talks, WritesReplies}
+use Rattle.numatrace_session.proofs.Early.{none_beyond}
 
 -- what was written stays
 pub talks_kept : {X E : Type 0} (a b old new newer : Option (List ℕ)) (result : Result X E) → OnOk result (Talks a b old new) → Keeps new newer → OnOk result (Talks a b old newer)
@@ -34,7 +33,7 @@ early_kept Stream s a b old new newer failed mid fails h kept same = (h.0, h.1, 
 
 talk_kept : (end : End) (a b old new newer : Option (List ℕ)) (failed mid fails : Bool) → EndsTalk end a b old new failed mid → Keeps new newer → fails ≡ mid
     → EndsTalk end a b old newer failed fails
-talk_kept end a b old new newer failed mid fails (inl h) kept same = inl (appends_kept old new newer [] h.0 kept, same ∙ h.1)
+talk_kept end a b old new newer failed mid fails (inl h) kept same = inl (h.0, appends_kept old new newer [] h.1 kept, same ∙ h.2)
 talk_kept end a b old new newer failed mid fails (inr h) kept same =
     inr (h.0, h.1, h.2, h.3, h.4, early_kept end h.1 h.2 b old new newer failed mid fails h.5 kept same)
 
@@ -70,7 +69,7 @@ early_lost Stream s a b old new newer failed mid fails h kept told = (h.0, h.1, 
 
 talk_lost : (end : End) (a b old new newer : Option (List ℕ)) (failed mid fails : Bool) → EndsTalk end a b old new failed mid → Keeps new newer → fails ≡ true
     → EndsTalk Stream a b old newer true fails
-talk_lost end a b old new newer failed mid fails (inl h) kept told = inl (appends_kept old new newer [] h.0 kept, told)
+talk_lost end a b old new newer failed mid fails (inl h) kept told = inl (h.0, appends_kept old new newer [] h.1 kept, told)
 talk_lost end a b old new newer failed mid fails (inr h) kept told =
     inr (h.0, h.1, h.2, h.3, h.4, early_lost end h.1 h.2 b old new newer failed mid fails h.5 kept told)
 
@@ -86,7 +85,7 @@ ends_lost a b old new newer failed mid fails (Ok done) talks early kept told =
       apart.0,
       talks.3,
       apart.1,
-      (talks.2, (b, [], apart.2, consumes_none b), talks.6, inl (appends_kept old new newer (replies_to talks.1 talks.2) talks.5 kept, told)),
+      (talks.2, (b, apart.2, none_beyond b), talks.6, inl (appends_kept old new newer (replies_to talks.1 talks.2) talks.5 kept, told)),
     ))
 ends_lost a b old new newer failed mid fails (Err end) talks early kept told = inr (talk_lost end a b old new newer failed mid fails early kept told)
 
@@ -98,31 +97,3 @@ reaches_end a b c (Err e) first h = tt
 reaches_end None b c (Ok done) first h = tt
 reaches_end (Some xs) None c (Ok done) first h = absurd (cc)
 reaches_end (Some xs) (Some ys) c (Ok done) first h = h
-
--- ---- all that is read
-
-pub talks_through : (a whole b old new : Option (List ℕ)) (result : Result (Unit {0}) End) → a ≡ whole → OnOk result (Talks a b old new) → ReachesEnd result a b → OnOk result (TalksThrough whole old new)
-talks_through a whole b old new (Ok done) same h end = subst (λ (o : Option (List ℕ)). TalksThrough o old new) same (b, h, end)
-talks_through a whole b old new (Err e) same h end = tt
-
-pub none_begun : (a whole b old new : Option (List ℕ)) (fault : TraceError) → a ≡ whole → IsRefused a b old new fault → BeginsNone whole old new fault
-none_begun a whole b old new fault same h = subst (λ (o : Option (List ℕ)). BeginsNone o old new fault) same (b, h)
-
-pub ends_within : {X : Type 0} (a whole b old new : Option (List ℕ)) (failed fails : Bool) (result : Result X End) → a ≡ whole
-    → IfErr result (λ e. EndsFlushed e a b old new failed fails) → IfErr result (λ e. EndsWithin e whole old new failed fails)
-ends_within a whole b old new failed fails (Ok done) same h = tt
-ends_within a whole b old new failed fails (Err end) same h = subst (λ (o : Option (List ℕ)). EndsWithin end o old new failed fails) same (b, h)
-
--- an empty buffer hides nothing
-none_before : (known : Option (List ℕ)) → prepend_known [] known ≡ known
-none_before None = refl
-none_before (Some xs) = refl
-
-pub fresh : {R A : Type 0} (remaining : R → Option (List ℕ)) (r : BufReader R A) (from : R) → reader_inner r ≡ from → reader_buffer r ≡ [] → reader_capacity r ≡ 8192
-    → reader_remaining remaining r ≡ remaining from
-fresh remaining r from inner empty capacity = rw (capacity, empty) (none_before (remaining r.inner) ∙ ap remaining inner)
-
--- what is one of two is one of three
-pub of_three : {A B C : Type 0} → A ⊎ B → A ⊎ (B ⊎ C)
-of_three (inl a) = inl a
-of_three (inr b) = inr (inl b)

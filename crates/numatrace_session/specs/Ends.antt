@@ -1,5 +1,5 @@
 -- Why a session ends before its input does, and the exit status.
-use Rattle.std.specs.Prelude.{◌≡◌, ℕ, List, Option, Result, Ok, Err, codes}
+use Rattle.std.specs.Prelude.{◌≡◌, ◌⊎◌, ℕ, Bool, true, false, List, Option, Result, Ok, Err, codes}
 use Rattle.std.specs.Io.KnownBytes.{Appends}
 use Rattle.std.specs.declared.io.ErrorKind.{ErrorKind}
 use Rattle.std.specs.declared.io.ErrorKind.TheVariants.{OutOfMemory}
@@ -10,10 +10,15 @@ use Rattle.nm_trace.specs.Session.{SessionState, opened}
 use Rattle.numatrace_session.specs.declared.End.{End}
 use Rattle.numatrace_session.specs.declared.End.TheVariants.{BadTop, HostMemory, Stream}
 
--- where a read fails with an error of this kind
-abbrev pub unread : ErrorKind → End
-unread OutOfMemory = HostMemory
-unread kind = Stream
+-- where a line cannot be read, for an error of this kind: if the reader has not failed, memory for the line was refused
+abbrev pub unread : ErrorKind → Bool → End
+unread OutOfMemory failed = HostMemory
+unread kind true = Stream
+unread kind false = HostMemory
+
+-- a stream is told as failed only where the reader or the writer has failed
+abbrev pub HasCause : Result (Unit {0}) End → Bool → Bool → Type 0
+HasCause result reader writer = result ≡ Err Stream → (reader ≡ true) ⊎ (writer ≡ true)
 
 -- where the first line begins no session, for this fault
 abbrev pub unopened : TraceError → End

@@ -1,6 +1,7 @@
 -- What the reply to a line makes of a session, and of what is written.
 use Rattle.std.specs.Prelude.{◌≡◌, ◌==◌, ℕ, ◌-◌, ◌<◌, ◌≤◌, ◌⊎◌, Bool, true, List, [], ◌∷◌, ◌++◌, length, take, codes, decimal, Option, Some, None, IfSome, Result, Ok, Err, OnOk}
 use Rattle.std.specs.List.{AllByRecursion, list_any}
+use Rattle.std.specs.Io.{StopsAt}
 use Rattle.std.specs.Io.BufRead.{take_through, drop_through}
 use Rattle.std.specs.Io.KnownBytes.{Appends, Consumes, IsAtEnd}
 use Rattle.nm_steps.specs.Calls.{Call}
@@ -114,10 +115,13 @@ Refuses result left left_then old new = (fault : TraceError) → result ≡ Err 
 abbrev pub has_line : List ℕ → Bool
 has_line bytes = list_any (λ b. b == 10) bytes
 
--- lines are read, and some bytes after them
+-- some bytes are read, up to the end of a line at most
+abbrev pub ReadsUpToLine : Option (List ℕ) → Option (List ℕ) → Type 0
+ReadsUpToLine left left_then = (bytes : List ℕ) × Consumes left left_then bytes × StopsAt bytes 10
+
+-- lines are read, and at most one after them
 abbrev pub ReadsBeyond : Option (List ℕ) → Option (List ℕ) → List (List ℕ) → Type 0
-ReadsBeyond left left_then lines =
-    (between : Option (List ℕ)) × (bytes : List ℕ) × ReadsLines left between lines × Consumes between left_then bytes
+ReadsBeyond left left_then lines = (between : Option (List ℕ)) × ReadsLines left between lines × ReadsUpToLine between left_then
 
 -- lines without the last one
 abbrev pub but_last : List (List ℕ) → List (List ℕ)
@@ -143,10 +147,11 @@ EndsEarly Stream s left left_then old new failed fails =
     (lines : List (List ℕ)) × ReadsBeyond left left_then lines × AllByRecursion HasByte lines
     × WritesReplies s lines left left_then old new failed fails
 
--- a session ends early: nothing was written, or its first line has begun it, and the replies to further ones end early
+-- a session ends early: before its first line has begun it, when no more than that line was read and nothing was written; or
+-- after it, when the replies to further lines end early
 abbrev pub EndsTalk : End → Option (List ℕ) → Option (List ℕ) → Option (List ℕ) → Option (List ℕ) → Bool → Bool → Type 0
 EndsTalk end left left_then old new failed fails =
-    (Appends old new [] × (fails ≡ failed))
+    (ReadsUpToLine left left_then × Appends old new [] × (fails ≡ failed))
     ⊎ ((top : List ℕ) × (s : SessionState) × (between : Option (List ℕ)) × (opened top ≡ Ok s) × ReadsLines left between (top ∷ [])
     × EndsEarly end s between left_then old new failed fails)
 
@@ -156,19 +161,3 @@ abbrev pub EndsFlushed : End → Option (List ℕ) → Option (List ℕ) → Opt
 EndsFlushed Stream left left_then old new failed fails =
     EndsTalk Stream left left_then old new failed fails ⊎ EndsTalk Stream left left_then old new true fails
 EndsFlushed end left left_then old new failed fails = EndsTalk end left left_then old new failed fails
-
--- ---- a session on all that is read
-
--- it is talked through to its end
-abbrev pub TalksThrough : Option (List ℕ) → Option (List ℕ) → Option (List ℕ) → Type 0
-TalksThrough left old new =
-    (left_then : Option (List ℕ)) × Talks left left_then old new × IfSome left (λ _. IsAtEnd left_then)
-
--- its first line begins no session, and nothing is written
-abbrev pub BeginsNone : Option (List ℕ) → Option (List ℕ) → Option (List ℕ) → TraceError → Type 0
-BeginsNone left old new fault = (left_then : Option (List ℕ)) × IsRefused left left_then old new fault
-
--- the session ends early, somewhere in it
-abbrev pub EndsWithin : End → Option (List ℕ) → Option (List ℕ) → Option (List ℕ) → Bool → Bool → Type 0
-EndsWithin end left old new failed fails =
-    (left_then : Option (List ℕ)) × EndsFlushed end left left_then old new failed fails

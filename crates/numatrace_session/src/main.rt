@@ -11,11 +11,12 @@ ghost use Rattle.std.specs.Prelude.{◌≡◌, ◌⊎◌, ◌||◌, ◌++◌, []
 ghost use Rattle.std.specs.Io.{StopsAt};
 ghost use Rattle.std.specs.Io.BufRead.{take_through, DropsThrough};
 ghost use Rattle.std.specs.Io.KnownBytes.{Consumes, IsAtEnd, Keeps};
-ghost use Rattle.std.specs.Io.Buffered.{reader_buffer, reader_remaining, writer_buffer, writer_inner};
+ghost use Rattle.std.specs.Io.Buffered.{reader_buffer, writer_buffer, writer_inner};
 ghost use Rattle.nm_steps.specs.Memory.{IsSomeText};
 ghost use Rattle.nm_steps.specs.declared.trace_error.TraceError.{TraceError};
-ghost use Rattle.numatrace_session.specs.Ends.{status_of, unopened, unread, Begins, IsTold};
-ghost use Rattle.numatrace_session.specs.Replies.{bad_step_reply, has_line, BeginsNone, EndsEarly, EndsFlushed, EndsTalk, EndsWithin, ReachesEnd, Refuses, Replies, RepliesToLines, Talks, TalksThrough, TellsFault, Writes};
+ghost use Rattle.numatrace_session.specs.Ends.{status_of, unopened, unread, Begins, HasCause, IsTold};
+ghost use Rattle.numatrace_session.specs.Input.{has_read_failed, left_in};
+ghost use Rattle.numatrace_session.specs.Replies.{bad_step_reply, has_line, EndsEarly, EndsFlushed, EndsTalk, ReachesEnd, Refuses, Replies, RepliesToLines, Talks, TellsFault, Writes};
 
 use nm_crew::Alone;
 use nm_frames::CopyJob;
@@ -39,37 +40,47 @@ enum End {
     Stream,
 }
 
-/// Why a session ends where a read fails with an error of this kind.
-fn unread(kind: ErrorKind) -> End
-    ensures end { result ≡ unread kind }
+/// Why a session ends where a line cannot be read, given the kind of the error and whether the reader has failed: a
+/// reader that has not leaves the memory for the line.
+fn unread(kind: ErrorKind, has_failed: bool) -> End
+    ensures end { result ≡ unread kind has_failed }
     ensures either { (result ≡ End.HostMemory) ⊎ (result ≡ End.Stream) }
+    ensures cause { result ≡ End.Stream → has_failed ≡ true }
 {
     match kind {
         ErrorKind::OutOfMemory => End::HostMemory,
-        _ => End::Stream,
+        _ if has_failed => End::Stream,
+        _ => End::HostMemory,
     }
 }
 
 /// Reads the next line, with its end, in place of what is in the list. False where the input has ended.
-fn next_line<R: BufRead>(input: &mut R, line: &mut Vec<u8>) -> Result<bool, End>
+fn next_line<R: Read>(
+    input: &mut BufReader<Watched<R>, Global>,
+    line: &mut Vec<u8>,
+) -> Result<bool, End>
     // On success
-    ensures line { OnOk result (IfSome (R.remaining input.old)
+    ensures line { OnOk result (IfSome (left_in R.remaining input.old)
         (λ xs. line.new.items ≡ take_through 10 xs)) }
-    ensures rest { OnOk result (DropsThrough (R.remaining input.old) (R.remaining input.new) 10) }
+    ensures rest { OnOk result (DropsThrough (left_in R.remaining input.old) (left_in R.remaining input.new) 10) }
     ensures more { IfOk result (λ more. more ≡ nat_lt 0 (length line.new.items)) }
-    ensures end { IfOk result (λ more. more ≡ false → IsAtEnd (R.remaining input.old)) }
+    ensures end { IfOk result (λ more. more ≡ false → IsAtEnd (left_in R.remaining input.old)) }
 
     // In any case
     ensures stops { StopsAt line.new.items 10 }
-    ensures none_lost { Consumes (R.remaining input.old) (R.remaining input.new) line.new.items }
+    ensures none_lost { Consumes (left_in R.remaining input.old) (left_in R.remaining input.new) line.new.items }
 
     // On a fault
     ensures fault { IfErr result (λ e. (e ≡ End.HostMemory) ⊎ (e ≡ End.Stream)) }
+    ensures cause { IfErr result (λ e. e ≡ End.Stream → has_read_failed input.new ≡ true) }
 {
     line.clear();
     match input.read_until(b'\n', line) {
         Ok(count) => Ok(count > 0),
-        Err(error) => Err(unread(error.kind())),
+        Err(error) => {
+            let has_failed = input.get_ref().has_failed();
+            Err(unread(error.kind(), has_failed))
+        }
     }
 }
 
@@ -138,7 +149,7 @@ fn reply<W: TellingWriter>(
 
 /// Writes the replies that wait, unless a further line is there already.
 fn flush_unless_asked<R: Read, W: FlushingWriter>(
-    input: &BufReader<R, Global>,
+    input: &BufReader<Watched<R>, Global>,
     out: &mut W,
 ) -> Result<(), End>
     // If a further line is there
@@ -166,22 +177,23 @@ fn reply_to_lines<T: Wait, R: Read, W: FlushingWriter>(
     rt: &T,
     heap: Global,
     session: &mut Session<Global>,
-    input: &mut BufReader<R, Global>,
+    input: &mut BufReader<Watched<R>, Global>,
     out: &mut W,
 ) -> Result<(), End>
     // On success
     ensures lines { OnOk result (RepliesToLines session.old session.new
-        (reader_remaining R.remaining input.old) (reader_remaining R.remaining input.new)
+        (left_in R.remaining input.old) (left_in R.remaining input.new)
         (W.contents out.old) (W.contents out.new)) }
     ensures end { ReachesEnd result
-        (reader_remaining R.remaining input.old) (reader_remaining R.remaining input.new) }
+        (left_in R.remaining input.old) (left_in R.remaining input.new) }
     ensures told { OnOk result (W.has_failed out.new ≡ W.has_failed out.old) }
 
     // On a fault
     ensures fault { IfErr result (λ e. (e ≡ End.HostMemory) ⊎ (e ≡ End.Stream)) }
     ensures early { IfErr result (λ e. EndsEarly e session.old
-        (reader_remaining R.remaining input.old) (reader_remaining R.remaining input.new)
+        (left_in R.remaining input.old) (left_in R.remaining input.new)
         (W.contents out.old) (W.contents out.new) (W.has_failed out.old) (W.has_failed out.new)) }
+    ensures cause { HasCause result (has_read_failed input.new) (W.has_failed out.new) }
 {
     let mut line = Vec::new(heap);
     for _ in rt.forever() {
@@ -218,24 +230,25 @@ fn begin(heap: Global, top: &[u8]) -> Result<Session<Global>, End>
 fn talk<T: Wait, R: Read, W: FlushingWriter>(
     rt: &T,
     heap: Global,
-    input: &mut BufReader<R, Global>,
+    input: &mut BufReader<Watched<R>, Global>,
     out: &mut W,
 ) -> Result<(), End>
     // On success
     ensures talk { OnOk result (Talks
-        (reader_remaining R.remaining input.old) (reader_remaining R.remaining input.new)
+        (left_in R.remaining input.old) (left_in R.remaining input.new)
         (W.contents out.old) (W.contents out.new)) }
     ensures end { ReachesEnd result
-        (reader_remaining R.remaining input.old) (reader_remaining R.remaining input.new) }
+        (left_in R.remaining input.old) (left_in R.remaining input.new) }
     ensures told { OnOk result (W.has_failed out.new ≡ W.has_failed out.old) }
 
     // On a fault
     ensures refused { Refuses result
-        (reader_remaining R.remaining input.old) (reader_remaining R.remaining input.new)
+        (left_in R.remaining input.old) (left_in R.remaining input.new)
         (W.contents out.old) (W.contents out.new) }
     ensures early { IfErr result (λ e. EndsTalk e
-        (reader_remaining R.remaining input.old) (reader_remaining R.remaining input.new)
+        (left_in R.remaining input.old) (left_in R.remaining input.new)
         (W.contents out.old) (W.contents out.new) (W.has_failed out.old) (W.has_failed out.new)) }
+    ensures cause { HasCause result (has_read_failed input.new) (W.has_failed out.new) }
 {
     let mut line = Vec::new(heap);
     next_line(input, &mut line)?;
@@ -247,24 +260,25 @@ fn talk<T: Wait, R: Read, W: FlushingWriter>(
 fn talk_to_end<T: Wait, R: Read, W: FlushingWriter>(
     rt: &T,
     heap: Global,
-    input: &mut BufReader<R, Global>,
+    input: &mut BufReader<Watched<R>, Global>,
     out: &mut W,
 ) -> Result<(), End>
     // On success
     ensures talk { OnOk result (Talks
-        (reader_remaining R.remaining input.old) (reader_remaining R.remaining input.new)
+        (left_in R.remaining input.old) (left_in R.remaining input.new)
         (W.contents out.old) (W.contents out.new)) }
     ensures end { ReachesEnd result
-        (reader_remaining R.remaining input.old) (reader_remaining R.remaining input.new) }
+        (left_in R.remaining input.old) (left_in R.remaining input.new) }
     ensures told { OnOk result (W.has_failed out.new ≡ W.has_failed out.old) }
 
     // On a fault
     ensures refused { Refuses result
-        (reader_remaining R.remaining input.old) (reader_remaining R.remaining input.new)
+        (left_in R.remaining input.old) (left_in R.remaining input.new)
         (W.contents out.old) (W.contents out.new) }
     ensures early { IfErr result (λ e. EndsFlushed e
-        (reader_remaining R.remaining input.old) (reader_remaining R.remaining input.new)
+        (left_in R.remaining input.old) (left_in R.remaining input.new)
         (W.contents out.old) (W.contents out.new) (W.has_failed out.old) (W.has_failed out.new)) }
+    ensures cause { HasCause result (has_read_failed input.new) (W.has_failed out.new) }
 
     // In any case
     ensures flushed { ((result ≡ Err End.Stream) × (W.has_failed out.new ≡ true))
@@ -288,32 +302,18 @@ fn buffered<W: Write + Drop>(heap: Global, to: W) -> Result<BufWriter<W, Global>
     }
 }
 
-/// Replies to what is read, through a buffer, and then writes the replies that wait, however that ends.
-fn serve<T: Wait, R: Read + Drop, W: FlushingWriter>(
-    rt: &T,
+/// A buffer behind the input. The only error is `HostMemory`.
+fn buffered_input<R: Read + Drop>(
     heap: Global,
     from: R,
-    out: &mut W,
-) -> Result<(), End>
-    // On success
-    ensures talk { OnOk result
-        (TalksThrough (R.remaining from) (W.contents out.old) (W.contents out.new)) }
-    ensures told { OnOk result (W.has_failed out.new ≡ W.has_failed out.old) }
-
-    // On a fault
-    ensures refused { (fault : TraceError) → result ≡ Err (End.BadTop fault) →
-        BeginsNone (R.remaining from) (W.contents out.old) (W.contents out.new) fault }
-    ensures early { IfErr result (λ e. EndsWithin e (R.remaining from)
-        (W.contents out.old) (W.contents out.new) (W.has_failed out.old) (W.has_failed out.new)) }
-
-    // In any case
-    ensures flushed { ((result ≡ Err End.Stream) × (W.has_failed out.new ≡ true))
-        ⊎ (W.is_flushed out.new ⊎ ((result ≡ Err End.HostMemory) × (out.new ≡ out.old))) }
+) -> Result<BufReader<Watched<R>, Global>, End>
+    ensures input { IfOk result (λ b. left_in R.remaining b ≡ R.remaining from) }
+    ensures fault { IfErr result (λ e. e ≡ End.HostMemory) }
 {
-    let Ok(mut input) = BufReader::new(heap, from) else {
+    let Ok(input) = BufReader::new(heap, Watched::new(from)) else {
         return Err(End::HostMemory);
     };
-    talk_to_end(rt, heap, &mut input, out)
+    Ok(input)
 }
 
 /// The exit status of a session that ended so.
@@ -339,11 +339,20 @@ fn tell<E: Write>(end: &End, err: &mut E) -> io::Result<()>
     }
 }
 
+/// Talks on an input and an output, each through a buffer.
+fn serve<T: Wait, R: Read + Drop, W: Write + Drop>(
+    rt: &T,
+    heap: Global,
+    from: R,
+    to: W,
+) -> Result<(), End> {
+    let mut input = buffered_input(heap, from)?;
+    let out = buffered(heap, to)?;
+    talk_to_end(rt, heap, &mut input, &mut Watched::new(out))
+}
+
 fn main(rt: HostRuntime) -> ExitCode {
-    let ended = match buffered(rt.alloc(), rt.stdout()) {
-        Ok(out) => serve(&rt, rt.alloc(), rt.stdin(), &mut Watched::new(out)),
-        Err(end) => Err(end),
-    };
+    let ended = serve(&rt, rt.alloc(), rt.stdin(), rt.stdout());
     if let Err(end) = &ended {
         let _ = tell(end, &mut rt.stderr());
     }

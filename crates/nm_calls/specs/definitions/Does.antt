@@ -46,3 +46,7 @@ Moves (Err (Refused e)) old new stretches during = ⊥
 Moves (Err (HostMemory runs policy_set)) old new stretches during =
     (policy_set ≡ false) × (runs ≤ length stretches - 1)
     × (new ≡ slice_index_or (states_from 0 old stretches during) runs old)
+
+-- the host may be out of memory only where this holds
+abbrev pub Asks : {T : Type 0} → Result T CallError → Type 0 → Type 0
+Asks result P = (runs : ℕ) (policy_set : Bool) → result ≡ Err (HostMemory runs policy_set) → P

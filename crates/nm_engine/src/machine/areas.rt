@@ -6,7 +6,7 @@ ghost use Rattle.std.specs.List.{list_any};
 ghost use Rattle.nm_engine.specs.definitions.Does.{AsksLast, Makes};
 ghost use Rattle.nm_model.specs.definitions.Effect.{attach, attach_refusal, dropped, is_unknown, map_new, map_refusal, policy_refusal, set_policy, shows_pinned, unmap, unmap_refusal};
 ghost use Rattle.nm_areas.specs.Splits.{HasSplit};
-ghost use Rattle.nm_model.specs.definitions.Areas.{is_mapped, pages_of};
+ghost use Rattle.nm_model.specs.definitions.Areas.{pages_of};
 ghost use Rattle.nm_memory.specs.views.Frames.{CanFree, pool_of, with_freed};
 ghost use Rattle.nm_runs.specs.Targets.{Checks};
 
@@ -121,8 +121,8 @@ impl<A: Allocator + Copy + Send + Sync> Machine<A> {
         Ok(())
     }
 
-    /// The page numbers of the `len` bytes from address `addr` on, rounded up to whole pages, all of which areas of the
-    /// process cover, for `set_policy`. Does not allocate.
+    /// The page numbers of the `len` bytes from address `addr` on, rounded up to whole pages, whose policy `set_policy`
+    /// would set. If it would refuse, returns the same error. Does not allocate.
     ///
     /// Errors, in order: ESRCH if there is no such process; EINVAL if the address is not a multiple of 4,096, or the
     /// range ends past 2^64 - 1; EFAULT if a page of the range has no area. A `len` of 0 that is not refused is an empty
@@ -134,8 +134,6 @@ impl<A: Allocator + Copy + Send + Sync> Machine<A> {
         // On success
         ensures range { IfOk result
             (λ range. (range.first ≡ addr / 4096) × (range.end ≡ addr / 4096 + pages_of len)) }
-        ensures mapped { IfOk result
-            (λ range. is_mapped self.now.areas pid range.first (range.end - range.first) ≡ true) }
     {
         if self.spaces.info(pid).is_none() {
             return Err(Errno::Esrch);
@@ -143,19 +141,39 @@ impl<A: Allocator + Copy + Send + Sync> Machine<A> {
         self.spaces.areas().check_policy(pid, addr, len)
     }
 
-    /// Sets where new pages are placed in a range of page numbers that areas of the process cover, as `check_policy`
-    /// returns it. The process's areas are split at both ends of the range, and never merged; no page moves. An empty
-    /// range changes nothing.
+    /// Sets where new pages are placed in the `len` bytes from address `addr` on, rounded up to whole pages, as mbind(2)
+    /// does. The process's areas are split at both ends of the range, and never merged; no page moves.
+    ///
+    /// Errors, in order: those of `check_policy`; `HostMemory`, only where an area is split. An error means that nothing
+    /// has changed.
+    pub fn set_policy(
+        &mut self,
+        pid: Pid,
+        addr: u64,
+        len: u64,
+        policy: Policy,
+    ) -> Result<(), MachineError>
+        ensures done { Makes result self.old self.new (policy_refusal self.old pid addr len)
+            (set_policy self.old pid addr len policy) }
+        ensures memory { AsksLast result (policy_refusal self.old pid addr len) }
+        ensures asked { result ≡ Err MachineError.HostMemory →
+            HasSplit self.old.areas pid (addr / 4096)
+            ⊎ HasSplit self.old.areas pid (addr / 4096 + pages_of len) }
+    {
+        let range = self.check_policy(pid, addr, len)?;
+        Ok(self.set_range_policy(pid, range, policy)?)
+    }
+
+    /// Sets where new pages are placed in a range of page numbers of a process, as `set_policy` does. An empty range
+    /// changes nothing.
     ///
     /// An error means that nothing has changed. Allocates only where an area is split.
-    pub fn set_policy(
+    pub fn set_range_policy(
         &mut self,
         pid: Pid,
         range: PageRange,
         policy: Policy,
     ) -> Result<(), AllocError>
-        requires mapped { is_mapped self.old.areas pid range.first (range.end - range.first) ≡ true }
-
         // On success
         ensures ok { OnOk result
             (self.new

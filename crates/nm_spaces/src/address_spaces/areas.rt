@@ -9,9 +9,9 @@ ghost use Rattle.nm_types.specs.Map.{get, without};
 ghost use Rattle.nm_types.specs.State.{Process, page_at};
 ghost use Rattle.nm_types.specs.Does.{Makes};
 ghost use Rattle.nm_areas.specs.Splits.{HasSplit};
-ghost use Rattle.nm_model.specs.definitions.Areas.{inserted, attached, is_mapped, with_policy};
+ghost use Rattle.nm_model.specs.definitions.Areas.{inserted, attached, with_policy};
 ghost use Rattle.nm_model.specs.definitions.AreaRefusal.{insert_refusal, stretch_refusal, overlaps};
-ghost use Rattle.nm_model.specs.definitions.Areas.{removed, frames_lost};
+ghost use Rattle.nm_model.specs.definitions.Areas.{frames_lost};
 ghost use Rattle.nm_model.specs.definitions.Effect.{shows_pinned};
 ghost use Rattle.nm_model.specs.definitions.PageTables.{entry_at};
 ghost use Rattle.nm_spaces.specs.views.ProcessTable.{names, cleared};
@@ -70,16 +70,14 @@ impl<A: Allocator + Copy> AddressSpaces<A> {
         parts.areas.attach(pid, addr, segment, offset, pages)
     }
 
-    /// Sets the policy of a range of page numbers that areas of the process cover, and of no others. An error means that
-    /// nothing has changed.
+    /// Sets the policy of a range of page numbers of a process, and of no others. An error means that nothing has
+    /// changed.
     pub fn set_policy(
         &mut self,
         pid: Pid,
         range: PageRange,
         policy: Policy,
     ) -> Result<(), AllocError>
-        requires mapped { is_mapped self.old.areas pid range.first (range.end - range.first) ≡ true }
-
         // On success
         ensures ok { OnOk result
             (self.new

@@ -1,10 +1,10 @@
 use Rattle.std.proofs.Common.{◌≡◌}
-use Rattle.std.specs.Io.Buffered.{reader_remaining}
+use Rattle.numatrace_session.specs.Input.{left_in}
 use Rattle.numatrace_session.specs.Replies.{RepliesToLines}
 use Rattle.numatrace_session.proofs.reply_to_lines.Given as goal
 
 abbrev pub invariant-loop : goal.invariant-loop
 invariant-loop g l = record {
-  replied : RepliesToLines l.fn.session l.session (reader_remaining g.R.Read.remaining l.fn.input) (reader_remaining g.R.Read.remaining l.input) (g.W.Write.contents l.fn.out) (g.W.Write.contents l.out);
+  replied : RepliesToLines l.fn.session l.session (left_in g.R.Read.remaining l.fn.input) (left_in g.R.Read.remaining l.input) (g.W.Write.contents l.fn.out) (g.W.Write.contents l.out);
   told : g.W.TellingWriter.has_failed l.out ≡ g.W.TellingWriter.has_failed l.fn.out;
 }

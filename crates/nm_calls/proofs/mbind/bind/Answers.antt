@@ -32,7 +32,7 @@ returns-in_err-way-clause-bound g c = none_bound c.from_residual-in_err-way.resu
 
 pub make-requires-clause-can_go : goal.make-requires-clause-can_go
 make-requires-clause-can_go g c κs within =
-    subst (λ (t : State). CanGo (node_count t.layout) c.in_ok-way.way) (sym c.in_ok-set_policy.ensures.ok) c.in_ok-way.ensures.can_go
+    subst (λ (t : State). CanGo (node_count t.layout) c.in_ok-way.way) (sym c.in_ok-set_range_policy.ensures.ok) c.in_ok-way.ensures.can_go
 
 pub returns-in-Err-clause-asked : goal.returns-in-Err-clause-asked
 returns-in-Err-clause-asked g c = λ runs policy_set is.
@@ -40,9 +40,9 @@ returns-in-Err-clause-asked g c = λ runs policy_set is.
     let b = c.args.binding.now in
     let limit = c.args.limit in
     let way = c.in_ok-way.way in
-    let made : 0 < length (runs_in limit c.set_policy.new.self way) = stops_some true c.in-Err.error _ _ _ c.in-Err.ensures in
+    let made : 0 < length (runs_in limit c.set_range_policy.new.self way) = stops_some true c.in-Err.error _ _ _ c.in-Err.ensures in
     let m = with_policy (areas_of s) b.pid (4096 * b.first) (4096 * (b.end - b.first)) b.policy in
-    let by = ap (λ (t : State). length (runs_in limit t way)) c.in_ok-set_policy.ensures.ok
+    let by = ap (λ (t : State). length (runs_in limit t way)) c.in_ok-set_range_policy.ensures.ok
     ∙ ap length (c.in_ok-way.ensures.runs limit m) in
     let some = runs_some limit (with_areas_of s m) b.policy c.args.asked.home b.pid c.moves_all-all.result c.as_slice.result.now (subst (λ n. 0 < n) by made) in
     inl (listed_moves s b c.args.asked.flags (subst (λ ps. 0 < length ps) (c.as_slice.ensures.value ∙ c.in_ok-pages.ensures.list) some))
@@ -60,7 +60,7 @@ returns-in-Err-clause-bound g c =
     ∙ ap (λ h. runs_by limit set b.policy h b.pid c.moves_all-all.result c.as_slice.result.now) c.requires.home
     ∙ ap (λ all. runs_by limit set b.policy home b.pid all c.as_slice.result.now) (flag_is _ _ c.moves_all-all.ensures)
     ∙ ap (runs_by limit set b.policy home b.pid (moves_all flags)) (c.as_slice.ensures.value ∙ c.in_ok-pages.ensures.list) in
-    let stopped = subst (λ (t : State). Stops true c.in-Err.error t c.make.new.machine (runs_in limit t way)) c.in_ok-set_policy.ensures.ok c.in-Err.ensures in
+    let stopped = subst (λ (t : State). Stops true c.in-Err.error t c.make.new.machine (runs_in limit t way)) c.in_ok-set_range_policy.ensures.ok c.in-Err.ensures in
     stops_fail c.in-Err.error s set c.make.new.machine b (mbind_runs limit set b flags) flags (subst (λ (rs : List Stretch). Stops true c.in-Err.error set c.make.new.machine rs) runs stopped)
 
 pub returns-then-is_late-clause-bound : goal.returns-then-is_late-clause-bound
@@ -76,7 +76,7 @@ returns-then-is_late-clause-bound g c =
     ∙ ap (λ h. runs_by limit set b.policy h b.pid c.moves_all-all.result c.as_slice.result.now) c.requires.home
     ∙ ap (λ all. runs_by limit set b.policy home b.pid all c.as_slice.result.now) (flag_is _ _ c.moves_all-all.ensures)
     ∙ ap (runs_by limit set b.policy home b.pid (moves_all flags)) (c.as_slice.ensures.value ∙ c.in_ok-pages.ensures.list) in
-    let made = c.in_default.ensures ∙ ap (λ (t : State). (runs_from 0 t (runs_in limit t way) []).state) c.in_ok-set_policy.ensures.ok ∙ ap (λ (rs : List Stretch). (runs_from 0 set rs []).state) runs in
+    let made = c.in_default.ensures ∙ ap (λ (t : State). (runs_from 0 t (runs_in limit t way) []).state) c.in_ok-set_range_policy.ensures.ok ∙ ap (λ (rs : List Stretch). (runs_from 0 set rs []).state) runs in
     let end = (runs_from 0 set (mbind_runs limit set b flags) []).state in
     let late = sym (late_is s end b flags)
     ∙ ap (λ ps. is_strict flags && list_any (is_stray end b.policy) ps) (sym (c.as_slice-2.ensures.value ∙ c.in_ok-pages.ensures.list))
@@ -96,7 +96,7 @@ returns-clause-bound g c =
     ∙ ap (λ h. runs_by limit set b.policy h b.pid c.moves_all-all.result c.as_slice.result.now) c.requires.home
     ∙ ap (λ all. runs_by limit set b.policy home b.pid all c.as_slice.result.now) (flag_is _ _ c.moves_all-all.ensures)
     ∙ ap (runs_by limit set b.policy home b.pid (moves_all flags)) (c.as_slice.ensures.value ∙ c.in_ok-pages.ensures.list) in
-    let made = c.in_default.ensures ∙ ap (λ (t : State). (runs_from 0 t (runs_in limit t way) []).state) c.in_ok-set_policy.ensures.ok ∙ ap (λ (rs : List Stretch). (runs_from 0 set rs []).state) runs in
+    let made = c.in_default.ensures ∙ ap (λ (t : State). (runs_from 0 t (runs_in limit t way) []).state) c.in_ok-set_range_policy.ensures.ok ∙ ap (λ (rs : List Stretch). (runs_from 0 set rs []).state) runs in
     let end = (runs_from 0 set (mbind_runs limit set b flags) []).state in
     let late = sym (late_is s end b flags)
     ∙ ap (λ ps. is_strict flags && list_any (is_stray end b.policy) ps) (sym (c.as_slice-2.ensures.value ∙ c.in_ok-pages.ensures.list))
@@ -124,14 +124,14 @@ returns-then-is_late-clause-asked g c = λ runs policy_set is. absurd (cc is)
 pub returns-clause-asked : goal.returns-clause-asked
 returns-clause-asked g c = λ runs policy_set is. absurd (cc is)
 
-pub returns-in_err-set_policy-clause-bound : goal.returns-in_err-set_policy-clause-bound
-returns-in_err-set_policy-clause-bound g c =
+pub returns-in_err-set_range_policy-clause-bound : goal.returns-in_err-set_range_policy-clause-bound
+returns-in_err-set_range_policy-clause-bound g c =
     let s = c.args.machine.now in
     let b = c.args.binding.now in
     let flags = c.args.asked.flags in
     let set = set_policy s b.pid (4096 * b.first) (4096 * (b.end - b.first)) b.policy in
-    let r = c.from_residual-in_err-set_policy.result in
-    subst (λ (t : State). Binds r s set t b (mbind_runs c.args.limit set b flags) flags) (sym c.in_err-set_policy.ensures.err) (none_bound r s set b (mbind_runs c.args.limit set b flags) flags c.from_residual-in_err-set_policy.ensures.1)
+    let r = c.from_residual-in_err-set_range_policy.result in
+    subst (λ (t : State). Binds r s set t b (mbind_runs c.args.limit set b flags) flags) (sym c.in_err-set_range_policy.ensures.err) (none_bound r s set b (mbind_runs c.args.limit set b flags) flags c.from_residual-in_err-set_range_policy.ensures.1)
 
-pub returns-in_err-set_policy-clause-asked : goal.returns-in_err-set_policy-clause-asked
-returns-in_err-set_policy-clause-asked g c = λ runs policy_set is. inr c.in_err-set_policy.ensures.asked
+pub returns-in_err-set_range_policy-clause-asked : goal.returns-in_err-set_range_policy-clause-asked
+returns-in_err-set_range_policy-clause-asked g c = λ runs policy_set is. inr c.in_err-set_range_policy.ensures.asked

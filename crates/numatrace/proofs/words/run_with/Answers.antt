@@ -1,16 +1,23 @@
-use Rattle.std.proofs.Common.{[], refl}
-use Rattle.numatrace.proofs.Ended.{done, faulted}
+use Rattle.std.proofs.Common.{refl, Ok, Err}
+use Rattle.numatrace.proofs.Ended.{not_done}
 use Rattle.numatrace.proofs.words.run_with.Goals as goal
 
 pub returns-in-Err : goal.returns-in-Err
-returns-in-Err g c =
-    faulted g.R.Read.remaining g.R.TellingReader.has_failed g.R.TellingReader.gave g.W.Write.contents g.W.TellingWriter.has_failed
-    [] c.status_of.result c.args.reader.now c.run_trace.new.reader c.args.out.now c.run_trace.new.writer _ _
-    c.in-Err.fault c.status_of.ensures refl c.in-Err.ensures.silent c.in-Err.ensures.runs
-    c.in-Err.ensures.reads c.in-Err.ensures.writes
+returns-in-Err g c = record {
+  accepted = refl;
+  result = Err c.in-Err.fault;
+  ends = c.status_of.ensures;
+  runs = c.in-Err.ensures.runs;
+  writes = c.in-Err.ensures.writes;
+  quiet = λ zero. absurd (not_done c.in-Err.fault c.status_of.result c.status_of.ensures zero);
+}
 
 pub returns-in-Ok : goal.returns-in-Ok
-returns-in-Ok g c =
-    done g.R.Read.remaining g.R.TellingReader.has_failed g.R.TellingReader.gave g.W.Write.contents g.W.TellingWriter.has_failed
-    [] 0 c.args.reader.now c.run_trace.new.reader c.args.out.now c.run_trace.new.writer c.args.err.now
-    _ refl refl c.in-Ok.ensures.runs c.in-Ok.ensures.reads c.in-Ok.ensures.writes
+returns-in-Ok g c = record {
+  accepted = refl;
+  result = Ok _;
+  ends = refl;
+  runs = c.in-Ok.ensures.runs;
+  writes = c.in-Ok.ensures.writes;
+  quiet = λ zero. refl;
+}

@@ -31,7 +31,7 @@ returns-in_err-unmap-in-Unmap-clause-done g c =
 pub returns-in_err-unmap-in-Unmap-clause-asked : goal.returns-in_err-unmap-in-Unmap-clause-asked
 returns-in_err-unmap-in-Unmap-clause-asked g c = λ runs policy_set is.
     let lack = lack_of c.from_residual-in_err-unmap-in-Unmap.result c.in_err-unmap-in-Unmap.field-0.0 _ c.from_residual-in_err-unmap-in-Unmap.ensures is in
-    subst (λ k. MayAllocate c.args.self.now.state (call_of k)) (sym c.in-Unmap.is) (c.in_err-unmap-in-Unmap.ensures.asked runs policy_set (ap Err lack), c.in_err-unmap-in-Unmap.ensures.needed runs policy_set (ap Err lack))
+    subst (λ k. MayAllocate c.args.self.now.state (call_of k)) (sym c.in-Unmap.is) (c.in_err-unmap-in-Unmap.ensures.asked runs policy_set (ap Err lack))
 
 pub returns-in_ok-unmap-in-Unmap-clause-done : goal.returns-in_ok-unmap-in-Unmap-clause-done
 returns-in_ok-unmap-in-Unmap-clause-done g c = ap (λ k. outcome c.args.self.now (call_of k)) c.in-Unmap.is ∙ c.in_ok-unmap-in-Unmap.ensures.done
@@ -47,7 +47,7 @@ returns-in_err-exit-in-Exit-clause-done g c =
 pub returns-in_err-exit-in-Exit-clause-asked : goal.returns-in_err-exit-in-Exit-clause-asked
 returns-in_err-exit-in-Exit-clause-asked g c = λ runs policy_set is.
     let lack = lack_of c.from_residual-in_err-exit-in-Exit.result c.in_err-exit-in-Exit.field-0.0 _ c.from_residual-in_err-exit-in-Exit.ensures is in
-    subst (λ k. MayAllocate c.args.self.now.state (call_of k)) (sym c.in-Exit.is) (c.in_err-exit-in-Exit.ensures.asked runs policy_set (ap Err lack), c.in_err-exit-in-Exit.ensures.needed runs policy_set (ap Err lack))
+    subst (λ k. MayAllocate c.args.self.now.state (call_of k)) (sym c.in-Exit.is) (c.in_err-exit-in-Exit.ensures.asked runs policy_set (ap Err lack))
 
 pub returns-in_ok-exit-in-Exit-clause-done : goal.returns-in_ok-exit-in-Exit-clause-done
 returns-in_ok-exit-in-Exit-clause-done g c = ap (λ k. outcome c.args.self.now (call_of k)) c.in-Exit.is ∙ c.in_ok-exit-in-Exit.ensures.done
@@ -117,6 +117,11 @@ pub returns-in_err-move_pages-in-MovePages-clause-done : goal.returns-in_err-mov
 returns-in_err-move_pages-in-MovePages-clause-done g c =
     subst (λ k. Does (answer_of {A = g.row.A.Denot}) c.from_residual-in_err-move_pages-in-MovePages.result c.args.self.now c.move_pages.new.self (call_of k)) (sym c.in-MovePages.is)
     (error_does (answer_of {A = g.row.A.Denot}) c.args.self.now c.move_pages.new.self _ c.in_err-move_pages-in-MovePages.field-0.0 c.from_residual-in_err-move_pages-in-MovePages.result c.in_err-move_pages-in-MovePages.ensures.done c.from_residual-in_err-move_pages-in-MovePages.ensures)
+
+pub returns-in_err-move_pages-in-MovePages-clause-asked : goal.returns-in_err-move_pages-in-MovePages-clause-asked
+returns-in_err-move_pages-in-MovePages-clause-asked g c = λ runs policy_set is.
+    let lack = lack_of c.from_residual-in_err-move_pages-in-MovePages.result c.in_err-move_pages-in-MovePages.field-0.0 _ c.from_residual-in_err-move_pages-in-MovePages.ensures is in
+    subst (λ k. MayAllocate c.args.self.now.state (call_of k)) (sym c.in-MovePages.is) (c.in_err-move_pages-in-MovePages.ensures.asked runs policy_set (ap Err lack))
 
 pub returns-in_ok-move_pages-in-MovePages-clause-done : goal.returns-in_ok-move_pages-in-MovePages-clause-done
 returns-in_ok-move_pages-in-MovePages-clause-done g c = ap (λ k. outcome c.args.self.now (call_of k)) c.in-MovePages.is ∙ c.in_ok-move_pages-in-MovePages.ensures.done

@@ -1,4 +1,5 @@
 use Rattle.std.proofs.Common.{◌<◌, ◌+◌, List, length, map, ap, sym, subst, ◌∙◌}
+use Rattle.std.proofs.lemmas.List.{length-map}
 use Rattle.std.specs.Prelude.{OnErr}
 use Rattle.nm_types.specs.Layout.{node_count}
 use Rattle.nm_model.specs.definitions.Cut.{Stretch, cut_within, requests_of}
@@ -67,4 +68,5 @@ returns-clause-done g c =
 pub returns-clause-asked : goal.returns-clause-asked
 returns-clause-asked g c = λ runs policy_set is.
     let x = c.args.request.now in
-    subst (λ r. OnErr r (0 < length x.batch.pages.items + length x.during.items)) is c.move_batch.ensures.asked
+    let some : 0 < length x.batch.pages.items + length x.during.items = subst (λ r. OnErr r (0 < length x.batch.pages.items + length x.during.items)) is c.move_batch.ensures.asked in
+    subst (λ n. 0 < length x.batch.pages.items + n) (sym (length-map x.during.items _)) some
