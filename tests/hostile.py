@@ -260,7 +260,7 @@ def check_refused(words):
 
 def check_told(_):
     """What the program says about itself goes to standard error, as clap prints it. An argument that is not UTF-8 has its own line."""
-    if play(FIRST.encode(), ["--version"]) != (2, b"", b"numatrace 1.0.0\n"):
+    if play(FIRST.encode(), ["--version"]) != (2, b"", b"numatrace 1.1.0\n"):
         raise Fault("--version prints something else")
     err = play(FIRST.encode(), ["--help"])[2]
     if not err.startswith(b"Plays a trace of page migration calls") or not err.endswith(b"what they answer.\n"):

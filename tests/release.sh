@@ -137,6 +137,24 @@ dpkg_there -r numatrace
 left=$(find "$root" -path "$root/var" -prune -o -name '*numatrace*' -print)
 [ -z "$left" ] || fail "the removal of the package leaves $left"
 
+# The wheel is what pip takes, and has the command.
+if python3 -m pip --version > "$there/out" 2>&1; then
+    python3 -m pip install --quiet --disable-pip-version-check --root-user-action ignore --no-index --target "$there/python" \
+        "dist/numalab-$version-py3-none-any.whl" || fail "pip does not install the wheel"
+    ./numalab write examples/three_pages.nt > "$there/written"
+    (cd "$there" && PYTHONPATH=$there/python python3 -m numalab write "${trace%.json}.nt") | cmp - "$there/written" ||
+        fail "numalab of the wheel writes a different trace"
+else
+    note "there is no pip, so the wheel is not installed"
+fi
+
+# lintian finds no error in the package.
+if command -v lintian > /dev/null; then
+    lintian --allow-root --fail-on error "$package" > "$there/out" 2>&1 || fail "lintian says: $(cat "$there/out")"
+else
+    note "there is no command lintian, so the package is not checked by it"
+fi
+
 # install from this clone, under a prefix that already has a folder: it removes what it made, and replaces nothing of others.
 prefix=$there/prefix
 mkdir -p "$prefix/bin"

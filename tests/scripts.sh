@@ -18,6 +18,9 @@ grep -qxF "const VERSION: &str = \"$version\";" crates/nm_words/src/words.rt || 
 for page in numatrace numatrace-session numalab; do
     grep -qi "^\.TH $page 1 [0-9-]* \"numatrace $version\" " "docs/$page.1" || fail "the version of docs/$page.1 is not $version"
 done
+for each in Cargo.toml Cargo.lock; do
+    grep -qxF "version = \"$version\"" "bindings/rust/$each" || fail "the version in bindings/rust/$each is not $version"
+done
 [ "$(sed -n 's/^## \([0-9][0-9.]*\).*/\1/p' CHANGELOG.md | head -n 1)" = "$version" ] || fail "the latest version in CHANGELOG.md is not $version"
 
 # ---- The script numatrace

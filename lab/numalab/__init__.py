@@ -3,4 +3,4 @@ from .machine import Machine, Refused
 from .session import Fault, Session
 
 __all__ = ["Fault", "Machine", "Refused", "Session"]
-__version__ = "1.0.0"
+__version__ = "1.1.0"

@@ -12,7 +12,7 @@ use std::alloc::Global;
 const WORKERS: usize = 4;
 
 /// What `--version` prints after the program's name.
-const VERSION: &str = "1.0.0";
+const VERSION: &str = "1.1.0";
 
 /// What `--help` prints before the options.
 const ABOUT: &str =
