@@ -231,6 +231,11 @@ echo 'Kernel panic - not syncing: a test' > "$console"
 """
 
 
+def heeds_interrupts():
+    """What a command in the foreground does; a shell starts those in its background so that they ignore SIGINT."""
+    signal.signal(signal.SIGINT, signal.SIG_DFL)
+
+
 class EarlyEnds(Case):
     """Guests that hang, whose kernels panic, or that tell nothing."""
 
@@ -311,7 +316,7 @@ class EarlyEnds(Case):
         environment = {**os.environ, "PATH": self.there + os.pathsep + os.environ["PATH"], "TMPDIR": temporary, "XDG_CACHE_HOME": self.there}
         words = [COMMAND, "hunt", "--kernel", kernel, "--seed", "5", "--count", "60", "--jobs", "2"]
         for sent, status in [(signal.SIGINT, 130), (signal.SIGTERM, 143)]:
-            with subprocess.Popen(words, env=environment, stdout=subprocess.PIPE, stderr=subprocess.PIPE) as ran:
+            with subprocess.Popen(words, env=environment, stdout=subprocess.PIPE, stderr=subprocess.PIPE, preexec_fn=heeds_interrupts) as ran:
                 while not os.path.exists(os.path.join(self.there, "pid")) or not self.read_pid():
                     time.sleep(0.01)
                 pid = self.read_pid()
