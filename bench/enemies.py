@@ -7,12 +7,13 @@ kinds; the default is all. With `--limit SECONDS` it plays each kind once, only 
 where one takes longer. `--trace KIND SIZE` writes a trace to standard output. `./build` makes the program. In what follows, N
 is the size."""
 import argparse
+import itertools
 import os
 import sys
 import tempfile
 
 import run
-from traces import BASE, PAGE, attach, bind, exit_step, map_step, migrate, move, numa_maps, read, share, spawn, trace, unmap, write
+from traces import BASE, PAGE, attach, bind, exit_step, map_step, migrate, move, move_to, numa_maps, read, share, spawn, trace, unmap, write
 
 HUGE = 2**33
 
@@ -160,6 +161,120 @@ def whole_pages_in_flight(size):
     return trace([4, 4], steps)
 
 
+def looked_at(size, touch, step, areas=1):
+    """A process has N thousand pages on node 0 of two, in one area or in as many as are told; then a step is made 50 times:"""
+    count = 1000 * size
+    steps = [map_step(BASE + PAGE * (count // areas) * area, count // areas) for area in range(areas)]
+    steps += [touch(BASE + PAGE * page) for page in range(count)]
+    return trace([count, count], steps + [step(count)] * 50)
+
+
+def strict_default(size):
+    """.. mbind with MPOL_MF_STRICT and MPOL_DEFAULT, which refuses no page."""
+    return looked_at(size, write, lambda count: mbind(BASE, count, [], 1, 0))
+
+
+def strict_bound(size):
+    """.. the same with MPOL_BIND to the node where the pages are."""
+    return looked_at(size, write, lambda count: mbind(BASE, count, [0], 1))
+
+
+def strict_zeros(size):
+    """.. the same over pages of zeros."""
+    return looked_at(size, read, lambda count: mbind(BASE, count, [0], 1))
+
+
+def strict_areas(size):
+    """.. the same over areas of one page."""
+    return looked_at(size, write, lambda count: mbind(BASE, count, [0], 1), areas=1000 * size)
+
+
+def followed_bind(size):
+    """.. its pages are bound to the node where they are, and would move to follow."""
+    return looked_at(size, write, lambda count: mbind(BASE, count, [0], 2))
+
+
+def told_empty_areas(size):
+    """.. numa_maps, of pages of zeros in areas of one page."""
+    return looked_at(size, read, lambda _: numa_maps(), areas=1000 * size)
+
+
+def pinned(size, step):
+    """A process has N thousand pages on node 0 of two, all of them pinned; then a step is made 50 times:"""
+    count = 1000 * size
+    steps = [map_step(BASE, count)] + written(count) + [pin(BASE + PAGE * page) for page in range(count)]
+    return trace([count, count], steps + [step(count)] * 50)
+
+
+def pinned_migrations(size):
+    """.. the pages are asked to migrate."""
+    return pinned(size, lambda _: migrate([0], [1]))
+
+
+def pinned_offline(size):
+    """.. the node is asked to go offline."""
+    return pinned(size, lambda _: offline(0))
+
+
+def pinned_bind(size):
+    """.. the pages are bound to the other node."""
+    return pinned(size, lambda count: mbind(BASE, count, [1], 2))
+
+
+def seen_by(pids, pages, touch=read):
+    """The steps by which processes see the pages of one segment, each at the same addresses; the first has written them."""
+    steps = [share(2**45, pages)] + [write(2**45 + PAGE * page) for page in range(pages)]
+    for pid in pids:
+        steps += [spawn(pid, [0, 1]), attach(2**45, 0, pages, pid)] + [touch(2**45 + PAGE * page, pid) for page in range(pages)]
+    return steps
+
+
+def shared_migrations(size):
+    """Two processes see N thousand pages: 50 times they are asked to migrate, by one that may not move what others see."""
+    count = 1000 * size
+    return trace([count, count], seen_by([2], count) + [migrate([0], [1])] * 50)
+
+
+def aliased_bind(size):
+    """A process sees 64 pages at N hundred addresses each, and binds all to the node where they are, 20 times."""
+    views = 100 * size
+    steps = seen_by([], 64) + [attach(BASE + PAGE * 64 * view, 0, 64, 1) for view in range(views)]
+    steps += [read(BASE + PAGE * page) for page in range(64 * views)]
+    return trace([64, 64], steps + [mbind(BASE, 64 * views, [0], 2)] * 20)
+
+
+def refused_runs_of_one(size):
+    """N thousand pages are asked 20 times to move to a node without room, in runs of one."""
+    count = 1000 * size
+    steps = [map_step(BASE, count + 1), write(BASE + PAGE * count)] + written(count)
+    addresses = [BASE + PAGE * page for page in range(count)]
+    return trace([1, count], steps + [move_to(addresses, 0)] * 20, '"version":2,"run_limit":1')
+
+
+def is_chosen(pid):
+    """Whether the fixed hash of a pid begins as that of every other chosen one."""
+    wide = (0x243F6A8885A308D3 ^ (pid | pid << 32)) * (0x9E3779B97F4A7C15 ^ 8)
+    mixed = wide & (2**64 - 1) ^ wide >> 64
+    return (mixed ^ mixed >> 32) & 0x0F0000FF == 0
+
+
+def crowd(size, pids):
+    """A thousand processes see one page, which moves 40 N times, first away and then back."""
+    steps = seen_by(pids, 1)
+    moves = [move([2**45], [node], 2**32 - 1, 1, 4) for node in (1, 0)]
+    return trace([1, 1], steps + [spawn(2**32 - 1, [0, 1], ',"privileged":true')] + moves * (20 * size))
+
+
+def chosen_pids(size):
+    """.. they have pids that a hash table without a seed of its own keeps in one place."""
+    return crowd(size, itertools.islice(filter(is_chosen, itertools.count(2)), 1000))
+
+
+def other_pids(size):
+    """.. they have pids that are as far apart."""
+    return crowd(size, range(2, 1024002, 1024))
+
+
 def large_machine(size):
     """N pages on a machine of 16,384 frames."""
     return trace([16384], [map_step(BASE, size)] + written(size))
@@ -169,7 +284,9 @@ def large_machine(size):
 KINDS = {
     huge_areas: 2, emptied_unmapped: 10, emptied_pagemaps: 10, emptied_areas: 10, windows_over: 1, pinned_last_area: 1,
     pinned_last_page: 1, told_pages: 1, told_nodes: 1, told_zeros: 1, refused_offline: 2, refused_bind: 2, staying_pages: 2,
-    range_with_hole: 1, empty_node: 1, whole_pages_in_flight: 1, large_machine: 10,
+    range_with_hole: 1, empty_node: 1, whole_pages_in_flight: 1, large_machine: 10, strict_default: 1, strict_bound: 1,
+    strict_zeros: 1, strict_areas: 1, followed_bind: 1, told_empty_areas: 1, pinned_migrations: 1, pinned_offline: 1, pinned_bind: 1,
+    shared_migrations: 1, aliased_bind: 1, refused_runs_of_one: 1, chosen_pids: 1, other_pids: 1,
 }
 
 

@@ -1,10 +1,9 @@
 //! The pages of a range that are not where its policy wants them.
 
-ghost use Rattle.std.specs.Prelude.{◌≡◌, ◌+◌, ◌-◌, ◌<◌, ◌≤◌, not, true, [], ◌∷◌, IfOk, IfSome, IfNone, OnErr, None, length};
+ghost use Rattle.std.specs.Prelude.{ℕ, false, ◌≡◌, ◌+◌, ◌-◌, ◌<◌, ◌≤◌, not, true, [], ◌∷◌, IfOk, IfSome, IfNone, OnErr, None, length};
 ghost use Rattle.std.specs.List.{IsAllAdjacentAnswer, filter, list_any};
 ghost use Rattle.std.specs.Ordering.{is_lt};
 ghost use Rattle.nm_model.specs.definitions.Order.{follows};
-ghost use Rattle.nm_model.specs.definitions.Seen.{located};
 ghost use Rattle.nm_types.specs.Map.{page_cmp, same_page};
 ghost use Rattle.nm_calls.specs.definitions.Mbind.{strays_between, stray_pages, is_stray};
 ghost use Rattle.nm_calls.specs.definitions.Migrate.{once};
@@ -12,7 +11,7 @@ ghost use Rattle.nm_calls.specs.definitions.Migrate.{once};
 use crate::mbind::Binding;
 use nm_engine::Machine;
 use nm_policy::follows;
-use nm_types::{Located, Pid, Policy, Sight, Vpn};
+use nm_types::{Located, Pid, Policy, Vpn};
 use std::alloc::{AllocError, Allocator};
 use std::collections::BTreeSet;
 
@@ -23,38 +22,15 @@ fn is_astray(policy: &Policy, page: &Located) -> bool
     !follows(*policy, page.node)
 }
 
-/// The page among what is seen at a page number, if it is not where a policy wants it.
-fn stray_at<A: Allocator + Copy + Send + Sync>(
-    machine: &Machine<A>,
-    policy: &Policy,
-    vpn: Vpn,
-    sight: Sight,
-) -> Option<Located>
-    ensures some { IfSome result
-        (λ e. filter (λ (page : Located). not (follows policy.now page.node))
-        (located machine.now.layout machine.now.place vpn sight)
-        ≡ e ∷ []) }
-    ensures vpn { IfSome result (λ e. e.vpn ≡ vpn) }
-    ensures none { IfNone result
-        (filter (λ (page : Located). not (follows policy.now page.node))
-        (located machine.now.layout machine.now.place vpn sight)
-        ≡ []) }
+/// Whether a policy can want pages elsewhere: MPOL_DEFAULT and MPOL_LOCAL leave them where they are.
+fn wants_nodes(policy: &Policy) -> bool
+    ensures { result ≡ false → (node : ℕ) → follows policy.now node ≡ true }
 {
-    let Sight::Sees(page) = sight else {
-        return None;
-    };
-    let frame = machine.spaces().areas().page_frame(page)?;
-    let node = machine.geometry().node_of(frame);
-    let found = Located {
-        vpn,
-        page,
-        frame,
-        node,
-    };
-    if is_astray(policy, &found) {
-        return Some(found);
+    match policy {
+        Policy::Default => false,
+        Policy::Local => false,
+        _ => true,
     }
-    None
 }
 
 /// The first page that a process sees from one page number up to another that is not where a policy wants it. Does not
@@ -72,12 +48,19 @@ pub(crate) fn stray_from<A: Allocator + Copy + Send + Sync>(
     ensures none { IfNone result (strays_between machine.now pid first end policy.now ≡ []) }
     ensures range { IfSome result (λ e. (first ≤ e.vpn) × (e.vpn < end)) }
 {
+    if !wants_nodes(policy) {
+        return None;
+    }
     let mut at = first.number();
-    while let Some((vpn, sight)) = machine.spaces().sight_from(pid, Vpn::new(at), end) {
-        at = vpn.number() + 1;
-        if let Some(found) = stray_at(machine, policy, vpn, sight) {
-            return Some(found);
+    let mut last = None;
+    while let Some(page) = machine
+        .spaces()
+        .page_from(machine.geometry(), pid, Vpn::new(at), end, &mut last)
+    {
+        if is_astray(policy, &page) {
+            return Some(page);
         }
+        at = page.vpn.number() + 1;
     }
     None
 }
@@ -148,6 +131,9 @@ pub(crate) fn astray<A: Allocator + Copy + Send + Sync>(
         end,
         policy,
     } = binding;
+    if !wants_nodes(&policy) {
+        return Ok(Vec::new(alloc));
+    }
     let found = machine
         .spaces()
         .pages_between(alloc, machine.geometry(), pid, first, end)?;

@@ -27,6 +27,8 @@ type Tasks<A> = IndexMap<Pid, process::Task<A>, BuildHasherDefault<FoldHasher>, 
 #[derive(Drop)]
 pub(crate) struct ProcessTable<A: Allocator + Copy> {
     tasks: Tasks<A>,
+    /// The place after that of the process whose entry was replaced last.
+    next: usize,
     alloc: A,
 }
 
@@ -48,6 +50,7 @@ impl<A: Allocator + Copy> ProcessTable<A> {
     {
         ProcessTable {
             tasks: IndexMap::new(alloc),
+            next: 0,
             alloc,
         }
     }
@@ -64,14 +67,14 @@ impl<A: Allocator + Copy> ProcessTable<A> {
     pub(crate) fn info(&self, pid: Pid) -> Option<ProcessInfo>
         ensures { result ≡ option_map task_info (get nat_cmp self.now pid) }
     {
-        task_of(&self.tasks, pid).map(|task| task.info)
+        task_of(&self.tasks, self.next, pid).map(|task| task.info)
     }
 
     /// The entry of a process at a page number. None if it is absent, or there is no such process.
     pub(crate) fn entry(&self, pid: Pid, vpn: Vpn) -> Option<Entry>
         ensures { result ≡ entry_at self.now pid vpn }
     {
-        task_of(&self.tasks, pid)?.table.get(vpn)
+        task_of(&self.tasks, self.next, pid)?.table.get(vpn)
     }
 
     /// All entries of a process, in order of page number. None if there is no such process.
@@ -82,7 +85,7 @@ impl<A: Allocator + Copy> ProcessTable<A> {
         ensures memory { OnErr result (IsSome (get nat_cmp self.now pid)) }
         ensures asked { OnErr result (0 < length (entries_in self.now pid)) }
     {
-        match task_of(&self.tasks, pid) {
+        match task_of(&self.tasks, self.next, pid) {
             Some(task) => Ok(Some(task.table.entries()?)),
             None => Ok(None),
         }
@@ -95,7 +98,7 @@ impl<A: Allocator + Copy> ProcessTable<A> {
             (λ e. (v : ℕ) → at ≤ v → v < e.0 → entry_at self.now pid v ≡ None) }
         ensures none { IfNone result ((v : ℕ) → at ≤ v → entry_at self.now pid v ≡ None) }
     {
-        task_of(&self.tasks, pid)?.table.first_from(at)
+        task_of(&self.tasks, self.next, pid)?.table.first_from(at)
     }
 
     /// The entries of a process from one page number up to another, in order. Empty if there is no such process.
@@ -110,7 +113,7 @@ impl<A: Allocator + Copy> ProcessTable<A> {
         ensures asked { OnErr result (0 < length (between first end (entries_in self.now pid))) }
     {
         let mut entries = Vec::new(self.alloc);
-        let Some(task) = task_of(&self.tasks, pid) else {
+        let Some(task) = task_of(&self.tasks, self.next, pid) else {
             return Ok(entries);
         };
         task.table.list_between(first, end, &mut entries)?;
@@ -161,9 +164,10 @@ impl<A: Allocator + Copy> ProcessTable<A> {
         requires { IsThere self.old (pid, vpn) }
         ensures { self.new ≡ replaced self.old entry (pid, vpn) }
     {
-        let Some(place) = place_of(&self.tasks, pid) else {
+        let Some(place) = place_of(&self.tasks, self.next, pid) else {
             unreachable!()
         };
+        self.next = place.wrapping_add(1);
         let (_, task) = self.tasks.pair_mut(place);
         task.table.replace(vpn, entry);
     }
@@ -191,17 +195,22 @@ impl<A: Allocator + Copy> ProcessTable<A> {
 }
 
 /// The process with this pid, if there is one.
-fn task_of<A: Allocator + Copy>(tasks: &Tasks<A>, pid: Pid) -> Option<&process::Task<A>>
+fn task_of<A: Allocator + Copy>(
+    tasks: &Tasks<A>,
+    next: usize,
+    pid: Pid,
+) -> Option<&process::Task<A>>
     ensures { option_copied result ≡ lookup (nat_eq pid) tasks.now.entries }
 {
-    let place = place_of(tasks, pid)?;
+    let place = place_of(tasks, next, pid)?;
     Some(&tasks[place])
 }
 
 /// Where the process with this pid stands among the others, if there is one. Mostly pids are given one after another,
 /// and processes stand in the order in which they came: so this looks there first, then one place further, where it
-/// stands if one other came out of turn, and only then hashes the pid.
-fn place_of<A: Allocator + Copy>(tasks: &Tasks<A>, pid: Pid) -> Option<usize>
+/// stands if one other came out of turn. Whoever goes through the processes that see a page mostly asks for one after
+/// another: so this looks at the next one as well, and only then hashes the pid.
+fn place_of<A: Allocator + Copy>(tasks: &Tasks<A>, next: usize, pid: Pid) -> Option<usize>
     ensures within { IfSome result (λ i. i < length tasks.now.entries) }
     ensures key { IfSome result (λ i. slice_get (keys_of tasks.now.entries) i ≡ Some pid) }
     ensures value { IfSome result
@@ -215,6 +224,9 @@ fn place_of<A: Allocator + Copy>(tasks: &Tasks<A>, pid: Pid) -> Option<usize>
     }
     if stands_at(tasks, near + 1, pid) {
         return Some(near + 1);
+    }
+    if stands_at(tasks, next, pid) {
+        return Some(next);
     }
     tasks.get_index_of(&pid)
 }

@@ -1,5 +1,5 @@
 -- Pages that are not where a policy wants them, each once.
-use Rattle.std.proofs.Common.{◌≡◌, ◌≤◌, length, arith, Bool, true, false, not, ◌||◌, cond, List, [], ◌∷◌, ◌++◌, refl, sym, ap, ◌∙◌, append_assoc}
+use Rattle.std.proofs.Common.{ℕ, ◌≡◌, ◌≤◌, length, arith, Bool, true, false, not, ◌||◌, cond, List, [], ◌∷◌, ◌++◌, refl, sym, ap, ◌∙◌, append_assoc}
 use Rattle.std.specs.Prelude.{Result, Ok, Err, IfOk}
 use Rattle.std.specs.List.{filter, list_any}
 use Rattle.std.specs.BTreeMap.{is_at}
@@ -10,6 +10,8 @@ use Rattle.std.proofs.lemmas.List.Elements.{filter-append}
 use Rattle.nm_types.specs.declared.page.Page.{Page}
 use Rattle.nm_types.specs.Map.{page_cmp, same_page}
 use Rattle.nm_types.specs.declared.located.Located.{Located}
+use Rattle.nm_types.specs.declared.area.Policy.{Policy}
+use Rattle.nm_model.specs.definitions.Order.{follows}
 use Rattle.nm_calls.specs.definitions.Migrate.{once}
 
 -- pages without repetition
@@ -100,3 +102,12 @@ few_pass test [] = omega arith
 few_pass test (p ∷ pages) =
     let rest = few_pass test pages in
     elim (test p) as (λ b. length (cond b (p ∷ filter test pages) (filter test pages)) ≤ length (p ∷ pages)) [ true ↦ omega (arith, rest) | false ↦ omega (arith, rest) ]
+
+-- none passes a test that all fail
+none_passes : (test : Located → Bool) (pages : List Located) → ((page : Located) → test page ≡ false) → filter test pages ≡ []
+none_passes test [] h = refl
+none_passes test (p ∷ pages) h = ap (λ b. cond b (p ∷ filter test pages) (filter test pages)) (h p) ∙ none_passes test pages h
+
+-- no page strays from a policy that all nodes follow
+pub none_strays : (policy : Policy) (pages : List Located) → ((node : ℕ) → follows policy node ≡ true) → filter (λ l. not (follows policy l.node)) pages ≡ []
+none_strays policy pages h = none_passes (λ l. not (follows policy l.node)) pages (λ page. ap not (h page.node))

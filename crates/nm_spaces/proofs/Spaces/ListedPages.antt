@@ -28,7 +28,7 @@ use Rattle.nm_model.specs.definitions.PageTables.{Task, entry_at}
 use Rattle.nm_spaces.specs.views.ProcessTable.{entries_in, names}
 use Rattle.nm_model.specs.definitions.Seen.{between, sights}
 use Rattle.nm_spaces.specs.definitions.Tied.{IsTied}
-use Rattle.nm_spaces.proofs.Spaces.Walks.{found_in, sorted_of, range_shown, few_between}
+use Rattle.nm_spaces.proofs.Spaces.Walks.{found_in, sorted_of, range_shown, few_between, next_sight, no_sight}
 
 -- the pages behind entries of a process
 abbrev pub pages_in : Layout → Map Page ℕ → Map (ℕ × ℕ) Area → ℕ → Map ℕ Entry → List Located
@@ -140,6 +140,20 @@ module _ (y : AddressSpacesView) (tasks : Map ℕ Task) (m : Mapped) (r : Mapper
     located_behind g =
         let s = page_behind in
         ap (in_frame g v (page_here y.areas pid v)) (ap (λ o. get page_cmp y.place (unwrap_or o (record { segment = 0; index = 0 }))) s.1 ∙ s.2)
+
+  -- the pages of a range begin with what stands behind its first entry
+  pub next_located : (g : Layout) (first end v : ℕ) (e : Entry) (pages : List Located) → first ≤ v → v < end → entry_at tasks pid v ≡ Some e → ((w : ℕ) → first ≤ w → w < v → entry_at tasks pid w ≡ None)
+      → located g y.place v (sight_of y.areas pid v e) ≡ pages
+      → located_in g y.place (between first end (sights y.processes pid)) ≡ pages ++ located_in g y.place (between (v + 1) end (sights y.processes pid))
+  next_located g first end v e pages low high there none here =
+      let rest = between (v + 1) end (sights y.processes pid) in
+      ap (located_in g y.place) (next_sight y tasks m r pid is h first end v e (sight_of m.areas pid v e) low high there none refl)
+      ∙ flat_map-cons (λ (x : ℕ × Sight). located g y.place x.0 x.1) (v, sight_of m.areas pid v e) rest
+      ∙ ap (λ xs. xs ++ located_in g y.place rest) (ap (λ (z : AddressSpacesView). located g y.place v (sight_of z.areas pid v e)) is ∙ here)
+
+  -- no page is in a range without entries
+  pub none_located : (g : Layout) (first end : ℕ) → ((w : ℕ) → first ≤ w → w < end → entry_at tasks pid w ≡ None) → located_in g y.place (between first end (sights y.processes pid)) ≡ []
+  none_located g first end none = ap (located_in g y.place) (no_sight y tasks m r pid is h first end none)
 
   -- there are no more pages than page numbers
   pub few_listed : (g : Layout) (first end : ℕ) (es : Map ℕ Entry) → es ≡ between first end (entries_in tasks pid) → length (pages_in g y.place y.areas pid es) ≤ end - first

@@ -76,6 +76,46 @@ impl<A: Allocator + Copy> AddressSpaces<A> {
         Ok(pages)
     }
 
+    /// The first page that a process sees from one page number up to another, with its frame and node. `last` is the area found
+    /// last: whoever goes from page to page hands it on, and each area is looked up once. Does not allocate.
+    pub fn page_from(
+        &self,
+        geometry: &Geometry<A>,
+        pid: Pid,
+        first: Vpn,
+        end: Vpn,
+        last: &mut Option<(Vpn, Area)>,
+    ) -> Option<Located>
+        requires frames { self.now.frames ≡ frame_count geometry.now }
+        requires last { IfSome last.old (IsOver self.now.areas pid) }
+
+        // If there is one
+        ensures some { IfSome result
+            (λ e. located_in geometry.now self.now.place (between first end (sights self.now.processes pid))
+            ≡ e ∷ located_in geometry.now self.now.place (between (e.vpn + 1) end (sights self.now.processes pid))) }
+        ensures range { IfSome result (λ e. (first ≤ e.vpn) × (e.vpn < end)) }
+
+        // If there is none
+        ensures none { IfNone result
+            (located_in geometry.now self.now.place (between first end (sights self.now.processes pid)) ≡ []) }
+
+        // The area found last
+        ensures last { IfSome last.new (IsOver self.now.areas pid) }
+    {
+        let parts = &*self.parts;
+        let mut at = first.number();
+        while let Some((vpn, entry)) = parts.tasks.first_from(pid, Vpn::new(at)) {
+            if vpn.number() >= end.number() {
+                return None;
+            }
+            if let Some(frame) = frame_named(&entry) {
+                return Some(self.seen_in(geometry, pid, vpn, frame, last));
+            }
+            at = vpn.number() + 1;
+        }
+        None
+    }
+
     /// The page that a process sees in a frame at a page number, with its node. `last` is the area found last: from one
     /// page to the next it becomes the area over the page number.
     fn seen_in(

@@ -2,9 +2,10 @@ use Rattle.std.proofs.Common.{length, ap, sym, ◌∙◌, arith}
 use Rattle.std.specs.Prelude.{not}
 use Rattle.std.specs.List.{filter}
 use Rattle.nm_model.specs.definitions.Order.{follows}
+use Rattle.nm_model.specs.definitions.Seen.{located_between}
 use Rattle.nm_types.specs.declared.located.Located.{Located}
 use Rattle.nm_calls.proofs.Looks.{located_is}
-use Rattle.nm_calls.proofs.Policies.StrayPages.{pages_once, if_listed, few_pass}
+use Rattle.nm_calls.proofs.Policies.StrayPages.{pages_once, if_listed, few_pass, none_strays}
 use Rattle.nm_calls.proofs.stray_pages.astray.Goals as goal
 
 pub returns-then-are_ascending-clause-list : goal.returns-then-are_ascending-clause-list
@@ -36,3 +37,9 @@ returns-clause-few g c =
     let strays = ap length (c.as_slice-3.ensures.value ∙ c.in_ok-strays.ensures) in
     let found = ap length c.as_slice.ensures.value in
     if_listed c.once.result (λ pages few. omega (arith, few, strays, found, few_pass test c.as_slice.result.now, c.in_ok-found.ensures.few)) c.once.ensures.few
+
+pub returns-then-not-wants_nodes-clause-list : goal.returns-then-not-wants_nodes-clause-list
+returns-then-not-wants_nodes-clause-list g c =
+    let b = c.args.binding in
+    let none = none_strays b.policy (located_between c.args.machine.now b.pid b.first b.end) (c.wants_nodes.ensures c.if-not-wants_nodes.true) in
+    c.new.ensures.items ∙ sym (ap pages_once none)
