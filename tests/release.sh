@@ -141,7 +141,7 @@ left=$(find "$root" -path "$root/var" -prune -o -name '*numatrace*' -print)
 if python3 -m pip --version > "$there/out" 2>&1; then
     python3 -m pip install --quiet --disable-pip-version-check --root-user-action ignore --no-index --target "$there/python" \
         "dist/numalab-$version-py3-none-any.whl" || fail "pip does not install the wheel"
-    ./numalab write examples/three_pages.nt > "$there/written"
+    ./numalab write "${trace%.json}.nt" > "$there/written"
     (cd "$there" && PYTHONPATH=$there/python python3 -m numalab write "${trace%.json}.nt") | cmp - "$there/written" ||
         fail "numalab of the wheel writes a different trace"
 else
