@@ -1,13 +1,14 @@
-"""What Linux 6.1 and 6.12 are expected to answer: the plain model with the rules of the differences in place.
+"""What a series of Linux is expected to answer: the plain model with the rules of the differences in place that hold of it.
 
 Each rule that decides differently from the model's names its row of differences.json (`fire`). Nothing here is proved, and nothing
-is claimed of other kernels. Reports have nodes in place of frames. What the rules do not determine is chosen, once for each way that
+is claimed of kernels that were not asked. Reports have nodes in place of frames. What the rules do not determine is chosen, once for each way that
 it can go (`choose`): worlds.py follows all of them."""
 from collections import namedtuple
 from math import gcd
 
 from .. import model
 from ..model import DEFAULT, END, MOST_ENTRIES, MOVE, MOVE_ALL, PAGE, STRICT, ZERO, Policy, Refused, policy_text
+from .differences import holding
 from .vmas import Vmas
 
 WINDOW, TABLE = 16, 512  # how many pages are mapped around one that is read, at most to the end of a page table
@@ -18,17 +19,9 @@ MODE_FLAGS = {1 << 15: "static", 1 << 14: "relative"}
 TURNS = ("interleave", "weighted-interleave")
 # Whether a privileged process has CAP_SYS_NICE and CAP_SYS_PTRACE, or only the first.
 BOTH, NICE = "both", "nice"
-# The rules of 6.12 hold from here on: of the kernels in between none was asked.
-NEWER = (6, 12)
 
 # What a step answers: its lines, and the rows whose rules decided.
 Given = namedtuple("Given", "lines rows")
-
-
-def numbers_of(version):
-    """A version such as 6.12 as two numbers."""
-    first, second = version.split(".")[:2]
-    return int(first), int(second)
 
 
 class Killed(Exception):
@@ -86,7 +79,7 @@ class Kernel(model.Machine):
     def __init__(self, top, version, privilege=BOTH):
         super().__init__(top)
         self.limit = MOST_ENTRIES  # a kernel knows nothing of a trace's limit on runs
-        self.version, self.privilege = numbers_of(version), privilege
+        self.rows, self.privilege = holding(version), privilege
         self.owner, self.free = list(self.nodes), [Room(node) for node in self.nodes]
         self.vmas, self.configured, self.shared_policies = {}, {}, {}
         self.pinners = {}  # of each page the processes that pinned it, the last at the end
@@ -208,7 +201,7 @@ class Kernel(model.Machine):
 
     def spawn(self, step):
         answer = super().spawn(step)
-        self.vmas[step["pid"]], self.configured[step["pid"]] = Vmas(self.version), frozenset(step["allowed"])
+        self.vmas[step["pid"]], self.configured[step["pid"]] = Vmas(self.rows), frozenset(step["allowed"])
         return answer
 
     def map(self, step):
@@ -400,7 +393,7 @@ class Kernel(model.Machine):
     def status_of_absent(self, process, number):
         """The status of a page that nobody has touched."""
         private = not self.segments[process.area(number).segment].shared
-        return -14 if private and self.version < NEWER else -2
+        return -14 if private and "move-private-untouched" in self.rows else -2
 
     def query(self, step):
         answer = super().query(step)
@@ -452,7 +445,7 @@ class Kernel(model.Machine):
     def listed_again(self, process, queued, everyone, first, end, strict=False):
         """How often a kernel meets a page that it has already isolated. In 6.12 each counts as one that stays, in 6.1 only where
         MPOL_MF_STRICT asks for that."""
-        if not everyone or self.version < NEWER and not strict:
+        if not everyone or not strict and "migrate-all-page-at-two-addresses" not in self.rows:
             return 0
         queued = set(queued)
         again = sum(page in queued for number, page in process.seen.items() if first <= number < end and page != ZERO) - len(queued)
@@ -465,7 +458,7 @@ class Kernel(model.Machine):
     def refuse_mbind(self, process, step):
         """The refusals that come before mode and nodes are looked at; returns the range, or None where there is nothing to do."""
         flags, (mode, of_mode) = step["flags"], self.mode_asked(step)
-        last = PREFERRED_MANY if self.version < NEWER else WEIGHTED
+        last = WEIGHTED if "mbind-weighted" in self.rows else PREFERRED_MANY
         if mode > last or len(of_mode) > 1 or flags > STRICT | MOVE | MOVE_ALL:
             raise Refused("EINVAL")
         if flags & MOVE_ALL and not process.privileged:
@@ -611,12 +604,12 @@ class Kernel(model.Machine):
             shown = [area.number_of(page) for area in process.areas]
             number = next(one for one in shown if one is not None and self.vmas[pid].over(one).end > span[0])
             turn = page[1]
-        return self.object_policy(process, number) if self.version < NEWER else policy, turn
+        return policy if "mbind-interleave-shared" in self.rows else self.object_policy(process, number), turn
 
     def first_turn(self, pid, span, policy, listed):
         """From where 6.12 counts the turns of the pages that it moves."""
         page, number = next(iter(listed.items()))
-        if self.version < NEWER or kind_of(policy) != "interleave" or not self.segments[page[0]].shared:
+        if "mbind-interleave-shared" not in self.rows or kind_of(policy) != "interleave" or not self.segments[page[0]].shared:
             return 0
         self.fire("mbind-interleave-shared")
         rest = self.left_over(page[0], len(policy.nodes))
