@@ -65,8 +65,8 @@ class Series(Case):
     ROW = {"id": "r", "table": "t", "situation": "s", "model": "m", "reason": "why", "kernels": {"6.1": "a", "6.12": "b"}, "until": "6.12"}
 
     def test_a_series_that_was_not_asked_goes_by_the_one_before_it(self):
-        for version, series in [("6.1", "6.1"), ("6.6", "6.1"), ("5.10", "6.1"), ("6.12", "6.12"), ("6.15", "6.12"), ("6.120", "6.19"), ("6.18", "6.18"),
-                                ("9.0", differences.ASKED[-1])]:
+        for version, series in [("6.1", "6.1"), ("6.6", "6.1"), ("5.10", "6.1"), ("6.12", "6.12"), ("6.15", "6.12"), ("6.17", "6.16"), ("6.120", "6.18"), ("6.18", "6.18"),
+                                ("9.0", "7.3")]:
             self.assertEqual(differences.asked_for(version), series)
 
     def test_from_and_until(self):
