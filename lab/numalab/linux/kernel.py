@@ -43,6 +43,19 @@ def folded(asked, usable):
     return {usable[node % len(usable)] for node in asked} if usable else set()
 
 
+def rebound(policy, before, now):
+    """A policy where the nodes that a process may use change (mpol_rebind_nodemask)."""
+    if kind_of(policy) not in ("bind", "interleave"):
+        return policy
+    if policy.kind.endswith("=static"):
+        nodes = set(policy.asked) & set(now)
+    elif policy.kind.endswith("=relative"):
+        nodes = folded(policy.asked, now)
+    else:
+        nodes = {now[before.index(node) % len(now)] if node in before else node for node in policy.nodes}
+    return policy._replace(nodes=tuple(sorted(nodes & set(now))) or tuple(now))
+
+
 class Room:
     """The frames of a node, which has plenty, or where the player has filled it those that pages leave within the step, if they are
     found. A frame is its node."""
@@ -82,6 +95,7 @@ class Kernel(model.Machine):
         self.rows, self.privilege = holding(version), privilege
         self.owner, self.free = list(self.nodes), [Room(node) for node in self.nodes]
         self.vmas, self.configured, self.shared_policies = {}, {}, {}
+        self.lately_set = {}  # of each process the ranges that have got a policy since it was last said which nodes it may use
         self.pinners = {}  # of each page the processes that pinned it, the last at the end
         self.hidden = set()  # pages of shared segments that no area shows
         self.inodes = {}  # of each segment what is left over where the number of its inode is divided by some numbers
@@ -104,6 +118,7 @@ class Kernel(model.Machine):
         other.bytes = {page: bytearray(data) for page, data in self.bytes.items()}
         other.vmas = {pid: vmas.copied() for pid, vmas in self.vmas.items()}
         other.configured = dict(self.configured)
+        other.lately_set = {pid: list(spans) for pid, spans in self.lately_set.items()}
         other.pinners = {page: list(pids) for page, pids in self.pinners.items()}
         other.shared_policies = {segment: dict(policies) for segment, policies in self.shared_policies.items()}
         other.inodes = {segment: dict(known) for segment, known in self.inodes.items()}
@@ -577,6 +592,7 @@ class Kernel(model.Machine):
         process.areas = [part for area in process.areas for part in area.part(0, first)
                          + [inside._replace(policy=policy) for inside in area.part(first, end)] + area.part(end, END)]
         changed, merged, same = self.vmas[pid].set_policy(first, end, policy)
+        self.lately_set.setdefault(pid, []).extend((vma.first, vma.end) for vma in changed)
         if merged:
             self.fire("areas-default-merges" if policy.kind == "default" else "areas-policy-merges")
         if same:
@@ -667,22 +683,25 @@ class Kernel(model.Machine):
             if not self.configured[pid] & self.online:
                 self.fire("offline-cpuset")
 
-            def change(policy, before=before, now=now):
-                if kind_of(policy) not in ("bind", "interleave"):
-                    return policy
-                if policy.kind.endswith("=static"):
-                    nodes = set(policy.asked) & set(now)
-                elif policy.kind.endswith("=relative"):
-                    nodes = folded(policy.asked, now)
-                else:
-                    nodes = {now[before.index(node) % len(now)] if node in before else node for node in policy.nodes}
-                return policy._replace(nodes=tuple(sorted(nodes & set(now))) or tuple(now))
-
-            if any(change(area.policy) != area.policy for area in process.areas):
-                self.fire("offline-bound")
-            process.areas = [area._replace(policy=change(area.policy)) for area in process.areas]
-            self.vmas[pid].rebind(change)
+            self.rebind_areas(pid, process, before, now)
             self.follow_cpuset(process, pid, before, now)
+
+    def rebind_areas(self, pid, process, before, now):
+        """Rebinds the policies of areas to the nodes that a process may use now. From 6.16 on it is to all that it might use, and so only
+        those change that were set after nodes had gone."""
+        later, spans = self.rows["offline-bound"] == "6.16", self.lately_set.pop(pid, [])
+        usable = sorted(self.configured[pid]) if later else now
+
+        def change(area):
+            if later and not any(first <= area.first < end for first, end in spans):
+                return area
+            return area._replace(policy=rebound(area.policy, before, usable))
+
+        areas = [change(area) for area in process.areas]
+        if areas != process.areas:
+            self.fire("offline-bound")
+        process.areas = areas
+        self.vmas[pid].rebind(change)
 
     def follow_cpuset(self, process, pid, before, now):
         """Moves the pages of a process whose cpuset changes. One that may use all nodes is in none of its own."""

@@ -115,5 +115,5 @@ class Vmas:
         self.all = [vma._replace(anon=anon) if other is vma else other for other in self.all]
 
     def rebind(self, change):
-        """Changes the policies of all areas."""
-        self.all = [vma._replace(policy=change(vma.policy)) for vma in self.all]
+        """Changes all areas."""
+        self.all = [change(vma) for vma in self.all]
