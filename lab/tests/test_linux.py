@@ -95,13 +95,13 @@ class Series(Case):
         self.assertEqual([merged[version] for version in ("6.1", "6.6", "6.12", "6.15", "6.18", "9.0")], ["2"] * 4 + ["1"] * 2)
         # A policy whose only node goes offline.
         bound = self.report_of("nodes 3x64\nspawn p\nmap p A 4\nmbind p A MPOL_BIND 2\noffline 2\nnuma_maps p\n", 4, 1)
-        self.assertEqual([bound[version] for version in ("6.1", "6.12", "6.16", "6.18", "7.2", "7.3")],
-                         ["00010000 bind:0"] * 2 + ["00010000 bind:2"] * 3 + ["00010000 bind:0"])
+        self.assertEqual([bound[version] for version in ("6.1", "6.12", "6.16", "6.18", "7.0", "7.1", "7.2")],
+                         ["00010000 bind:0"] * 2 + ["00010000 bind:2"] * 3 + ["00010000 bind:0"] * 2)
 
     def report_of(self, text, step, line=0):
         """What some series are expected to answer to a step."""
         top, found = trace_from(text.encode(), "t.nt"), {}
-        for version in ("6.1", "6.6", "6.12", "6.15", "6.16", "6.18", "7.2", "7.3", "9.0"):
+        for version in ("6.1", "6.6", "6.12", "6.15", "6.16", "6.18", "7.0", "7.1", "7.2", "9.0"):
             told = str(worlds.given(top, version)[step].lines[line])
             found[version] = told if line else told.split(" ", 2)[2]
         return found

@@ -14,7 +14,7 @@ HERE = os.path.dirname(os.path.abspath(__file__))
 # The series whose answers to all scenarios are kept, and all that were asked. A series that was not is expected to answer as the last
 # before it that was, and those before all of them as the first.
 KERNELS = ("6.1", "6.12")
-ASKED = (*KERNELS, "6.16", "6.18", "7.3")
+ASKED = (*KERNELS, "6.16", "6.18", "7.1", "7.3")
 MARK = re.compile(r"<!-- differences: (.+) -->\n(?:\|.*\n)*")
 
 
