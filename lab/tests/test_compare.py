@@ -90,13 +90,24 @@ ok 2 - same-fan.nt on Linux {RELEASE}
         self.assertRegex(out, "ok 1 - t.nt on Linux .* # SKIP .*the trace has 64 nodes, and this machine has|# SKIP this kernel has no NUMA")
 
     def test_another_kernel_is_named(self):
-        text = "# Linux 6.18.3\n# trace t.nt\n0 spawn ok\n1 map segment=0\n2 query 0: -14\n# end\n"
+        text = "# Linux 6.14.3\n# trace t.nt\n0 spawn ok\n1 map segment=0\n2 query 0: -14\n# end\n"
         path = self.written("t.nt", "nodes 2x8\nspawn p\nmap p A 2\nquery p A[0]\n")
         status, out, _ = run("compare", path, self.written("r", text))
         self.assertEqual(status, 1)
         self.assertEqual(out.split("\n")[:7], [
-            "there are no rows for Linux 6.18.3: those of 6.12 are used", "     0  spawn          same", "     1  map            same",
-            "     2  query          DIFFERS", "          this model:  2 query 0: -2", "          Linux 6.18:  2 query 0: -14", "          expected:    2 query 0: -2"])
+            "there are no rows for Linux 6.14.3: those of 6.12 are used", "     0  spawn          same", "     1  map            same",
+            "     2  query          DIFFERS", "          this model:  2 query 0: -2", "          Linux 6.14:  2 query 0: -14", "          expected:    2 query 0: -2"])
+
+    def test_a_kernel_that_was_asked_has_rows_of_its_own(self):
+        """The text of a row is that of the kernel's series."""
+        trace = self.written("t.nt", "nodes 2x8\nspawn p\nmap p A 2\nmbind p A[1] MPOL_BIND 1\nwrite p A[0] 61\nmbind p A[0] MPOL_BIND 1\nnuma_maps p\n")
+        text = "# Linux 6.18.3\n0 spawn ok\n1 map segment=0\n2 mbind 0\n3 write ok\n4 mbind 0\n5 numa_maps 1\n" \
+               "00010000 bind:1 anon=1 N0=1 kernelpagesize_kB=4\n# end\n"
+        status, out, _ = run("compare", trace, self.written("r", text))
+        lines = out.split("\n")
+        self.assertEqual((status, lines[5]), (0, "     5  numa_maps      differs as documented: areas-policy-merges"))
+        self.assertRegex(lines[-2], r"^areas-policy-merges: .* Linux 6.18: merged\. Reason: ")
+        self.assertEqual(run("compare", trace, self.written("r", text.replace("6.18.3", "6.12.3")))[0], 1)
 
     def test_bad_words(self):
         for words, told in [([*SCENARIOS, KEPT, "--qemu"], "do not go together with a replay"), ([SCENARIOS[0], SCENARIOS[0], KEPT], "2 traces are called"),

@@ -260,13 +260,13 @@ class EarlyEnds(Case):
            "for name in $names; do\n  echo \"# trace $name\"; [ $name = b.nt ] && { %s; }; echo '0 spawn ok'\ndone >> \"$report\"\n[ -n \"$name\" ] && echo '# end' >> \"$report\"\n"
 
     def test_the_others_go_on(self):
-        for script, told in [("exit 0", "ended after 0 seconds without a whole report"), ("exec sleep 60 > /dev/null", "told nothing for 0.4 seconds")]:
+        for script, told in [("exit 0", r"ended after \d+ seconds without a whole report"), ("exec sleep 60 > /dev/null", "has told nothing for 0.4 seconds")]:
             texts = self.play(self.TELL % script)
             self.assertEqual(texts[0], "# Linux 6.1.0\n# trace a.nt\n0 spawn ok\n# end\n")
             self.assertEqual(texts[2], "# Linux 6.1.0\n# trace c.nt\n0 spawn ok\n# end\n")
             self.assertIsInstance(texts[1], many.Stopped)
             self.assertEqual(str(texts[1]).split("\n")[1:], ["  Kernel panic - not syncing: a test"])
-            self.assertIn(f"b.nt: the guest {'has ' if 'told' in told else ''}{told}; its console shows", str(texts[1]))
+            self.assertRegex(str(texts[1]), f"^b.nt: the guest {told}; its console shows")
 
     def test_a_second_chance(self):
         """A guest that ends before its first trace is booted once more."""

@@ -11,6 +11,7 @@ from numalab import model
 from numalab.faults import verdict
 from numalab.linux import compare, differences, guest, instructions, kernel, many, player, recorded, replayed, strace, worlds
 from numalab.traces import Bad, Trace, json_text
+from numalab.translate import trace_from
 
 DATA = os.path.join(ROOT, "lab/tests/data")
 # Rows for which no trace can be played, apart from those of a document: what a kernel does by itself, and what is chance.
@@ -31,9 +32,16 @@ class Rows(Case):
         rows = differences.rows()
         self.assertEqual(len({row["id"] for row in rows}), len(rows))
         for row in rows:
-            self.assertLessEqual(set(row), {"id", "table", "calls", "situation", "model", "kernels", "reason", "functions", "privilege"})
-            self.assertIn(set(row["kernels"]), [{"6.1", "6.12"}, {"document"}])
+            self.assertLessEqual(set(row), {"id", "table", "calls", "situation", "model", "kernels", "until", "reason", "functions", "privilege"})
             self.assertTrue(row["calls"] and row["situation"] and row["model"])
+            series = list(row["kernels"])
+            if series == ["document"]:
+                continue
+            # Each series was asked, in their order, and a row that ends does so before the last.
+            self.assertEqual(series, [one for one in differences.ASKED if one in series])
+            self.assertTrue(series)
+            if "until" in row:
+                self.assertIn(row["until"], differences.ASKED[differences.ASKED.index(series[-1]) : -1])
 
     def test_each_has_a_scenario(self):
         there = {name[:-3] for name in os.listdir(many.SCENARIOS) if name.endswith(".nt")}
@@ -49,6 +57,54 @@ class Rows(Case):
             if name.startswith("same-"):
                 continue
             self.assertTrue(name in fired or name == "offline-shared" or name == "offline-pinned", f"{name}: {fired}")
+
+
+class Series(Case):
+    """Of which series of Linux a row holds."""
+
+    ROW = {"id": "r", "table": "t", "situation": "s", "model": "m", "reason": "why", "kernels": {"6.1": "a", "6.12": "b"}, "until": "6.12"}
+
+    def test_a_series_that_was_not_asked_goes_by_the_one_before_it(self):
+        for version, series in [("6.1", "6.1"), ("6.6", "6.1"), ("5.10", "6.1"), ("6.12", "6.12"), ("6.15", "6.12"), ("6.17", "6.16"), ("6.120", "6.18"), ("6.18", "6.18"),
+                                ("9.0", "7.3")]:
+            self.assertEqual(differences.asked_for(version), series)
+
+    def test_from_and_until(self):
+        for version, series in [("5.4", "6.1"), ("6.1", "6.1"), ("6.11", "6.1"), ("6.12", "6.12"), ("6.13", "6.12"), ("6.18", None), ("9.0", None)]:
+            self.assertEqual(differences.since(self.ROW, version), series)
+        self.assertIsNone(differences.since({**self.ROW, "kernels": {"6.12": "b"}}, "6.11"))
+        self.assertEqual(differences.since({"kernels": {"6.12": "b"}}, "9.0"), "6.12")
+        self.assertEqual([differences.told_of(self.ROW, version) for version in ("6.1", "6.12", "6.18")], ["a", "b", "as this model"])
+
+    def test_what_the_page_says(self):
+        """The answers with their series, and the series of which a row holds."""
+        for kernels, until, cells in [({"6.1": "a"}, None, "a | all"), ({"6.1": "a"}, "6.1", "a | 6.1"), ({"6.1": "a", "6.12": "b"}, "6.12", "a; from 6.12 on b | 6.1 to 6.12"),
+                                      ({"6.12": "b"}, None, "b | from 6.12 on")]:
+            row = {**self.ROW, "kernels": kernels, "until": until}
+            row = row if until else {key: value for key, value in row.items() if key != "until"}
+            self.assertEqual(differences.table_text("t", [row]).split("\n")[2], f"| s | m | {cells} | why |")
+
+    def test_rules_go_by_it(self):
+        """Of some things in which the series differ from one another, what each is expected to answer."""
+        untouched = self.report_of(HEAD + "query p A[0]\n", 2)
+        self.assertEqual([untouched[version] for version in ("6.1", "6.6", "6.12", "6.18", "9.0")], ["0: -14", "0: -14", "0: -2", "0: -2", "0: -2"])
+        weighted = self.report_of(HEAD + "mbind p A 6 all\n", 2)
+        self.assertEqual([weighted[version] for version in ("6.1", "6.6", "6.12", "6.18", "9.0")], ["error EINVAL"] * 2 + ["0"] * 3)
+        # A page that was touched, and then gets the policy of the page behind it, which was not.
+        merged = self.report_of(HEAD + "mbind p A[1] MPOL_BIND 1\nwrite p A[0] 61\nmbind p A[0] MPOL_BIND 1\nnuma_maps p\n", 5)
+        self.assertEqual([merged[version] for version in ("6.1", "6.6", "6.12", "6.15", "6.18", "9.0")], ["2"] * 4 + ["1"] * 2)
+        # A policy whose only node goes offline.
+        bound = self.report_of("nodes 3x64\nspawn p\nmap p A 4\nmbind p A MPOL_BIND 2\noffline 2\nnuma_maps p\n", 4, 1)
+        self.assertEqual([bound[version] for version in ("6.1", "6.12", "6.16", "6.18", "7.0", "7.1", "7.2")],
+                         ["00010000 bind:0"] * 2 + ["00010000 bind:2"] * 3 + ["00010000 bind:0"] * 2)
+
+    def report_of(self, text, step, line=0):
+        """What some series are expected to answer to a step."""
+        top, found = trace_from(text.encode(), "t.nt"), {}
+        for version in ("6.1", "6.6", "6.12", "6.15", "6.16", "6.18", "7.0", "7.1", "7.2", "9.0"):
+            told = str(worlds.given(top, version)[step].lines[line])
+            found[version] = told if line else told.split(" ", 2)[2]
+        return found
 
 
 class Kept(Case):
@@ -123,7 +179,6 @@ class Playing(Case):
     """The player's instructions, and what it cannot play."""
 
     def instructions(self, text, **words):
-        from numalab.translate import trace_from
         return instructions.Instructions(Trace("t.nt", b"", trace_from(text.encode(), "t.nt")), **words)
 
     def test_full_nodes_and_pins(self):

@@ -1,4 +1,4 @@
-"""Writes a test in C that makes the calls of a trace for real, and checks each answer against what Linux 6.1 or 6.12 is expected to
+"""Writes a test in C that makes the calls of a trace for real, and checks each answer against what a kernel is expected to
 give (--kernel, as `numalab predict` has it), or against the model's report (--model). The file needs nothing beside it.
 
 It prints TAP, or is in the form of the Linux Test Project (--ltp) or of the kernel's own tests (--kselftest). Each step is a test, named
@@ -8,7 +8,7 @@ import os
 import sys
 
 from ..linux import export
-from ..linux.differences import KERNELS
+from ..linux.differences import ASKED
 from ..linux.instructions import Unplayable
 from ..program import found as program_found, played
 from ..traces import Bad, load, read_file, traces_named, write_file
@@ -21,7 +21,7 @@ SUMMARY = "a trace as a test in C, for a kernel"
 def arguments(words):
     words.add_argument("traces", metavar="TRACE", nargs="+", help="traces, .json or .nt, or a folder of them")
     answers = words.add_mutually_exclusive_group(required=True)
-    answers.add_argument("--kernel", metavar="VERSION", choices=KERNELS, help=f"expect the answers of Linux {' or '.join(KERNELS)}")
+    answers.add_argument("--kernel", metavar="VERSION", choices=ASKED, help=f"expect the answers of Linux {', '.join(ASKED)}")
     answers.add_argument("--model", action="store_true", help="expect the answers of the model")
     forms = words.add_mutually_exclusive_group()
     forms.add_argument("--ltp", action="store_const", dest="form", const="ltp", help="a test for the Linux Test Project")

@@ -10,7 +10,7 @@ import sys
 from ..answers import answer_of
 from ..inputs import inputs_of, lines_of, out_for, with_report
 from ..linux.compare import partings
-from ..linux.differences import KERNELS
+from ..linux.differences import ASKED
 from ..progress import Progress
 from ..reasons import explained
 from ..table import Table
@@ -22,7 +22,7 @@ SUMMARY = "show steps and answers side by side, and why"
 def arguments(words):
     words.add_argument("files", metavar="FILE", nargs="+", help="traces, .json or .nt, each followed by its report or not; - is standard input")
     words.add_argument("--why", action="store_true", help="say which rule decided each answer, and from what")
-    words.add_argument("--kernel", metavar="VERSION", choices=KERNELS, help=f"with --why, also show where Linux {' or '.join(KERNELS)} differs from the model")
+    words.add_argument("--kernel", metavar="VERSION", choices=ASKED, help=f"with --why, also show where Linux {', '.join(ASKED)} differs from the model")
     words.add_argument("--all", action="store_true", help="show all rows of a pagemap, not only 64")
     words.add_argument("--jsonl", action="store_true", help="print a JSON object for each step; so does an OUT that ends in .jsonl")
     words.add_argument("-o", metavar="OUT", dest="out", help="a file, or a folder; standard output if none is named")

@@ -999,6 +999,13 @@ static void on_alarm(int number_of_signal)
     (void)number_of_signal;
 }
 
+// Waits until cpusets have lost a node, or have it, which comes a moment after the node itself: that of this process stands for all.
+static void wait_for_cpusets(unsigned long node, bool there)
+{
+    for (int tries = 0; tries < 200 && (nodes_allowed(own_pid) >> node & 1) != there; tries++)
+        usleep(10000);
+}
+
 static void do_offline(void)
 {
     unsigned long node = number();
@@ -1014,14 +1021,17 @@ static void do_offline(void)
     away[node] = status == 0;
     if (!away[node])
         set_blocks(node, "online_movable");
-    wait_for_rest(); // Cpusets change a moment later, and their pages move then.
+    wait_for_cpusets(node, !away[node]);
+    wait_for_rest(); // Pages move with cpusets.
     say(away[node] ? "ok" : "error EBUSY");
 }
 
 static bool bring_back(unsigned long node)
 {
     away[node] = false;
-    return set_blocks(node, "online_movable");
+    bool well = set_blocks(node, "online_movable");
+    wait_for_cpusets(node, true);
+    return well;
 }
 
 static void do_online(void)

@@ -4,8 +4,8 @@ A difference is one that rows explain where the plain model with the rules of th
 import re
 from collections import namedtuple
 
-from .differences import row_of
-from .kernel import BOTH, NEWER, numbers_of
+from .differences import asked_for, row_of, told_of
+from .kernel import BOTH
 from .replayed import by_step, frames_apart
 from .worlds import Prediction, given
 
@@ -21,8 +21,8 @@ def version_in(release):
 
 
 def rules_for(release):
-    """The kernel whose rows apply to a release, and what there is to say about that."""
-    name = "6.1" if numbers_of(version_in(release)) < NEWER else "6.12"
+    """The series whose rows apply to a release, and what there is to say about that."""
+    name = asked_for(version_in(release))
     return name, "" if version_in(release) == name else f"there are no rows for Linux {release}: those of {name} are used"
 
 
@@ -48,8 +48,7 @@ def compared(top, report, replayed, privilege=BOTH):
 def words_of_row(name, version):
     """A row as text."""
     row = row_of(name)
-    told = row["kernels"].get(version, row["kernels"].get("document"))
-    return f"{name}: {row['situation']}. This model: {row['model']}. Linux {version}: {told}. Reason: {row['reason'] or 'none on record'}."
+    return f"{name}: {row['situation']}. This model: {row['model']}. Linux {version}: {told_of(row, version)}. Reason: {row['reason'] or 'none on record'}."
 
 
 def lines_of(found, release):

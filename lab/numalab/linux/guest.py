@@ -1,5 +1,6 @@
 """A kernel under software emulation, with the nodes and distances of a trace, and the player as its first process."""
 import contextlib
+import glob
 import os
 import re
 import shutil
@@ -20,8 +21,8 @@ NO_KERNEL = ("there is no kernel: lab/kernels fetches those from Debian's packag
 MEGABYTE = 1 << 20
 FIRST_NODE, OTHER_NODE, BLOCK = 192, 64, 128
 MOST_NODES = 16
-# A boot takes some six seconds, and a step at most a minute, but on a busy host much more. A guest that has told nothing for this long has
-# hung.
+# A boot takes some six seconds, and a step at most a minute. A guest that has told nothing for this long, without the time in which it
+# waited for a processor of a busy host, has hung.
 BOOT_LIMIT, STEP_LIMIT, PAUSE = 300, 300, 0.1
 CONSOLE_LINES = 12
 # On a busy host a guest's timer is late, which a kernel would take for a broken one; and where nodes can go, a kernel would take 64 MiB
@@ -50,7 +51,7 @@ def release_of(path):
 
 
 def version_of(release):
-    """A release as rows name it: 6.1 or 6.12."""
+    """The series of a release, such as 6.12."""
     return ".".join(release.split(".")[:2])
 
 
@@ -176,19 +177,28 @@ def report_of(folder):
     return ""
 
 
+def time_of(process):
+    """The time, without that in which the thread of a process that waited most has waited for a processor."""
+    waited = [0]
+    for path in glob.glob(f"/proc/{process.pid}/task/*/schedstat"):
+        with contextlib.suppress(OSError, IndexError, ValueError), open(path, encoding="ascii") as file:
+            waited.append(int(file.read().split()[1]))
+    return time.monotonic() - max(waited) / 1e9
+
+
 def wait_for(process, folder, stop, signals):
     """Waits until a guest has ended; returns why it is to be ended before, or None."""
-    path, size, since, limit = os.path.join(folder, "report"), 0, time.monotonic(), BOOT_LIMIT
+    path, size, since, limit = os.path.join(folder, "report"), 0, time_of(process), BOOT_LIMIT
     while True:
         with contextlib.suppress(subprocess.TimeoutExpired):
             process.wait(PAUSE)
             return None
         now = os.path.getsize(path) if os.path.exists(path) else 0
         if now != size:
-            size, since, limit = now, time.monotonic(), STEP_LIMIT
+            size, since, limit = now, time_of(process), STEP_LIMIT
         if signals.sent or stop is not None and stop.is_set():
             return "the guest was stopped"
-        if time.monotonic() - since > limit:
+        if time_of(process) - since > limit and process.poll() is None:
             return f"the guest has told nothing for {limit} seconds"
 
 

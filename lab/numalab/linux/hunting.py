@@ -15,7 +15,7 @@ from .player import cache_folder, play_here
 from .reducing import Reducer, find_in
 
 HERE = os.path.dirname(os.path.abspath(__file__))
-SOURCES = ["drawn.py", "kernel.py", "worlds.py", "vmas.py", "instructions.py", "calls.c", "../model.py"]
+SOURCES = ["drawn.py", "differences.py", "differences.json", "kernel.py", "worlds.py", "vmas.py", "instructions.py", "calls.c", "player.c", "../model.py"]
 # What a lot of traces has shown: how many traces and steps were compared, the finds with the numbers of their traces, and what is to
 # be said of traces that were not played.
 Seen = namedtuple("Seen", "traces steps finds troubles")

@@ -1,13 +1,14 @@
-"""What Linux 6.1 and 6.12 are expected to answer: the plain model with the rules of the differences in place.
+"""What a series of Linux is expected to answer: the plain model with the rules of the differences in place that hold of it.
 
 Each rule that decides differently from the model's names its row of differences.json (`fire`). Nothing here is proved, and nothing
-is claimed of other kernels. Reports have nodes in place of frames. What the rules do not determine is chosen, once for each way that
+is claimed of kernels that were not asked. Reports have nodes in place of frames. What the rules do not determine is chosen, once for each way that
 it can go (`choose`): worlds.py follows all of them."""
 from collections import namedtuple
 from math import gcd
 
 from .. import model
 from ..model import DEFAULT, END, MOST_ENTRIES, MOVE, MOVE_ALL, PAGE, STRICT, ZERO, Policy, Refused, policy_text
+from .differences import holding
 from .vmas import Vmas
 
 WINDOW, TABLE = 16, 512  # how many pages are mapped around one that is read, at most to the end of a page table
@@ -18,17 +19,9 @@ MODE_FLAGS = {1 << 15: "static", 1 << 14: "relative"}
 TURNS = ("interleave", "weighted-interleave")
 # Whether a privileged process has CAP_SYS_NICE and CAP_SYS_PTRACE, or only the first.
 BOTH, NICE = "both", "nice"
-# The rules of 6.12 hold from here on: of the kernels in between none was asked.
-NEWER = (6, 12)
 
 # What a step answers: its lines, and the rows whose rules decided.
 Given = namedtuple("Given", "lines rows")
-
-
-def numbers_of(version):
-    """A version such as 6.12 as two numbers."""
-    first, second = version.split(".")[:2]
-    return int(first), int(second)
 
 
 class Killed(Exception):
@@ -48,6 +41,19 @@ def kind_of(policy):
 def folded(asked, usable):
     """Nodes that are meant relative to those that a process may use (mpol_relative_nodemask)."""
     return {usable[node % len(usable)] for node in asked} if usable else set()
+
+
+def rebound(policy, before, now):
+    """A policy where the nodes that a process may use change (mpol_rebind_nodemask)."""
+    if kind_of(policy) not in ("bind", "interleave"):
+        return policy
+    if policy.kind.endswith("=static"):
+        nodes = set(policy.asked) & set(now)
+    elif policy.kind.endswith("=relative"):
+        nodes = folded(policy.asked, now)
+    else:
+        nodes = {now[before.index(node) % len(now)] if node in before else node for node in policy.nodes}
+    return policy._replace(nodes=tuple(sorted(nodes & set(now))) or tuple(now))
 
 
 class Room:
@@ -86,9 +92,10 @@ class Kernel(model.Machine):
     def __init__(self, top, version, privilege=BOTH):
         super().__init__(top)
         self.limit = MOST_ENTRIES  # a kernel knows nothing of a trace's limit on runs
-        self.version, self.privilege = numbers_of(version), privilege
+        self.rows, self.privilege = holding(version), privilege
         self.owner, self.free = list(self.nodes), [Room(node) for node in self.nodes]
         self.vmas, self.configured, self.shared_policies = {}, {}, {}
+        self.lately_set = {}  # of each process the ranges that have got a policy since it was last said which nodes it may use
         self.pinners = {}  # of each page the processes that pinned it, the last at the end
         self.hidden = set()  # pages of shared segments that no area shows
         self.inodes = {}  # of each segment what is left over where the number of its inode is divided by some numbers
@@ -111,6 +118,7 @@ class Kernel(model.Machine):
         other.bytes = {page: bytearray(data) for page, data in self.bytes.items()}
         other.vmas = {pid: vmas.copied() for pid, vmas in self.vmas.items()}
         other.configured = dict(self.configured)
+        other.lately_set = {pid: list(spans) for pid, spans in self.lately_set.items()}
         other.pinners = {page: list(pids) for page, pids in self.pinners.items()}
         other.shared_policies = {segment: dict(policies) for segment, policies in self.shared_policies.items()}
         other.inodes = {segment: dict(known) for segment, known in self.inodes.items()}
@@ -208,7 +216,7 @@ class Kernel(model.Machine):
 
     def spawn(self, step):
         answer = super().spawn(step)
-        self.vmas[step["pid"]], self.configured[step["pid"]] = Vmas(self.version), frozenset(step["allowed"])
+        self.vmas[step["pid"]], self.configured[step["pid"]] = Vmas(self.rows), frozenset(step["allowed"])
         return answer
 
     def map(self, step):
@@ -400,7 +408,7 @@ class Kernel(model.Machine):
     def status_of_absent(self, process, number):
         """The status of a page that nobody has touched."""
         private = not self.segments[process.area(number).segment].shared
-        return -14 if private and self.version < NEWER else -2
+        return -14 if private and "move-private-untouched" in self.rows else -2
 
     def query(self, step):
         answer = super().query(step)
@@ -452,7 +460,7 @@ class Kernel(model.Machine):
     def listed_again(self, process, queued, everyone, first, end, strict=False):
         """How often a kernel meets a page that it has already isolated. In 6.12 each counts as one that stays, in 6.1 only where
         MPOL_MF_STRICT asks for that."""
-        if not everyone or self.version < NEWER and not strict:
+        if not everyone or not strict and "migrate-all-page-at-two-addresses" not in self.rows:
             return 0
         queued = set(queued)
         again = sum(page in queued for number, page in process.seen.items() if first <= number < end and page != ZERO) - len(queued)
@@ -465,7 +473,7 @@ class Kernel(model.Machine):
     def refuse_mbind(self, process, step):
         """The refusals that come before mode and nodes are looked at; returns the range, or None where there is nothing to do."""
         flags, (mode, of_mode) = step["flags"], self.mode_asked(step)
-        last = PREFERRED_MANY if self.version < NEWER else WEIGHTED
+        last = WEIGHTED if "mbind-weighted" in self.rows else PREFERRED_MANY
         if mode > last or len(of_mode) > 1 or flags > STRICT | MOVE | MOVE_ALL:
             raise Refused("EINVAL")
         if flags & MOVE_ALL and not process.privileged:
@@ -584,6 +592,7 @@ class Kernel(model.Machine):
         process.areas = [part for area in process.areas for part in area.part(0, first)
                          + [inside._replace(policy=policy) for inside in area.part(first, end)] + area.part(end, END)]
         changed, merged, same = self.vmas[pid].set_policy(first, end, policy)
+        self.lately_set.setdefault(pid, []).extend((vma.first, vma.end) for vma in changed)
         if merged:
             self.fire("areas-default-merges" if policy.kind == "default" else "areas-policy-merges")
         if same:
@@ -611,12 +620,12 @@ class Kernel(model.Machine):
             shown = [area.number_of(page) for area in process.areas]
             number = next(one for one in shown if one is not None and self.vmas[pid].over(one).end > span[0])
             turn = page[1]
-        return self.object_policy(process, number) if self.version < NEWER else policy, turn
+        return policy if "mbind-interleave-shared" in self.rows else self.object_policy(process, number), turn
 
     def first_turn(self, pid, span, policy, listed):
         """From where 6.12 counts the turns of the pages that it moves."""
         page, number = next(iter(listed.items()))
-        if self.version < NEWER or kind_of(policy) != "interleave" or not self.segments[page[0]].shared:
+        if "mbind-interleave-shared" not in self.rows or kind_of(policy) != "interleave" or not self.segments[page[0]].shared:
             return 0
         self.fire("mbind-interleave-shared")
         rest = self.left_over(page[0], len(policy.nodes))
@@ -674,22 +683,25 @@ class Kernel(model.Machine):
             if not self.configured[pid] & self.online:
                 self.fire("offline-cpuset")
 
-            def change(policy, before=before, now=now):
-                if kind_of(policy) not in ("bind", "interleave"):
-                    return policy
-                if policy.kind.endswith("=static"):
-                    nodes = set(policy.asked) & set(now)
-                elif policy.kind.endswith("=relative"):
-                    nodes = folded(policy.asked, now)
-                else:
-                    nodes = {now[before.index(node) % len(now)] if node in before else node for node in policy.nodes}
-                return policy._replace(nodes=tuple(sorted(nodes & set(now))) or tuple(now))
-
-            if any(change(area.policy) != area.policy for area in process.areas):
-                self.fire("offline-bound")
-            process.areas = [area._replace(policy=change(area.policy)) for area in process.areas]
-            self.vmas[pid].rebind(change)
+            self.rebind_areas(pid, process, before, now)
             self.follow_cpuset(process, pid, before, now)
+
+    def rebind_areas(self, pid, process, before, now):
+        """Rebinds the policies of areas to the nodes that a process may use now. From 6.16 on it is to all that it might use, and so only
+        those change that were set after nodes had gone."""
+        later, spans = self.rows["offline-bound"] == "6.16", self.lately_set.pop(pid, [])
+        usable = sorted(self.configured[pid]) if later else now
+
+        def change(area):
+            if later and not any(first <= area.first < end for first, end in spans):
+                return area
+            return area._replace(policy=rebound(area.policy, before, usable))
+
+        areas = [change(area) for area in process.areas]
+        if areas != process.areas:
+            self.fire("offline-bound")
+        process.areas = areas
+        self.vmas[pid].rebind(change)
 
     def follow_cpuset(self, process, pid, before, now):
         """Moves the pages of a process whose cpuset changes. One that may use all nodes is in none of its own."""

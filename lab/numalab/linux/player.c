@@ -89,6 +89,10 @@ static void be_init(void)
     mount_all();
     if (access("/sys/devices/system/node/has_memory", F_OK) < 0)
         stop("this kernel has no NUMA");
+    unsigned long nodes_there = listed_nodes("/sys/devices/system/node/has_memory", "");
+    for (unsigned long node = 0; node < MOST_NODES; node++)
+        if (nodes_there >> node & 1)
+            wait_for_cpusets(node, true); // Nodes that can go come late in a boot.
     FILE *program = fopen("/program", "re");
     report = serial_line();
     if (!program || !report)

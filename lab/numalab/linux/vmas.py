@@ -3,10 +3,6 @@ from collections import namedtuple
 
 from ..model import DEFAULT
 
-# From which version on a new area becomes part of the one before it rather than of the one behind it, and an area without a private
-# page takes in others: these were seen to have it, and not those before them of differences.KERNELS.
-MAPPED_LEFT, MERGED_UNTOUCHED = (6, 12), (6, 18)
-
 # A range of page numbers, its policy, what keeps its private pages together once one is there (anon), and for shared memory its
 # segment with where that would begin.
 Vma = namedtuple("Vma", "first end policy anon origin")
@@ -23,20 +19,23 @@ def agree(left, right):
 
 
 class Vmas:
-    """The areas of one process, by address, as a version of the kernel has them, which is two numbers."""
+    """The areas of one process, by address, as a kernel has them of which some rows hold (differences.holding)."""
 
-    def __init__(self, version):
-        self.version, self.all, self.anons = version, [], 0
+    def __init__(self, rows):
+        self.rows, self.all, self.anons = rows, [], 0
+        # Whether a new area between two that cannot be one becomes part of the one before it, and not of the one behind it; and whether
+        # an area without a private page takes in others.
+        self.mapped_left, self.merged_untouched = rows["areas-maps-merge"] == "6.12", rows["areas-policy-merges"] == "6.16"
 
     def takes(self, neighbour, anon):
-        """Whether an area can have in it private pages that are kept together by anon: before MERGED_UNTOUCHED one without a page
-        takes none of others (is_mergeable_anon_vma, where an empty chain is not singular)."""
-        if neighbour.anon is None and self.version >= MERGED_UNTOUCHED:
+        """Whether an area can have in it private pages that are kept together by anon: in 6.1 and 6.12 one without a page takes none of
+        others (is_mergeable_anon_vma, where an empty chain is not singular)."""
+        if neighbour.anon is None and self.merged_untouched:
             return True
         return neighbour.anon == anon or neighbour.anon is not None and anon is None
 
     def copied(self):
-        other = Vmas(self.version)
+        other = Vmas(self.rows)
         other.all, other.anons = list(self.all), self.anons
         return other
 
@@ -74,8 +73,8 @@ class Vmas:
         new = Vma(first, end, DEFAULT, None, origin)
         before, behind = self.ending(first), self.beginning(end)
         left, right = near(before, new), near(new, behind)
-        if left and right and not (agree(before, behind) if self.version >= MAPPED_LEFT else self.takes(before, behind.anon)):
-            left, right = self.version >= MAPPED_LEFT, self.version < MAPPED_LEFT
+        if left and right and not (agree(before, behind) if self.mapped_left else self.takes(before, behind.anon)):
+            left, right = self.mapped_left, not self.mapped_left
         self.join(*[before] * left, new, *[behind] * right)
         return left or right
 
@@ -116,5 +115,5 @@ class Vmas:
         self.all = [vma._replace(anon=anon) if other is vma else other for other in self.all]
 
     def rebind(self, change):
-        """Changes the policies of all areas."""
-        self.all = [vma._replace(policy=change(vma.policy)) for vma in self.all]
+        """Changes all areas."""
+        self.all = [change(vma) for vma in self.all]
