@@ -19,11 +19,9 @@ use Rattle.nm_types.proofs.Maps.{found_first, get-values}
 use Rattle.nm_types.proofs.Cases.{none_some, some_none, some_is}
 use Rattle.std.specs.Option.{unwrap_or, option_map}
 use Rattle.std.proofs.lemmas.Map.Lookups.{exact_unsigned}
-use Rattle.nm_types.specs.declared.page.Page.{Page}
 use Rattle.nm_types.specs.declared.area.Area.{Area}
 use Rattle.nm_types.specs.declared.sight.Sight.{Sight}
-use Rattle.nm_types.specs.declared.sight.Sight.TheVariants.{Sees}
-use Rattle.nm_types.specs.State.{Process, page_at}
+use Rattle.nm_types.specs.State.{Process}
 use Rattle.nm_types.proofs.Keys.{All-get}
 use Rattle.nm_types.specs.declared.entry.Entry.{Entry}
 use Rattle.nm_model.specs.definitions.Areas.{Mapped}
@@ -31,7 +29,7 @@ use Rattle.nm_rmap.specs.Mappers.{Mappers}
 use Rattle.nm_model.specs.definitions.PageTables.{Task, entry_in, entry_at}
 use Rattle.nm_spaces.specs.views.ProcessTable.{task_table, entries_in}
 use Rattle.nm_spaces.specs.views.AddressSpaces.{AddressSpacesView, spaces_view}
-use Rattle.nm_model.specs.definitions.PageTables.{sight_of, process_of, page_here}
+use Rattle.nm_model.specs.definitions.PageTables.{sight_of, process_of}
 use Rattle.nm_spaces.specs.definitions.Tied.{IsTied}
 use Rattle.nm_model.specs.definitions.Seen.{between, sights}
 
@@ -214,8 +212,3 @@ module _ (y : AddressSpacesView) (tasks : Map ℕ Task) (m : Mapped) (r : Mapper
       range_shown first end
       ∙ ap (with_values (sight_of m.areas pid)) (none_between (entries_in tasks pid) first end (sorted_of tasks pid (get nat_cmp tasks pid) h.tables refl)
       (λ w a b. sym (found_in (get nat_cmp tasks pid) w) ∙ none w a b))
-
-  -- the page that is shown where it is seen
-  pub page_shown_here : (v : ℕ) (page : Page) → Some page ≡ page_at y.areas pid v → Sees (page_here m.areas pid v) ≡ Sees page
-  page_shown_here v page at =
-      ap (λ o. Sees (unwrap_or o (record { segment = 0; index = 0 }))) (sym (at ∙ ap (λ (y : AddressSpacesView). page_at y.areas pid v) (sym is)))

@@ -146,9 +146,3 @@ seen_page y tasks m r pid v e page is there sees at =
     ap (λ o. Some (Sees (unwrap_or o (record { segment = 0; index = 0 })))) (at ∙ ap (λ (y : AddressSpacesView). page_at y.areas pid v) (sym is))
     ∙ ap Some (sym sees)
     ∙ seen_here y tasks m r pid v (Some e) is there
-
--- where an entry names a frame, an area shows a page
-pub no_page : (y : AddressSpacesView) (tasks : Map ℕ Task) (m : Mapped) (r : Mappers) (pid v f : ℕ) (e : Entry) → spaces_view tasks m r ≡ y → IsTied tasks m r → Some e ≡ entry_at tasks pid v → names f (Some e) ≡ true → None ≡ page_at y.areas pid v → ⊥
-no_page y tasks m r pid v f e is h there named none =
-    let s = h.shows f pid v (sym (ap (names f) there) ∙ named) in
-    none_some (none ∙ ap (λ (y : AddressSpacesView). page_at y.areas pid v) (sym is) ∙ s.1)

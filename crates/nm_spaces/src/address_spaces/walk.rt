@@ -13,29 +13,10 @@ ghost use Rattle.nm_types.specs.declared.page.Page.{Page};
 
 use crate::address_spaces::AddressSpaces;
 use crate::entry::frame_named;
-use nm_types::{Area, FrameId, Geometry, Located, Page, Pid, Sight, Vpn};
+use nm_types::{Area, FrameId, Geometry, Located, Page, Pid, Vpn};
 use std::alloc::{AllocError, Allocator};
 
 impl<A: Allocator + Copy> AddressSpaces<A> {
-    /// The first thing that a process sees from one page number up to another, with its page number.
-    pub fn sight_from(&self, pid: Pid, first: Vpn, end: Vpn) -> Option<(Vpn, Sight)>
-        ensures some { IfSome result (λ e. between first end (sights self.now.processes pid)
-            ≡ (e.0, e.1) ∷ between (e.0 + 1) end (sights self.now.processes pid)) }
-        ensures range { IfSome result (λ e. (first ≤ e.0) × (e.0 < end)) }
-        ensures none { IfNone result
-            (between first end (sights self.now.processes pid) ≡ []) }
-    {
-        let parts = &*self.parts;
-        let (vpn, entry) = parts.tasks.first_from(pid, first)?;
-        if vpn.number() >= end.number() {
-            return None;
-        }
-        match frame_named(&entry) {
-            None => Some((vpn, Sight::ZeroPage)),
-            Some(_) => Some((vpn, Sight::Sees(self.page_at(pid, vpn)?))),
-        }
-    }
-
     /// The pages that a process sees from one page number up to another, in order of page number, with their frames and
     /// nodes. Walks once over the process's entries there, and looks up each area once.
     pub fn pages_between(
