@@ -104,11 +104,11 @@ impl<A: Allocator + Copy> ReverseMap<A> {
         self.mappings[frame.index()].process_count()
     }
 
-    /// Moves the mappers and pins of one frame to another, which must have neither. Does not allocate.
+    /// Moves the mappers and pins of one frame to another, which must have neither. Does not allocate. A frame without
+    /// them that is carried to itself stays as it is.
     pub fn carry(&mut self, from: FrameId, to: FrameId)
         requires from_in_range { from < length self.old.mappings }
         requires to_in_range { to < length self.old.mappings }
-        requires apart { from ≡ to → ⊥ }
         requires unused { IsUnused self.old to }
         ensures { self.new ≡ carried self.old from to }
     {
