@@ -12,7 +12,6 @@ pub mod Untouched
 pub mod Roomy
 pub mod Listed
 pub mod Divided
-pub mod InBytes
 pub mod Steps
 pub mod Counted
 pub mod Stretches

@@ -3,7 +3,7 @@
 ghost use Rattle.std.specs.List.{AllByRecursion, flat_map};
 ghost use Rattle.std.specs.List.Sorted.{IsStrictlySortedBy};
 ghost use Rattle.std.specs.Map.{keys_of};
-ghost use Rattle.std.specs.Prelude.{None, OnErr, OnOk, Some, false, true, ℕ, ◌*◌, ◌+◌, ◌-◌, ◌/◌, ◌<◌, ◌≡◌, ◌≤◌, ◌⊎◌, IfErr, IfOk};
+ghost use Rattle.std.specs.Prelude.{None, OnErr, OnOk, Some, false, true, ℕ, ◌+◌, ◌-◌, ◌/◌, ◌<◌, ◌≡◌, ◌≤◌, ◌⊎◌, IfErr, IfOk};
 ghost use Rattle.nm_types.specs.Does.{Makes};
 ghost use Rattle.nm_areas.specs.Splits.{HasSplit};
 ghost use Rattle.nm_model.specs.definitions.Areas.{with_policy};
@@ -46,7 +46,7 @@ impl<A: Allocator + Copy> Areas<A> {
     ///
     /// An error means that nothing has changed. Allocates only if the range is not empty, and one of its ends lies
     /// within an area of the process: a range of whole areas takes no memory.
-    pub fn set_policy(
+    pub fn set_range_policy(
         &mut self,
         pid: Pid,
         range: PageRange,
@@ -57,9 +57,7 @@ impl<A: Allocator + Copy> Areas<A> {
 
         // On success
         ensures ok { OnOk result
-            (self.new
-            ≡ with_policy self.old pid (4096 * range.first)
-            (4096 * (range.end - range.first)) policy) }
+            (self.new ≡ with_policy self.old pid range.first range.end policy) }
 
         // Without memory
         ensures err { OnErr result (self.new ≡ self.old) }
@@ -78,7 +76,8 @@ impl<A: Allocator + Copy> Areas<A> {
         Ok(())
     }
 
-    /// Sets the policy of the whole pages of `len` bytes from address `addr` on, as `set_policy` does.
+    /// Sets the policy of the whole pages of `len` bytes from address `addr` on: the process's areas are split at both
+    /// ends, and never merged.
     ///
     /// Errors, in order: EINVAL if the address is not a multiple of 4,096 or the pages end past 2^64 - 1; EFAULT if one
     /// of the pages has no area. A length of 0 is no page, and splits nothing. Allocates only if the call is not
@@ -91,7 +90,7 @@ impl<A: Allocator + Copy> Areas<A> {
         policy: Policy,
     ) -> Result<(), MachineError>
         ensures done { Makes result self.old self.new (range_refusal self.old pid addr len)
-            (with_policy self.old pid addr len policy) }
+            (with_policy self.old pid (addr / 4096) (addr / 4096 + pages_of len) policy) }
         ensures memory { result ≡ Err MachineError.HostMemory →
             (range_refusal self.old pid addr len ≡ None) × (0 < len) }
         ensures asked { result ≡ Err MachineError.HostMemory →
@@ -100,7 +99,7 @@ impl<A: Allocator + Copy> Areas<A> {
         ensures pages { (q v : ℕ) → page_at self.new.areas q v ≡ page_at self.old.areas q v }
     {
         let range = self.check_policy(pid, addr, len)?;
-        Ok(self.set_policy(pid, range, policy)?)
+        Ok(self.set_range_policy(pid, range, policy)?)
     }
 }
 

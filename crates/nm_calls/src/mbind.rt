@@ -5,7 +5,7 @@ ghost use Rattle.std.specs.List.{AllByRecursion, list_any};
 ghost use Rattle.nm_types.specs.Layout.{node_count};
 ghost use Rattle.nm_areas.specs.Splits.{HasSplit};
 ghost use Rattle.nm_runs.specs.Targets.{Checks};
-ghost use Rattle.nm_model.specs.definitions.Effect.{set_policy};
+ghost use Rattle.nm_model.specs.definitions.Effect.{set_range_policy};
 ghost use Rattle.nm_calls.specs.declared.call_error.CallError.TheVariants.{HostMemory};
 ghost use Rattle.nm_calls.specs.definitions.Permission.{info_at};
 ghost use Rattle.nm_calls.specs.definitions.Permission.{usable};
@@ -284,8 +284,7 @@ pub(crate) fn bind<A: Allocator + Copy + Send + Sync, C: RunCrew<A>>(
         (nodes_named binding.now.policy) }
     requires home { asked.home ≡ home_of (info_at machine.old binding.now.pid) }
     requires few { binding.now.end - binding.now.first ≤ 2 ^ 52 }
-    ensures bound { let set = set_policy machine.old binding.now.pid (4096 * binding.now.first)
-        (4096 * (binding.now.end - binding.now.first)) binding.now.policy in
+    ensures bound { let set = set_range_policy machine.old binding.now.pid binding.now.first binding.now.end binding.now.policy in
         Binds result machine.old set machine.new binding.now
         (mbind_runs limit set binding.now asked.flags) asked.flags }
     ensures asked { (runs : ℕ) (policy_set : Bool) →

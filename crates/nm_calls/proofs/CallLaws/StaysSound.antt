@@ -1,5 +1,5 @@
 -- A sound system stays sound, whatever call is made.
-use Rattle.std.proofs.Common.{◌≡◌, ℕ, ◌+◌, ◌<◌, Bool, true, false, List, [], ◌∷◌, refl, sym, ap, ◌∙◌, arith, if◌then◌else◌}
+use Rattle.std.proofs.Common.{◌≡◌, ℕ, ◌+◌, ◌/◌, ◌<◌, Bool, true, false, List, [], ◌∷◌, refl, sym, ap, ◌∙◌, arith, if◌then◌else◌}
 use Rattle.std.proofs.lemmas.Bool.{leb-false}
 use Rattle.std.proofs.lemmas.List.Elements.{All-from_recursion, recursion_from_All, All-filter}
 use Rattle.std.proofs.lemmas.List.Kept.{IsStrictlySortedBy-filter}
@@ -18,7 +18,7 @@ use Rattle.nm_types.specs.State.{State}
 use Rattle.nm_types.proofs.Cases.{some_none}
 use Rattle.nm_model.specs.definitions.Cut.{Stretch}
 use Rattle.nm_model.specs.definitions.Run.{accesses_of, runs_from}
-use Rattle.nm_model.specs.definitions.Effect.{set_online}
+use Rattle.nm_model.specs.definitions.Effect.{pages_of, set_online}
 use Rattle.nm_model.specs.definitions.Run.{Ran, run}
 use Rattle.nm_model.specs.definitions.Sound.{IsSound}
 use Rattle.nm_model.specs.definitions.Touch.{Access, Read, Write}
@@ -86,7 +86,7 @@ runs_sound k s (r ∷ runs) accesses h =
 module _ (y : SystemState) (h : IsSound y.state) where
   start_sound : (call : Call) → IsSound (start y call)
   unfolding start
-  start_sound (Mbind caller addr len mode nodes flags) = policy_sound y.state [] caller addr len (binding y.state caller addr len mode nodes).policy h
+  start_sound (Mbind caller addr len mode nodes flags) = policy_sound y.state [] caller (addr / 4096) (addr / 4096 + pages_of len) (binding y.state caller addr len mode nodes).policy h
   start_sound call = h
 
   made_of : Call → Ran

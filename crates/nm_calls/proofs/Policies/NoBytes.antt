@@ -1,14 +1,15 @@
 -- A policy for no bytes, or without pages to move: no page strays, and no run is made.
-use Rattle.std.proofs.Common.{◌≡◌, ℕ, ◌<◌, ◌≤◌, length, Bool, true, false, ◌&&◌, List, [], ◌∷◌, None, refl, sym, ap, subst, ◌∙◌, arith, Result, Ok, if◌then◌else◌}
+use Rattle.std.proofs.Common.{◌≡◌, ℕ, ◌+◌, ◌/◌, ◌<◌, ◌≤◌, length, Bool, true, false, ◌&&◌, List, [], ◌∷◌, None, refl, sym, ap, subst, ◌∙◌, arith, Result, Ok, if◌then◌else◌}
 use Rattle.std.specs.Prelude.{nat_le, nat_lt, not}
 use Rattle.std.specs.List.{filter, flat_map, list_any}
-use Rattle.std.proofs.lemmas.Bool.{leb-true, ltb-true, and_parts, false_from_ne_true}
+use Rattle.std.proofs.lemmas.Bool.{le-ltb, leb-true, ltb-true, and_parts, false_from_ne_true}
 use Rattle.nm_types.specs.declared.area.Policy.{Policy}
 use Rattle.nm_types.specs.declared.area.Policy.TheVariants.{Default, Preferred, Bind, Interleave, Local}
 use Rattle.nm_types.specs.Map.{Map, same_page}
 use Rattle.nm_types.specs.State.{State}
 use Rattle.nm_policy.specs.Turns.{sent_to}
 use Rattle.nm_model.specs.definitions.Cut.{Stretch, cut_within}
+use Rattle.nm_model.specs.definitions.Effect.{areas_of, pages_of, repoliced, set_policy, with_areas_of}
 use Rattle.nm_model.specs.definitions.Order.{follows}
 use Rattle.nm_model.specs.definitions.Run.{runs_from}
 use Rattle.nm_model.specs.definitions.Seen.{between, located_in, sights}
@@ -22,7 +23,7 @@ use Rattle.nm_calls.specs.definitions.Mbind.{binding, each_to, has_stray, home_o
 use Rattle.nm_calls.specs.definitions.Migrate.{once}
 use Rattle.nm_calls.specs.definitions.Permission.{info_at, moves_all}
 use Rattle.nm_calls.specs.definitions.Systems.{SystemState}
-use Rattle.nm_calls.specs.views.Runs.{Stops}
+use Rattle.nm_calls.specs.views.Runs.{Binds, Stops}
 use Rattle.nm_types.specs.declared.located.Located.{Located}
 use Rattle.nm_calls.proofs.Policies.Results.{binds_does}
 use Rattle.nm_calls.proofs.NodesOffline.Passes.{passes_none}
@@ -80,6 +81,13 @@ pub stops_some : (set : Bool) (e : CallError) (old new : State) (runs : List Str
 stops_some set (Refused e) old new runs h = absurd h
 stops_some set (HostMemory k policy_set) old new runs h = omega (arith, h.1)
 
+-- a policy for no bytes is set nowhere
+none_set : (s : State) (pid address : ℕ) (policy : Policy) → set_policy s pid address 0 policy ≡ s
+none_set s pid address policy =
+    let first = address / 4096 in
+    let after = flat_map (repoliced pid first (first + pages_of 0) policy) s.areas in
+    ap (λ b. with_areas_of s (if b then record (areas_of s) { areas = after } else areas_of s)) (le-ltb first (first + pages_of 0) (omega arith))
+
 module _ (y : SystemState) (caller addr mode : ℕ) (nodes : List ℕ) (flags : ℕ) where
   bound_none : mbind_refusal y.state caller addr 0 mode nodes flags ≡ None → outcome y (Mbind caller addr 0 mode nodes flags) ≡ record { answer = Failed 0; system = y }
   bound_none h =
@@ -90,7 +98,9 @@ module _ (y : SystemState) (caller addr mode : ℕ) (nodes : List ℕ) (flags : 
       let stray : (tells_late flags && has_stray s (runs_from 0 s (mbind_runs y.run_limit s b flags) []).state b) ≡ false =
       ap (λ pages. tells_late flags && list_any (is_stray (runs_from 0 s (mbind_runs y.run_limit s b flags) []).state b.policy) pages) (no_strays s b few) ∙ and_false (tells_late flags) in
       let done : Result ℕ CallError = Ok 0 in
-      binds_does y caller addr 0 mode nodes flags done s h (stray, sym (ap (λ rs. (runs_from 0 s rs []).state) runs))
+      binds_does y caller addr 0 mode nodes flags done s h
+      (subst (λ t. Binds done s t s b (mbind_runs y.run_limit t b flags) flags) (sym (none_set s caller addr b.policy))
+      (stray, sym (ap (λ rs. (runs_from 0 s rs []).state) runs)))
 
   -- a call for no bytes that is not refused changes nothing
   pub nothing_bound : (len : ℕ) → len ≡ 0 → mbind_refusal y.state caller addr len mode nodes flags ≡ None → outcome y (Mbind caller addr len mode nodes flags) ≡ record { answer = Failed 0; system = y }

@@ -44,8 +44,8 @@ module _ (y z : AddressSpacesView) (k : FramesView) (online : List ℕ) (moved f
       kept_after (attached (mapped_of y) pid address segment offset pages) now none (λ sound. attach_sound (shown_by y k online moved failed) pid address segment offset pages sound fine)
 
 -- a policy that is set keeps a machine sound, also between the beginning and the end of a run
-pub kept_policed : (y z : AddressSpacesView) (k : FramesView) (online : List ℕ) (moved failed : ℕ) → IsKept (shown_by y k online moved failed) k.vacated y.frames → (pid address len : ℕ) (policy : Policy)
-    → z ≡ with_mapped y (with_policy (mapped_of y) pid address len policy) → IsKept (shown_by z k online moved failed) k.vacated z.frames
-kept_policed y z k online moved failed kept pid address len policy now =
+pub kept_policed : (y z : AddressSpacesView) (k : FramesView) (online : List ℕ) (moved failed : ℕ) → IsKept (shown_by y k online moved failed) k.vacated y.frames → (pid first end : ℕ) (policy : Policy)
+    → z ≡ with_mapped y (with_policy (mapped_of y) pid first end policy) → IsKept (shown_by z k online moved failed) k.vacated z.frames
+kept_policed y z k online moved failed kept pid first end policy now =
     subst (λ (w : AddressSpacesView). IsKept (shown_by w k online moved failed) k.vacated w.frames) (sym now)
-    (record { sound = policy_sound (shown_by y k online moved failed) k.vacated pid address len policy kept.sound; as_many = kept.as_many })
+    (record { sound = policy_sound (shown_by y k online moved failed) k.vacated pid first end policy kept.sound; as_many = kept.as_many })

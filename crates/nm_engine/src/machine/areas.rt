@@ -1,10 +1,10 @@
 //! Adding, splitting and removing areas.
 
-ghost use Rattle.std.specs.Prelude.{Err, IfOk, OnErr, OnOk, false, length, map, true, ◌+◌, ◌-◌, ◌*◌, ◌/◌, ◌<◌, ◌≡◌, ◌⊎◌};
+ghost use Rattle.std.specs.Prelude.{Err, IfOk, OnErr, OnOk, false, length, map, true, ◌+◌, ◌/◌, ◌<◌, ◌≡◌, ◌⊎◌};
 ghost use Rattle.nm_model.specs.definitions.AreaRefusal.{overlaps};
 ghost use Rattle.std.specs.List.{list_any};
 ghost use Rattle.nm_engine.specs.definitions.Does.{AsksLast, Makes};
-ghost use Rattle.nm_model.specs.definitions.Effect.{attach, attach_refusal, dropped, is_unknown, map_new, map_refusal, policy_refusal, set_policy, shows_pinned, unmap, unmap_refusal};
+ghost use Rattle.nm_model.specs.definitions.Effect.{attach, attach_refusal, dropped, is_unknown, map_new, map_refusal, policy_refusal, set_policy, set_range_policy, shows_pinned, unmap, unmap_refusal};
 ghost use Rattle.nm_areas.specs.Splits.{HasSplit};
 ghost use Rattle.nm_model.specs.definitions.Areas.{pages_of};
 ghost use Rattle.nm_memory.specs.views.Frames.{CanFree, pool_of, with_freed};
@@ -160,8 +160,10 @@ impl<A: Allocator + Copy + Send + Sync> Machine<A> {
             HasSplit self.old.areas pid (addr / 4096)
             ⊎ HasSplit self.old.areas pid (addr / 4096 + pages_of len) }
     {
-        let range = self.check_policy(pid, addr, len)?;
-        Ok(self.set_range_policy(pid, range, policy)?)
+        if self.spaces.info(pid).is_none() {
+            return Err(MachineError::Refused(Errno::Esrch));
+        }
+        self.spaces.set_policy(pid, addr, len, policy)
     }
 
     /// Sets where new pages are placed in a range of page numbers of a process, as `set_policy` does. An empty range
@@ -176,9 +178,7 @@ impl<A: Allocator + Copy + Send + Sync> Machine<A> {
     ) -> Result<(), AllocError>
         // On success
         ensures ok { OnOk result
-            (self.new
-            ≡ set_policy self.old pid (4096 * range.first)
-            (4096 * (range.end - range.first)) policy) }
+            (self.new ≡ set_range_policy self.old pid range.first range.end policy) }
 
         // Without memory
         ensures err { OnErr result (self.new ≡ self.old) }
@@ -186,7 +186,7 @@ impl<A: Allocator + Copy + Send + Sync> Machine<A> {
         ensures asked { OnErr result
             (HasSplit self.old.areas pid range.first ⊎ HasSplit self.old.areas pid range.end) }
     {
-        self.spaces.set_policy(pid, range, policy)
+        self.spaces.set_range_policy(pid, range, policy)
     }
 }
 

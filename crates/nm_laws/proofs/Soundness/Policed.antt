@@ -1,12 +1,12 @@
 -- Another policy of a range of page numbers keeps a machine sound.
-use Rattle.std.proofs.Common.{◌≡◌, ℕ, suc, zero, ◌+◌, ◌<◌, ◌/◌, ◌%◌, List, true, false, refl, sym, ap, subst, ◌∙◌, arith}
-use Rattle.std.specs.Prelude.{Some, None, IsSome, ◌==◌, if◌then◌else◌}
+use Rattle.std.proofs.Common.{◌≡◌, ℕ, ◌<◌, ◌/◌, ◌%◌, List, true, false, refl, sym, ap, subst, ◌∙◌, arith}
+use Rattle.std.specs.Prelude.{Some, None, IsSome, nat_lt, if◌then◌else◌}
 use Rattle.std.specs.Option.{option_map}
 use Rattle.std.specs.List.{AllByRecursion, flat_map}
 use Rattle.std.specs.List.Sorted.{IsStrictlySortedBy}
 use Rattle.std.specs.Map.{keys_of}
 use Rattle.std.specs.Ordering.{nat_cmp}
-use Rattle.std.proofs.lemmas.Bool.{eqb-false}
+use Rattle.std.proofs.lemmas.Bool.{ltb-true}
 use Rattle.nm_types.specs.declared.page.Page.{Page}
 use Rattle.nm_types.specs.declared.area.Policy.{Policy}
 use Rattle.nm_types.specs.declared.area.Area.{Area}
@@ -16,7 +16,7 @@ use Rattle.nm_types.proofs.Cases.{none_some, some_is}
 use Rattle.nm_model.specs.definitions.Memory.{byte_of, mem}
 use Rattle.nm_model.specs.definitions.Effect.{areas_of, with_areas_of, parts_outside, covers_page, is_covered}
 use Rattle.nm_model.specs.definitions.Sound.{AreasAreApart, IsWhole, IsSoundMidRun}
-use Rattle.nm_model.specs.definitions.Effect.{pages_of, repoliced, set_policy}
+use Rattle.nm_model.specs.definitions.Effect.{repoliced, set_range_policy}
 use Rattle.nm_model.proofs.areas.Apart.{all_then}
 use Rattle.nm_laws.proofs.Soundness.Allocated.{area_covers}
 use Rattle.nm_model.proofs.areas.Parted.{All-among, all_from_among, over_among, among_flat, part_of, any_among}
@@ -120,35 +120,27 @@ pub repoliced_sound : (s : State) (l : List ℕ) (pid first end : ℕ) (policy :
 repoliced_sound s l pid first end policy range h =
     alike_sound s l h (flat_map (repoliced pid first end policy) s.areas) (alike_repoliced s l pid first end policy range h)
 
-some_bytes : (len : ℕ) → (len ≡ 0 → ⊥) → 0 < len
-some_bytes zero more = absurd (more refl)
-some_bytes (suc len) more = omega arith
-
--- some bytes take a page
-some_page : (len : ℕ) → (len ≡ 0 → ⊥) → (first : ℕ) → first < first + pages_of len
-some_page len more first = let some : 0 < len = some_bytes len more in omega arith
-
-pub policy_sound : (s : State) (l : List ℕ) (pid address len : ℕ) (policy : Policy) → IsSoundMidRun s l → IsSoundMidRun (set_policy s pid address len policy) l
-policy_sound s l pid address len policy h =
-    let after = flat_map (repoliced pid (address / 4096) (address / 4096 + pages_of len) policy) s.areas in
-    elim (len == 0) as (λ b. (len == 0) ≡ b → IsSoundMidRun (with_areas_of s (if b then areas_of s else record (areas_of s) { areas = after })) l) [
-      | true ↦ λ b. h
-      | false ↦ λ b. repoliced_sound s l pid (address / 4096) (address / 4096 + pages_of len) policy (some_page len (eqb-false len 0 b) (address / 4096)) h
+pub policy_sound : (s : State) (l : List ℕ) (pid first end : ℕ) (policy : Policy) → IsSoundMidRun s l → IsSoundMidRun (set_range_policy s pid first end policy) l
+policy_sound s l pid first end policy h =
+    let after = flat_map (repoliced pid first end policy) s.areas in
+    elim (nat_lt first end) as (λ b. nat_lt first end ≡ b → IsSoundMidRun (with_areas_of s (if b then record (areas_of s) { areas = after } else areas_of s)) l) [
+      | true ↦ λ b. repoliced_sound s l pid first end policy (ltb-true first end b) h
+      | false ↦ λ b. h
     ] refl
 
-pub policy_shows : (s : State) (l : List ℕ) (pid address len : ℕ) (policy : Policy) (q v : ℕ) → IsSoundMidRun s l → page_at (set_policy s pid address len policy).areas q v ≡ page_at s.areas q v
-policy_shows s l pid address len policy q v h =
-    let after = flat_map (repoliced pid (address / 4096) (address / 4096 + pages_of len) policy) s.areas in
-    elim (len == 0) as (λ b. (len == 0) ≡ b → page_at (if b then areas_of s else record (areas_of s) { areas = after }).areas q v ≡ page_at s.areas q v) [
-      | true ↦ λ b. refl
-      | false ↦ λ b. (alike_repoliced s l pid (address / 4096) (address / 4096 + pages_of len) policy (some_page len (eqb-false len 0 b) (address / 4096)) h).same q v
+pub policy_shows : (s : State) (l : List ℕ) (pid first end : ℕ) (policy : Policy) (q v : ℕ) → IsSoundMidRun s l → page_at (set_range_policy s pid first end policy).areas q v ≡ page_at s.areas q v
+policy_shows s l pid first end policy q v h =
+    let after = flat_map (repoliced pid first end policy) s.areas in
+    elim (nat_lt first end) as (λ b. nat_lt first end ≡ b → page_at (if b then record (areas_of s) { areas = after } else areas_of s).areas q v ≡ page_at s.areas q v) [
+      | true ↦ λ b. (alike_repoliced s l pid first end policy (ltb-true first end b) h).same q v
+      | false ↦ λ b. refl
     ] refl
 
-pub policy_keeps : (s : State) (l : List ℕ) (pid address len : ℕ) (policy : Policy) (q at : ℕ) → IsSoundMidRun s l → mem (set_policy s pid address len policy) q at ≡ mem s q at
-policy_keeps s l pid address len policy q at h =
-    let after = flat_map (repoliced pid (address / 4096) (address / 4096 + pages_of len) policy) s.areas in
+pub policy_keeps : (s : State) (l : List ℕ) (pid first end : ℕ) (policy : Policy) (q at : ℕ) → IsSoundMidRun s l → mem (set_range_policy s pid first end policy) q at ≡ mem s q at
+policy_keeps s l pid first end policy q at h =
+    let after = flat_map (repoliced pid first end policy) s.areas in
     let byte : Page → ℕ = λ p. byte_of s p (get page_cmp s.place p) (at % 4096) in
-    elim (len == 0) as (λ b. (len == 0) ≡ b → mem (with_areas_of s (if b then areas_of s else record (areas_of s) { areas = after })) q at ≡ mem s q at) [
-      | true ↦ λ b. refl
-      | false ↦ λ b. ap (option_map byte) ((alike_repoliced s l pid (address / 4096) (address / 4096 + pages_of len) policy (some_page len (eqb-false len 0 b) (address / 4096)) h).same q (at / 4096))
+    elim (nat_lt first end) as (λ b. nat_lt first end ≡ b → mem (with_areas_of s (if b then record (areas_of s) { areas = after } else areas_of s)) q at ≡ mem s q at) [
+      | true ↦ λ b. ap (option_map byte) ((alike_repoliced s l pid first end policy (ltb-true first end b) h).same q (at / 4096))
+      | false ↦ λ b. refl
     ] refl

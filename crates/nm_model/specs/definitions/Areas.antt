@@ -178,12 +178,10 @@ inserted m pid address pages shared =
     let segments = set nat_cmp m.segments m.next (record { pages = pages; shared = shared }) in
     record m { areas = areas; segments = segments; next = suc m.next }
 
--- the areas of a process are split at both ends of a range, and those inside get this policy
+-- the areas of a process are split at both ends of a range, and those inside get this policy; an empty range splits none
 abbrev pub with_policy : Mapped → ℕ → ℕ → ℕ → Policy → Mapped
-with_policy m pid address len policy =
-    let first = address / 4096 in
-    if len == 0 then m
-    else record m { areas = flat_map (repoliced pid first (first + pages_of len) policy) m.areas }
+with_policy m pid first end policy =
+    if nat_lt first end then record m { areas = flat_map (repoliced pid first end policy) m.areas } else m
 
 -- the frame of a page is set
 abbrev pub with_frame : Mapped → Page → ℕ → Mapped

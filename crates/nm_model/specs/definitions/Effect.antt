@@ -214,6 +214,11 @@ abbrev pub policy_refusal : State → ℕ → ℕ → ℕ → Option Errno
 policy_refusal s pid address len =
     if is_unknown s pid then Some Esrch else areas.range_refusal (areas_of s) pid address len
 
--- the areas of a process are split at both ends of a range, and those inside get this policy
+-- the areas of a process are split at both ends of a range of page numbers, and those inside get this policy
+abbrev pub set_range_policy : State → ℕ → ℕ → ℕ → Policy → State
+set_range_policy s pid first end policy = with_areas_of s (with_policy (areas_of s) pid first end policy)
+
+-- the same for the pages of `len` bytes, rounded up
 abbrev pub set_policy : State → ℕ → ℕ → ℕ → Policy → State
-set_policy s pid address len policy = with_areas_of s (with_policy (areas_of s) pid address len policy)
+set_policy s pid address len policy =
+    set_range_policy s pid (address / 4096) (address / 4096 + pages_of len) policy

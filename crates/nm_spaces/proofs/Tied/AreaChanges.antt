@@ -1,6 +1,6 @@
 -- Page tables, areas and the reverse map when areas change and every page that was shown is still shown.
 use Rattle.std.proofs.Common.{◌≡◌, ℕ, ◌/◌, ◌+◌, List, [], ◌∷◌, Bool, true, false, not, ◌&&◌, cond, refl, sym, ap, subst, ◌∙◌, eq-eqb}
-use Rattle.std.specs.Prelude.{Option, Some, None, Result, Ok, Err, OnOk, OnErr, nat_le, ◌==◌, length}
+use Rattle.std.specs.Prelude.{Option, Some, None, Result, Ok, Err, OnOk, OnErr, nat_le, nat_lt, ◌==◌, length}
 use Rattle.std.specs.Option.{unwrap_or}
 use Rattle.std.specs.List.{flat_map}
 use Rattle.std.specs.List.Sorted.{IsStrictlySortedBy}
@@ -24,7 +24,7 @@ use Rattle.nm_types.specs.declared.machine_error.MachineError.{MachineError}
 use Rattle.nm_types.specs.declared.machine_error.MachineError.TheVariants as error
 use Rattle.nm_types.specs.Does.{Makes}
 use Rattle.nm_model.specs.definitions.Areas.{over_with, with_policy}
-use Rattle.nm_model.specs.definitions.Areas.{pages_of, repoliced}
+use Rattle.nm_model.specs.definitions.Areas.{repoliced}
 use Rattle.nm_model.specs.definitions.Areas.{Mapped}
 use Rattle.nm_model.specs.definitions.AreaRefusal.{first_error, is_range, is_room, is_stretch, insert_refusal, stretch_refusal, overlaps}
 use Rattle.nm_rmap.specs.Mappers.{Mappers}
@@ -143,16 +143,23 @@ from_makes (Err (error.Refused e)) old new after refusal f g h k = g h.1
 from_makes (Err error.HostMemory) old new after refusal f g h k = g h
 
 -- a policy that is set changes no frame
-place_policed : (m : Mapped) (pid address len : ℕ) (policy : Policy) → (with_policy m pid address len policy).place ≡ m.place
-place_policed m pid address len policy =
-    let n : Mapped = record m { areas = flat_map (repoliced pid (address / 4096) (address / 4096 + pages_of len) policy) m.areas } in
-    elim (len == 0) as (λ b. (cond b m n).place ≡ m.place) [ true ↦ refl | false ↦ refl ]
+place_policed : (m : Mapped) (pid first end : ℕ) (policy : Policy) → (with_policy m pid first end policy).place ≡ m.place
+place_policed m pid first end policy =
+    let n : Mapped = record m { areas = flat_map (repoliced pid first end policy) m.areas } in
+    elim (nat_lt first end) as (λ b. (cond b n m).place ≡ m.place) [ true ↦ refl | false ↦ refl ]
 
-pub policed_still : {T E : Type 0} (m n : Mapped) (pid address len : ℕ) (policy : Policy) (result : Result T E) → OnOk result (n ≡ with_policy m pid address len policy) → OnErr result (n ≡ m)
+pub policed_still : {T E : Type 0} (m n : Mapped) (pid first end : ℕ) (policy : Policy) (result : Result T E) → OnOk result (n ≡ with_policy m pid first end policy) → OnErr result (n ≡ m)
     → ((q v : ℕ) → page_at n.areas q v ≡ page_at m.areas q v) → IsShownStill m n
-policed_still m n pid address len policy (Ok x) made kept same =
-    record { place = ap (λ (n : Mapped). n.place) made ∙ place_policed m pid address len policy; pages = λ q v p k. same q v ∙ k }
-policed_still m n pid address len policy (Err e) made kept same = still_same m n kept
+policed_still m n pid first end policy (Ok x) made kept same =
+    record { place = ap (λ (n : Mapped). n.place) made ∙ place_policed m pid first end policy; pages = λ q v p k. same q v ∙ k }
+policed_still m n pid first end policy (Err e) made kept same = still_same m n kept
+
+-- the same for a call that may refuse
+pub made_still : {T : Type 0} (m n : Mapped) (pid first end : ℕ) (policy : Policy) (refusal : Option Errno) (result : Result T MachineError) → Makes result m n refusal (with_policy m pid first end policy)
+    → ((q v : ℕ) → page_at n.areas q v ≡ page_at m.areas q v) → IsShownStill m n
+made_still m n pid first end policy refusal (Ok x) made same = policed_still {E = Errno} m n pid first end policy (Ok x) made.1 tt same
+made_still m n pid first end policy refusal (Err (error.Refused e)) made same = still_same m n made.1
+made_still m n pid first end policy refusal (Err error.HostMemory) made same = still_same m n made
 
 -- what is seen where a policy is set
 pub policed_seen : {T E : Type 0} (x y : AddressSpacesView) (m : Mapped) (result : Result T E) → x ≡ with_mapped y (mapped_of x) → OnOk result (mapped_of x ≡ m) → OnOk result (x ≡ with_mapped y m)

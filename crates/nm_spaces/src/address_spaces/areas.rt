@@ -1,6 +1,6 @@
 //! Adding, splitting and removing areas of address spaces.
 
-ghost use Rattle.std.specs.Prelude.{ℕ, true, false, ◌≡◌, ◌<◌, ◌≤◌, ◌-◌, ◌*◌, ◌⊎◌, [], length, None, Some, Err, IfOk, OnOk, OnErr};
+ghost use Rattle.std.specs.Prelude.{ℕ, true, false, ◌≡◌, ◌<◌, ◌≤◌, ◌+◌, ◌/◌, ◌⊎◌, [], length, None, Some, Err, IfOk, OnOk, OnErr};
 ghost use Rattle.std.specs.List.{AllByRecursion, list_any};
 ghost use Rattle.std.specs.Map.{keys_of};
 ghost use Rattle.std.specs.Ordering.{nat_cmp};
@@ -9,8 +9,8 @@ ghost use Rattle.nm_types.specs.Map.{get, without};
 ghost use Rattle.nm_types.specs.State.{Process, page_at};
 ghost use Rattle.nm_types.specs.Does.{Makes};
 ghost use Rattle.nm_areas.specs.Splits.{HasSplit};
-ghost use Rattle.nm_model.specs.definitions.Areas.{inserted, attached, with_policy};
-ghost use Rattle.nm_model.specs.definitions.AreaRefusal.{insert_refusal, stretch_refusal, overlaps};
+ghost use Rattle.nm_model.specs.definitions.Areas.{inserted, attached, pages_of, with_policy};
+ghost use Rattle.nm_model.specs.definitions.AreaRefusal.{insert_refusal, stretch_refusal, range_refusal, overlaps};
 ghost use Rattle.nm_model.specs.definitions.Areas.{frames_lost};
 ghost use Rattle.nm_model.specs.definitions.Effect.{shows_pinned};
 ghost use Rattle.nm_model.specs.definitions.PageTables.{entry_at};
@@ -70,9 +70,34 @@ impl<A: Allocator + Copy> AddressSpaces<A> {
         parts.areas.attach(pid, addr, segment, offset, pages)
     }
 
+    /// Sets the policy of the whole pages of `len` bytes of a process from address `addr` on.
+    pub fn set_policy(
+        &mut self,
+        pid: Pid,
+        addr: u64,
+        len: u64,
+        policy: Policy,
+    ) -> Result<(), MachineError>
+        // The result and the areas
+        ensures done { Makes result (mapped_of self.old) (mapped_of self.new)
+            (range_refusal (mapped_of self.old) pid addr len)
+            (with_policy (mapped_of self.old) pid (addr / 4096) (addr / 4096 + pages_of len) policy) }
+        ensures memory { result ≡ Err MachineError.HostMemory →
+            range_refusal (mapped_of self.old) pid addr len ≡ None }
+        ensures asked { result ≡ Err MachineError.HostMemory →
+            HasSplit self.old.areas pid (addr / 4096)
+            ⊎ HasSplit self.old.areas pid (addr / 4096 + pages_of len) }
+
+        // Nothing else changes
+        ensures same { self.new ≡ with_mapped self.old (mapped_of self.new) }
+    {
+        let parts = &mut *self.parts;
+        parts.areas.split_policy(pid, addr, len, policy)
+    }
+
     /// Sets the policy of a range of page numbers of a process, and of no others. An error means that nothing has
     /// changed.
-    pub fn set_policy(
+    pub fn set_range_policy(
         &mut self,
         pid: Pid,
         range: PageRange,
@@ -82,8 +107,7 @@ impl<A: Allocator + Copy> AddressSpaces<A> {
         ensures ok { OnOk result
             (self.new
             ≡ with_mapped self.old
-            (with_policy (mapped_of self.old) pid (4096 * range.first)
-            (4096 * (range.end - range.first)) policy)) }
+            (with_policy (mapped_of self.old) pid range.first range.end policy)) }
 
         // Without memory
         ensures err { OnErr result (self.new ≡ self.old) }
@@ -92,7 +116,7 @@ impl<A: Allocator + Copy> AddressSpaces<A> {
             (HasSplit self.old.areas pid range.first ⊎ HasSplit self.old.areas pid range.end) }
     {
         let parts = &mut *self.parts;
-        parts.areas.set_policy(pid, range, policy)
+        parts.areas.set_range_policy(pid, range, policy)
     }
 
     /// Whether an area of a process shows a page with a pin from one page number up to another. Walks once over the

@@ -4,7 +4,7 @@ use Rattle.nm_types.specs.Layout.{node_count}
 use Rattle.nm_types.specs.State.{State}
 use Rattle.nm_model.specs.definitions.Areas.{with_policy}
 use Rattle.nm_model.specs.definitions.Cut.{Stretch}
-use Rattle.nm_model.specs.definitions.Effect.{areas_of, set_policy, with_areas_of}
+use Rattle.nm_model.specs.definitions.Effect.{areas_of, set_range_policy, with_areas_of}
 use Rattle.nm_model.specs.definitions.Run.{runs_from}
 use Rattle.nm_calls.specs.definitions.Mbind.{home_of, is_stray, is_strict, mbind_runs, runs_by}
 use Rattle.nm_calls.specs.definitions.Permission.{info_at, moves_all}
@@ -41,7 +41,7 @@ returns-in-Err-clause-asked g c = λ runs policy_set is.
     let limit = c.args.limit in
     let way = c.in_ok-way.way in
     let made : 0 < length (runs_in limit c.set_range_policy.new.self way) = stops_some true c.in-Err.error _ _ _ c.in-Err.ensures in
-    let m = with_policy (areas_of s) b.pid (4096 * b.first) (4096 * (b.end - b.first)) b.policy in
+    let m = with_policy (areas_of s) b.pid b.first b.end b.policy in
     let by = ap (λ (t : State). length (runs_in limit t way)) c.in_ok-set_range_policy.ensures.ok
     ∙ ap length (c.in_ok-way.ensures.runs limit m) in
     let some = runs_some limit (with_areas_of s m) b.policy c.args.asked.home b.pid c.moves_all-all.result c.as_slice.result.now (subst (λ n. 0 < n) by made) in
@@ -54,9 +54,9 @@ returns-in-Err-clause-bound g c =
     let flags = c.args.asked.flags in
     let limit = c.args.limit in
     let way = c.in_ok-way.way in
-    let set = set_policy s b.pid (4096 * b.first) (4096 * (b.end - b.first)) b.policy in
+    let set = set_range_policy s b.pid b.first b.end b.policy in
     let home = home_of (info_at s b.pid) in
-    let runs = c.in_ok-way.ensures.runs limit (with_policy (areas_of s) b.pid (4096 * b.first) (4096 * (b.end - b.first)) b.policy)
+    let runs = c.in_ok-way.ensures.runs limit (with_policy (areas_of s) b.pid b.first b.end b.policy)
     ∙ ap (λ h. runs_by limit set b.policy h b.pid c.moves_all-all.result c.as_slice.result.now) c.requires.home
     ∙ ap (λ all. runs_by limit set b.policy home b.pid all c.as_slice.result.now) (flag_is _ _ c.moves_all-all.ensures)
     ∙ ap (runs_by limit set b.policy home b.pid (moves_all flags)) (c.as_slice.ensures.value ∙ c.in_ok-pages.ensures.list) in
@@ -70,9 +70,9 @@ returns-then-is_late-clause-bound g c =
     let flags = c.args.asked.flags in
     let limit = c.args.limit in
     let way = c.in_ok-way.way in
-    let set = set_policy s b.pid (4096 * b.first) (4096 * (b.end - b.first)) b.policy in
+    let set = set_range_policy s b.pid b.first b.end b.policy in
     let home = home_of (info_at s b.pid) in
-    let runs = c.in_ok-way.ensures.runs limit (with_policy (areas_of s) b.pid (4096 * b.first) (4096 * (b.end - b.first)) b.policy)
+    let runs = c.in_ok-way.ensures.runs limit (with_policy (areas_of s) b.pid b.first b.end b.policy)
     ∙ ap (λ h. runs_by limit set b.policy h b.pid c.moves_all-all.result c.as_slice.result.now) c.requires.home
     ∙ ap (λ all. runs_by limit set b.policy home b.pid all c.as_slice.result.now) (flag_is _ _ c.moves_all-all.ensures)
     ∙ ap (runs_by limit set b.policy home b.pid (moves_all flags)) (c.as_slice.ensures.value ∙ c.in_ok-pages.ensures.list) in
@@ -90,9 +90,9 @@ returns-clause-bound g c =
     let flags = c.args.asked.flags in
     let limit = c.args.limit in
     let way = c.in_ok-way.way in
-    let set = set_policy s b.pid (4096 * b.first) (4096 * (b.end - b.first)) b.policy in
+    let set = set_range_policy s b.pid b.first b.end b.policy in
     let home = home_of (info_at s b.pid) in
-    let runs = c.in_ok-way.ensures.runs limit (with_policy (areas_of s) b.pid (4096 * b.first) (4096 * (b.end - b.first)) b.policy)
+    let runs = c.in_ok-way.ensures.runs limit (with_policy (areas_of s) b.pid b.first b.end b.policy)
     ∙ ap (λ h. runs_by limit set b.policy h b.pid c.moves_all-all.result c.as_slice.result.now) c.requires.home
     ∙ ap (λ all. runs_by limit set b.policy home b.pid all c.as_slice.result.now) (flag_is _ _ c.moves_all-all.ensures)
     ∙ ap (runs_by limit set b.policy home b.pid (moves_all flags)) (c.as_slice.ensures.value ∙ c.in_ok-pages.ensures.list) in
@@ -129,7 +129,7 @@ returns-in_err-set_range_policy-clause-bound g c =
     let s = c.args.machine.now in
     let b = c.args.binding.now in
     let flags = c.args.asked.flags in
-    let set = set_policy s b.pid (4096 * b.first) (4096 * (b.end - b.first)) b.policy in
+    let set = set_range_policy s b.pid b.first b.end b.policy in
     let r = c.from_residual-in_err-set_range_policy.result in
     subst (λ (t : State). Binds r s set t b (mbind_runs c.args.limit set b flags) flags) (sym c.in_err-set_range_policy.ensures.err) (none_bound r s set b (mbind_runs c.args.limit set b flags) flags c.from_residual-in_err-set_range_policy.ensures.1)
 

@@ -1,19 +1,17 @@
 use Rattle.std.proofs.Common.{◌≡◌, ◌<◌, ◌+◌, ◌-◌, ◌*◌, ◌/◌, ◌⊎◌, ℕ, true, Some, refl, ap, subst, arith}
 use Rattle.nm_types.specs.State.{State}
-use Rattle.nm_model.specs.definitions.Effect.{areas_of, set_policy, with_areas_of}
+use Rattle.nm_model.specs.definitions.Effect.{set_range_policy}
 use Rattle.nm_calls.specs.declared.mbind.Binding.{Binding}
 use Rattle.nm_steps.specs.Calls.{Mbind}
 use Rattle.nm_calls.specs.definitions.Answers.{Failed}
 use Rattle.nm_calls.specs.definitions.Systems.{SystemState, in_state}
 use Rattle.nm_areas.specs.Splits.{HasSplit}
-use Rattle.nm_model.specs.definitions.Areas.{pages_of}
-use Rattle.nm_calls.specs.definitions.Mbind.{mbind_runs, moves, policy_asked, range_of}
+use Rattle.nm_calls.specs.definitions.Mbind.{mbind_runs, moves}
 use Rattle.nm_calls.specs.definitions.Memory.{MayAllocate}
 use Rattle.nm_calls.specs.definitions.Does.{Does}
 use Rattle.nm_calls.specs.views.Runs.{Binds}
 use Rattle.nm_calls.specs.definitions.Mbind.{mbind_refusal}
 use Rattle.nm_calls.specs.definitions.Outcome.{outcome}
-use Rattle.nm_areas.proofs.InBytes.{of_bytes}
 use Rattle.nm_calls.proofs.Policies.Results.{binds_does, refuses_mbind}
 use Rattle.nm_calls.proofs.Policies.NoBytes.{nothing_bound}
 use Rattle.nm_calls.proofs.system.System.mbind.Goals as goal
@@ -26,16 +24,11 @@ returns-clause-done g c =
     let new = c.bind.new.machine in
     let y : SystemState = record { state = s; run_limit = limit } in
     let call = Mbind x.caller x.addr x.len x.mode x.nodes x.flags in
-    let policy = policy_asked s x.caller x.mode x.nodes in
-    let end = x.addr / 4096 + pages_of x.len in
-    let set = λ (b : Binding). set_policy s b.pid (4096 * b.first) (4096 * (b.end - b.first)) b.policy in
+    let set = λ (b : Binding). set_range_policy s b.pid b.first b.end b.policy in
     let bound = subst (λ (f : ℕ). Binds c.bind.result s (set c.in_ok-asked.binding) new c.in_ok-asked.binding (mbind_runs limit (set c.in_ok-asked.binding) c.in_ok-asked.binding f) f) c.in_ok-asked.ensures.flags c.bind.ensures.bound in
     let asked = subst (λ (b : Binding). Binds c.bind.result s (set b) new b (mbind_runs limit (set b) b x.flags) x.flags) c.in_ok-asked.ensures.binding bound in
-    let range = range_of x.caller x.addr x.len policy in
-    let whole = subst (λ (t : State). Binds c.bind.result s t new range (mbind_runs limit t range x.flags) x.flags)
-    (ap (with_areas_of s) (of_bytes (areas_of s) x.caller policy x.addr x.len (x.addr / 4096) end refl refl)) asked in
     subst (λ (z : SystemState). Does (λ done. Failed 0) c.bind.result z (in_state y new) call) c.self.view_is
-    (binds_does y x.caller x.addr x.len x.mode x.nodes x.flags c.bind.result new c.in_ok-asked.ensures.exact whole)
+    (binds_does y x.caller x.addr x.len x.mode x.nodes x.flags c.bind.result new c.in_ok-asked.ensures.exact asked)
 
 pub returns-in_err-asked-clause-done : goal.returns-in_err-asked-clause-done
 returns-in_err-asked-clause-done g c = let x = c.args.request.now in refuses_mbind c.args.self.now x.caller x.addr x.len x.mode x.nodes x.flags c.from_residual.result c.in_err-asked.field-0.0 (subst (λ (z : SystemState). mbind_refusal z.state x.caller x.addr x.len x.mode x.nodes x.flags ≡ Some c.in_err-asked.field-0.0) c.self.view_is c.in_err-asked.ensures.exact) c.from_residual.ensures

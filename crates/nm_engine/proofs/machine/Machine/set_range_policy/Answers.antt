@@ -1,9 +1,9 @@
-use Rattle.std.proofs.Common.{◌≡◌, ◌-◌, ◌*◌, ℕ, List, sym, ap, subst, ◌∙◌}
+use Rattle.std.proofs.Common.{◌≡◌, ℕ, List, sym, ap, subst, ◌∙◌}
 use Rattle.std.specs.Prelude.{Result, Ok, Err, OnOk}
 use Rattle.nm_types.specs.declared.area.Policy.{Policy}
 use Rattle.nm_types.specs.State.{State}
 use Rattle.nm_model.specs.definitions.Areas.{with_policy}
-use Rattle.nm_model.specs.definitions.Effect.{set_policy}
+use Rattle.nm_model.specs.definitions.Effect.{set_range_policy}
 use Rattle.nm_spaces.specs.views.AddressSpaces.{AddressSpacesView, mapped_of, with_mapped}
 use Rattle.nm_memory.specs.views.Frames.{FramesView}
 use Rattle.nm_engine.specs.views.Shown.{shown_by}
@@ -17,20 +17,20 @@ invariant_of-self g c =
     let i = c.self.inside in
     let a = c.args in
     record {
-      kept = on_either c.set_policy.result c.set_policy.ensures.ok c.set_policy.ensures.err
-          (λ new. kept_policed i.spaces c.set_policy.new.self i.frames i.online i.totals.moved i.totals.failed c.self.invariant.kept a.pid (4096 * a.range.first) (4096 * (a.range.end - a.range.first)) a.policy new)
+      kept = on_either c.set_range_policy.result c.set_range_policy.ensures.ok c.set_range_policy.ensures.err
+          (λ new. kept_policed i.spaces c.set_range_policy.new.self i.frames i.online i.totals.moved i.totals.failed c.self.invariant.kept a.pid a.range.first a.range.end a.policy new)
           (λ same. subst (λ (y : AddressSpacesView). IsKept (shown_by y i.frames i.online i.totals.moved i.totals.failed) i.frames.vacated y.frames) (sym same) c.self.invariant.kept);
       none = c.self.invariant.none;
     }
 
 -- what the machine's state is where the address spaces have the policy
-shown : {T E : Type 0} (r : Result T E) (y z : AddressSpacesView) (k : FramesView) (online : List ℕ) (moved failed : ℕ) (s : State) (pid address len : ℕ) (policy : Policy) → shown_by y k online moved failed ≡ s
-    → OnOk r (z ≡ with_mapped y (with_policy (mapped_of y) pid address len policy)) → OnOk r (shown_by z k online moved failed ≡ set_policy s pid address len policy)
-shown (Ok value) y z k online moved failed s pid address len policy is now = ap (λ (w : AddressSpacesView). shown_by w k online moved failed) now ∙ ap (λ (t : State). set_policy t pid address len policy) is
-shown (Err e) y z k online moved failed s pid address len policy is now = tt
+shown : {T E : Type 0} (r : Result T E) (y z : AddressSpacesView) (k : FramesView) (online : List ℕ) (moved failed : ℕ) (s : State) (pid first end : ℕ) (policy : Policy) → shown_by y k online moved failed ≡ s
+    → OnOk r (z ≡ with_mapped y (with_policy (mapped_of y) pid first end policy)) → OnOk r (shown_by z k online moved failed ≡ set_range_policy s pid first end policy)
+shown (Ok value) y z k online moved failed s pid first end policy is now = ap (λ (w : AddressSpacesView). shown_by w k online moved failed) now ∙ ap (λ (t : State). set_range_policy t pid first end policy) is
+shown (Err e) y z k online moved failed s pid first end policy is now = tt
 
 pub returns-clause-ok : goal.returns-clause-ok
 returns-clause-ok g c =
     let i = c.self.inside in
     let a = c.args in
-    shown c.set_policy.result i.spaces c.set_policy.new.self i.frames i.online i.totals.moved i.totals.failed a.self.now a.pid (4096 * a.range.first) (4096 * (a.range.end - a.range.first)) a.policy c.self.view_is c.set_policy.ensures.ok
+    shown c.set_range_policy.result i.spaces c.set_range_policy.new.self i.frames i.online i.totals.moved i.totals.failed a.self.now a.pid a.range.first a.range.end a.policy c.self.view_is c.set_range_policy.ensures.ok

@@ -1,5 +1,7 @@
 use Rattle.std.proofs.Common.{◌≡◌, ◌+◌, ◌-◌, ◌<◌, ℕ, ap, sym, subst, ◌∙◌, arith}
+use Rattle.std.specs.Prelude.{if◌then◌else◌}
 use Rattle.std.specs.List.{flat_map}
+use Rattle.std.proofs.lemmas.Bool.{lt-ltb}
 use Rattle.nm_types.specs.declared.area.Segment.{Segment}
 use Rattle.nm_types.specs.Map.{Map}
 use Rattle.nm_types.specs.State.{page_at}
@@ -9,8 +11,7 @@ use Rattle.nm_model.specs.definitions.Areas.{Mapped, mapped, repoliced}
 use Rattle.nm_model.proofs.areas.Shown.{repoliced_shows}
 use Rattle.nm_model.proofs.areas.Policed.{policed_mapped}
 use Rattle.nm_areas.proofs.Covered.{was_policed}
-use Rattle.nm_areas.proofs.InBytes.{of_some}
-use Rattle.nm_areas.proofs.areas.Areas.set_policy.Goals as goal
+use Rattle.nm_areas.proofs.areas.Areas.set_range_policy.Goals as goal
 
 pub invariant_of-self-in-Ok : goal.invariant_of-self-in-Ok
 invariant_of-self-in-Ok g c =
@@ -40,4 +41,4 @@ returns-in-Ok-clause-ok g c =
     let end = a.range.end in
     ap (λ (t : Table). mapped t c.self.inside.places.entries) c.in-Ok.ensures.ok
     ∙ ap (λ (m : Mapped). record m { areas = flat_map (repoliced a.pid first end a.policy) m.areas }) c.self.view_is
-    ∙ sym (of_some a.self.now a.pid a.policy first end (omega (arith, c.if-number.true, c.number.ensures, c.number-2.ensures)))
+    ∙ sym (ap (λ b. if b then record (a.self.now) { areas = flat_map (repoliced a.pid first end a.policy) a.self.now.areas } else a.self.now) (lt-ltb first end (omega (arith, c.if-number.true, c.number.ensures, c.number-2.ensures))))
