@@ -5,15 +5,17 @@ ghost use Rattle.nm_types.specs.State.{Placed, area_over};
 ghost use Rattle.nm_types.specs.Does.{Makes};
 ghost use Rattle.nm_model.specs.definitions.Areas.{no_areas, new_area, inserted, attached, over_with};
 ghost use Rattle.nm_model.specs.definitions.Areas.{is_shared};
+ghost use Rattle.nm_areas.specs.Lines.{line_of};
 ghost use Rattle.nm_model.specs.definitions.Areas.{IsMapped};
 ghost use Rattle.nm_model.specs.definitions.AreaRefusal.{insert_refusal, stretch_refusal};
 
 use crate::area_table::{AreaTable, new_area};
 use crate::counting::{count_in, count_out};
+use crate::lines::{Area, line_of};
 use crate::ranges::PageRange;
 use nm_counts::Steps;
 use nm_types::limits::MAX_SEGMENTS;
-use nm_types::{Area, Errno, FrameId, MachineError, Page, Pid, Vpn};
+use nm_types::{Errno, FrameId, MachineError, Page, Pid, Vpn};
 use std::alloc::Allocator;
 use std::collections::BTreeMap;
 use std::marker::Model;
@@ -54,9 +56,19 @@ impl<A: Allocator + Copy> Areas<A> {
         }
     }
 
-    /// The area of a process that covers a page number, with the area's first page number. None if no area does. The
-    /// result holds for all of the area's page numbers, so callers may keep it for those.
-    pub fn find(&self, pid: Pid, vpn: Vpn) -> Option<(Vpn, Area)>
+    /// The area of a process that covers a page number. None if no area does. Looks up the area and its segment.
+    pub fn find(&self, pid: Pid, vpn: Vpn) -> Option<Area>
+        ensures { result
+            ≡ option_map (line_of self.now.segments) (area_over self.now.areas pid vpn) }
+    {
+        let (first, area) = self.table.over(pid, vpn)?;
+        Some(line_of(&self.table.segments, first, area))
+    }
+
+    /// The same as it is kept, with its first page number: for callers to whom it is all one whether its segment is
+    /// shared, which this does not look up. The result holds for all of the area's page numbers, so callers may keep it
+    /// for those.
+    pub fn over(&self, pid: Pid, vpn: Vpn) -> Option<(Vpn, nm_types::Area)>
         ensures found { option_map {U = Placed} (λ found. ((pid, found.0), found.1)) result
             ≡ area_over self.now.areas pid vpn }
         ensures over { IfSome result

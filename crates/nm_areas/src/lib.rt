@@ -14,5 +14,5 @@ mod split;
 mod unmap;
 
 pub use areas::Areas;
-pub use lines::Line;
+pub use lines::Area;
 pub use ranges::PageRange;

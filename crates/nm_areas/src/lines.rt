@@ -1,4 +1,4 @@
-//! The list of a process's areas.
+//! The areas of a process, as callers see them.
 
 ghost use Rattle.std.specs.Prelude.{◌≡◌, ◌<◌, length, IfOk, OnErr};
 ghost use Rattle.std.specs.List.{AllByRecursion};
@@ -9,13 +9,13 @@ ghost use Rattle.nm_model.specs.definitions.Areas.{EndsLow, IsSomePages};
 use crate::areas::Areas;
 use crate::scan::step_area;
 use nm_types::limits::PAGE_NUMBERS;
-use nm_types::{Area, Page, Pid, Policy, Segment, Vpn};
+use nm_types::{Page, Pid, Policy, Segment, Vpn};
 use std::alloc::{AllocError, Allocator};
 use std::collections::BTreeMap;
 
 /// An area of a process.
 #[derive(Clone, Copy, Debug, PartialEq, Eq)]
-pub struct Line {
+pub struct Area {
     /// Its first page number: below 2^35.
     pub first: Vpn,
     /// Its length in pages: at least 1.
@@ -31,7 +31,7 @@ pub struct Line {
 impl<A: Allocator + Copy> Areas<A> {
     /// The areas of a process, in address order. Empty if it has none, or if there is no such process. An error means
     /// that the host is out of memory; an empty list takes none.
-    pub fn lines(&self, pid: Pid) -> Result<Vec<Line, A>, AllocError>
+    pub fn lines(&self, pid: Pid) -> Result<Vec<Area, A>, AllocError>
         ensures lines { IfOk result
             (λ lines. lines.items ≡ lines_of self.now.segments self.now.areas pid) }
         ensures asked { OnErr result (0 < length (lines_of self.now.segments self.now.areas pid)) }
@@ -44,9 +44,9 @@ impl<A: Allocator + Copy> Areas<A> {
 fn list_lines<A: Allocator + Copy>(
     alloc: A,
     segments: &BTreeMap<u32, Segment, A>,
-    areas: &BTreeMap<(Pid, Vpn), Area, A>,
+    areas: &BTreeMap<(Pid, Vpn), nm_types::Area, A>,
     pid: Pid,
-) -> Result<Vec<Line, A>, AllocError>
+) -> Result<Vec<Area, A>, AllocError>
     requires whole { AllByRecursion IsSomePages areas.now.entries }
     requires low { AllByRecursion EndsLow areas.now.entries }
     ensures lines { IfOk result
@@ -61,15 +61,15 @@ fn list_lines<A: Allocator + Copy>(
     Ok(lines)
 }
 
-/// An area that begins at a page number, and whether its segment is shared.
-fn line_of<A: Allocator + Copy>(
+/// An area that begins at a page number, with whether its segment is shared.
+pub(crate) fn line_of<A: Allocator + Copy>(
     segments: &BTreeMap<u32, Segment, A>,
     first: Vpn,
-    area: Area,
-) -> Line
+    area: nm_types::Area,
+) -> Area
     ensures { result ≡ line_of segments.now.entries ((0, first), area) }
 {
-    Line {
+    Area {
         first,
         pages: area.pages,
         policy: area.policy,

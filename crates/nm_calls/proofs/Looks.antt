@@ -1,9 +1,8 @@
 -- Looks at the address spaces that a machine lends.
 use Rattle.std.proofs.Common.{◌≡◌, ℕ, [], ap, sym, subst, ◌∙◌}
 use Rattle.nm_types.specs.Layout.{Layout}
-use Rattle.nm_types.specs.Map.{get, page_cmp}
 use Rattle.nm_types.specs.State.{State}
-use Rattle.nm_model.specs.definitions.Seen.{look, look_in, look_at_place, between, located_between, located_in, sights}
+use Rattle.nm_model.specs.definitions.Seen.{look, look_in, frame_and_pin, between, located_between, located_in, sights}
 use Rattle.nm_model.specs.definitions.Sound.{IsSound}
 use Rattle.nm_runs.specs.Shown.{ShowsItsFrames}
 use Rattle.nm_spaces.specs.views.AddressSpaces.{AddressSpacesView}
@@ -20,7 +19,7 @@ located_is s g y pid first end same e =
 
 -- they show frames of the machine alone
 pub lent_shows : (s : State) (y : AddressSpacesView) → IsSound s → y ≡ spaces_of s
-    → ShowsItsFrames s.layout (λ pid v. look_in y.processes y.areas y.place y.pins pid v) (λ p. look_at_place y.processes y.pins p (get page_cmp y.place p))
+    → ShowsItsFrames s.layout (λ pid v. look_in y.processes y.areas y.place y.pins pid v) (λ p. frame_and_pin y.place y.pins p)
 lent_shows s y sound e =
-    subst (λ (y : AddressSpacesView). ShowsItsFrames s.layout (λ pid v. look_in y.processes y.areas y.place y.pins pid v) (λ p. look_at_place y.processes y.pins p (get page_cmp y.place p)))
+    subst (λ (y : AddressSpacesView). ShowsItsFrames s.layout (λ pid v. look_in y.processes y.areas y.place y.pins pid v) (λ p. frame_and_pin y.place y.pins p))
     (sym e) (shows_its_frames s [] sound.frames)

@@ -7,7 +7,7 @@ ghost use Rattle.nm_calls.specs.definitions.Maps.{stretches, stretch_text, set_t
 ghost use Rattle.nm_calls.specs.views.Tally.{comma, told_on, nodes_text, tally_text};
 
 use crate::number_text::{push_address, push_number};
-use nm_areas::Line;
+use nm_areas::Area;
 use nm_engine::Machine;
 use nm_types::{Located, NodeId, NodeMask, Pid, Policy, Vpn};
 use std::alloc::{AllocError, Allocator};
@@ -141,7 +141,7 @@ fn count_pages<A: Allocator + Copy + Send + Sync>(
     alloc: A,
     machine: &Machine<A>,
     pid: Pid,
-    area: &Line,
+    area: &Area,
 ) -> Result<Tally, AllocError>
     requires { area.now.first + area.now.pages < 2 ^ 64 }
 
@@ -222,7 +222,7 @@ fn area_text<A: Allocator + Copy + Send + Sync>(
     alloc: A,
     machine: &Machine<A>,
     pid: Pid,
-    area: &Line,
+    area: &Area,
 ) -> Result<String<A>, AllocError>
     requires { area.now.first + area.now.pages < 2 ^ 64 }
     ensures { IfOk result (λ line. string_bytes line ≡ area_text machine.now pid area.now) }
@@ -241,9 +241,9 @@ pub(crate) fn areas_text<A: Allocator + Copy + Send + Sync>(
     alloc: A,
     machine: &Machine<A>,
     pid: Pid,
-    areas: &[Line],
+    areas: &[Area],
 ) -> Result<Vec<String<A>, A>, AllocError>
-    requires { All (λ (area : Line). area.first + area.pages < 2 ^ 64) areas.now }
+    requires { All (λ (area : Area). area.first + area.pages < 2 ^ 64) areas.now }
     ensures list { IfOk result
         (λ lines. lines_shown lines.items ≡ map (area_text machine.now pid) areas.now) }
     ensures asked { OnErr result (0 < length areas.now) }

@@ -18,7 +18,7 @@ use crate::listing::migrate_list;
 use crate::permission::{acted_on, names_missing_node, owner_of, usable};
 use nm_engine::{Machine, RunCrew};
 use nm_policy::pairs;
-use nm_runs::cut_within;
+use nm_runs::cut;
 use nm_steps::{InFlight, MigrateRequest};
 use nm_types::{Errno, NodeMask, Pid, ProcessInfo};
 use std::alloc::Allocator;
@@ -119,7 +119,7 @@ pub(crate) fn migrate<A: Allocator + Copy + Send + Sync, C: RunCrew<A>>(
 {
     let pairs = pairs(alloc, old, what.targets)?;
     let requests = migrate_list(alloc, machine, what.pid, what.all, pairs.as_slice())?;
-    let runs = cut_within(alloc, requests.as_slice(), limit)?;
+    let runs = cut(alloc, requests.as_slice(), limit)?;
     let statuses = Vec::with_capacity(alloc, requests.len())?;
     let none: [InFlight<A>; 0] = [];
     move_runs(

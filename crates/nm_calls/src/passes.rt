@@ -21,10 +21,10 @@ ghost use Rattle.nm_calls.specs.views.Runs.{Batches, MakesRuns, later, IsCounted
 use crate::batch::move_runs;
 use crate::call_error::CallError;
 use nm_engine::{Machine, RunCrew};
-use nm_runs::{Run, Wanted, cut_to};
+use nm_runs::{Run, Wanted};
 use nm_steps::InFlight;
 use nm_types::{Errno, NodeId, NodeMask, PageView, Seen};
-use std::alloc::Allocator;
+use std::alloc::{AllocError, Allocator};
 
 /// Makes runs, one after another, and returns the status of each request, in order. `count` is how many requests they
 /// have. Allocates before the first run starts, except for what a run itself needs. An error means that the host is out
@@ -83,6 +83,28 @@ fn put_without_frame<A: Allocator + Copy>(
     }
 }
 
+/// The runs of a pass, whose requests all go to one node, under a limit of at least 1: as `cut` of nm_runs cuts them,
+/// without a list of requests that each name the node. An error means that the host is out of memory; no requests take
+/// none.
+fn runs_to<A: Allocator + Copy>(
+    alloc: A,
+    target: NodeId,
+    wanted: &[Wanted],
+    limit: usize,
+) -> Result<Vec<Run<A>, A>, AllocError>
+    requires { 0 < limit }
+    ensures runs { IfOk result
+        (λ runs. stretches_of runs.items ≡ cut_within limit (all_to target wanted.now)) }
+    ensures asked { OnErr result (0 < length wanted.now) }
+{
+    let mut made = Vec::new(alloc);
+    for piece in wanted.chunks(limit) {
+        let wanted = Vec::from_slice(alloc, piece)?;
+        made.push(Run { target, wanted })?;
+    }
+    Ok(made)
+}
+
 /// Makes a pass: all requests go to one node. Allocates before its first run starts, except for what a run itself
 /// needs.
 fn make_pass<A: Allocator + Copy + Send + Sync, C: RunCrew<A>>(
@@ -100,7 +122,7 @@ fn make_pass<A: Allocator + Copy + Send + Sync, C: RunCrew<A>>(
         (λ pass ran. (pass.runs ≡ length (cut_within limit (all_to node wanted.now)))
         × (pass.left.items ≡ without_frame wanted.now ran.statuses)) }
 {
-    let runs = cut_to(alloc, node, wanted, limit)?;
+    let runs = runs_to(alloc, node, wanted, limit)?;
     let mut left = Vec::with_capacity(alloc, wanted.len())?;
     let statuses = make_runs(crew, alloc, machine, runs.as_slice(), wanted.len())?;
     put_without_frame(wanted, statuses.as_slice(), &mut left);
@@ -129,15 +151,17 @@ fn place_of<A: Allocator + Copy + Send + Sync>(
     ensures there { (node : ℕ) → StandsOn machine.now node wanted.now → result ≡ Some node }
     ensures alone { IfSome result (λ node. StandsOn machine.now node wanted.now) }
 {
-    let seen = match wanted {
-        Wanted::At { pid, vpn, .. } => machine.spaces().seen(*pid, *vpn),
-        Wanted::Whole(page) => machine.spaces().placed(*page),
-    };
-    match seen {
-        Seen::At { frame, .. } => Some(machine.geometry().node_of(frame)),
-        Seen::NoArea => None,
-        Seen::Absent => None,
-        Seen::Zero => None,
+    match wanted {
+        Wanted::At { pid, vpn, .. } => match machine.spaces().seen(*pid, *vpn) {
+            Seen::At { frame, .. } => Some(machine.geometry().node_of(frame)),
+            Seen::NoArea => None,
+            Seen::Absent => None,
+            Seen::Zero => None,
+        },
+        Wanted::Whole(page) => match machine.spaces().placed(*page) {
+            Some(place) => Some(machine.geometry().node_of(place.0)),
+            None => None,
+        },
     }
 }
 

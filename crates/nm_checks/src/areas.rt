@@ -1,4 +1,4 @@
-use nm_areas::{Areas, Line, PageRange};
+use nm_areas::{Area, Areas, PageRange};
 use nm_refusing::Refusing;
 use nm_types::{FrameId, MachineError, Page, Pid, Policy, Vpn};
 use std::alloc::Global;
@@ -70,8 +70,8 @@ fn perform<'a>(areas: &mut Areas<Heap<'a>>, call: Call, round: u16) -> Result<()
 /// The areas of processes 1 and 2, and the frame of a round's first page.
 #[derive(Drop)]
 struct Picture<'a> {
-    first: Vec<Line, Heap<'a>>,
-    second: Vec<Line, Heap<'a>>,
+    first: Vec<Area, Heap<'a>>,
+    second: Vec<Area, Heap<'a>>,
     frame: Option<FrameId>,
 }
 

@@ -54,7 +54,7 @@ impl ResolvedAddress {
             return Err(Errno::Einval);
         }
         let vpn = Vpn::of_address(addr);
-        let Some((first, area)) = spaces.areas().find(pid, vpn) else {
+        let Some((first, area)) = spaces.areas().over(pid, vpn) else {
             return Err(Errno::Efault);
         };
         let Page { segment, index } = area.page;

@@ -4,10 +4,10 @@ ghost use Rattle.std.specs.Prelude.{◌≡◌, ◌<◌, ◌^◌, length, map, If
 ghost use Rattle.nm_types.specs.Layout.{frame_count};
 ghost use Rattle.nm_model.specs.definitions.Status.{class_of_look};
 ghost use Rattle.nm_types.specs.declared.request.Class.{Class};
-ghost use Rattle.nm_runs.specs.Shown.{class_shown, HasFrameBelow, ShowsItsFrames};
+ghost use Rattle.nm_runs.specs.Shown.{class_of_place, class_shown, HasFrameBelow, ShowsItsFrames};
 
 use crate::{Class, Wanted};
-use nm_types::{Errno, Geometry, NodeId, PageView, Seen};
+use nm_types::{Errno, FrameId, Geometry, NodeId, Page, PageView, Seen};
 use std::alloc::{AllocError, Allocator};
 
 /// What to do with a request for what is seen here. A page that several processes see moves only if `all` is set.
@@ -44,6 +44,29 @@ fn class_of_look<A: Allocator + Copy>(
     }
 }
 
+/// What to do with a request for a page, which moves whoever sees it, from its frame and whether it has a pin.
+fn class_of_place<A: Allocator + Copy>(
+    geometry: &Geometry<A>,
+    target: NodeId,
+    page: Page,
+    placed: Option<(FrameId, bool)>,
+) -> Class
+    requires target { target < 2 ^ 31 }
+    requires frame { IfSome placed (λ place. place.0 < frame_count geometry.now) }
+    ensures { result ≡ class_of_place geometry.now target page placed }
+{
+    let Some((frame, pinned)) = placed else {
+        return Class::Status(-Errno::Enoent.number());
+    };
+    if geometry.node_of(frame) == target {
+        Class::Status(target.number() as i32)
+    } else if pinned {
+        Class::Status(-Errno::Ebusy.number())
+    } else {
+        Class::Move { page, from: frame }
+    }
+}
+
 /// What to do with a request, from a look at what it names.
 fn class_of<A: Allocator + Copy, V: PageView>(
     geometry: &Geometry<A>,
@@ -58,7 +81,7 @@ fn class_of<A: Allocator + Copy, V: PageView>(
 {
     match wanted {
         Wanted::At { pid, vpn, all } => class_of_look(geometry, target, all, view.seen(pid, vpn)),
-        Wanted::Whole(page) => class_of_look(geometry, target, true, view.placed(page)),
+        Wanted::Whole(page) => class_of_place(geometry, target, page, view.placed(page)),
     }
 }
 

@@ -2,9 +2,9 @@
 
 ghost use Rattle.std.specs.Prelude.{◌≡◌, ◌<◌, ◌≤◌, ◌==◌, ◌/◌, IfOk, OnErr, length, map, slice_index};
 ghost use Rattle.std.specs.List.{take_while};
-ghost use Rattle.nm_model.specs.definitions.Cut.{cut, wanted_of, same_front, IsFirst};
+ghost use Rattle.nm_model.specs.definitions.Cut.{wanted_of, same_front, IsFirst};
 ghost use Rattle.nm_runs.specs.Stretches.{stretches_of};
-ghost use Rattle.nm_model.specs.definitions.Cut.{all_to, cut_within, requests_of, run_count};
+ghost use Rattle.nm_model.specs.definitions.Cut.{cut_within, requests_of, run_count};
 ghost use Rattle.nm_types.specs.declared.request.Wanted.TheVariants.{At};
 
 use crate::{Request, Run, Wanted};
@@ -55,25 +55,11 @@ fn first_run<A: Allocator + Copy>(alloc: A, requests: &[Request]) -> Result<Run<
     })
 }
 
-/// The runs of a batch, in order: its longest stretches of requests for one node. A batch without requests has no runs.
-/// The caller has all runs before it starts the first, so memory for the list of a later run cannot be refused after
-/// pages have moved. Cuts with a limit as long as the batch, which shortens no stretch. An error means that the host is
-/// out of memory; a batch without requests takes none.
-pub fn cut<A: Allocator + Copy>(
-    alloc: A,
-    requests: &[Request],
-) -> Result<Vec<Run<A>, A>, AllocError>
-    ensures runs { IfOk result (λ runs. stretches_of runs.items ≡ cut requests.now) }
-    ensures asked { OnErr result (0 < length requests.now) }
-{
-    let whole = requests.len().max(1);
-    cut_within(alloc, requests, whole)
-}
-
 /// The runs of a batch under a limit of at least 1, in order: its longest stretches of requests for one node, each cut
-/// from its front into runs of at most `limit` requests. A batch without requests has no runs. An error means that the
-/// host is out of memory; a batch without requests takes none.
-pub fn cut_within<A: Allocator + Copy>(
+/// from its front into runs of at most `limit` requests. A batch without requests has no runs. The caller has all runs
+/// before it starts the first, so memory for the list of a later run cannot be refused after pages have moved. An error
+/// means that the host is out of memory; a batch without requests takes none.
+pub fn cut<A: Allocator + Copy>(
     alloc: A,
     requests: &[Request],
     limit: usize,
@@ -92,27 +78,6 @@ pub fn cut_within<A: Allocator + Copy>(
         runs.push(run)?;
     }
     Ok(runs)
-}
-
-/// The runs of requests that all go to one node under a limit of at least 1, as `cut_within` cuts them. An error means
-/// that the host is out of memory; no requests take none.
-pub fn cut_to<A: Allocator + Copy>(
-    alloc: A,
-    target: NodeId,
-    wanted: &[Wanted],
-    limit: usize,
-) -> Result<Vec<Run<A>, A>, AllocError>
-    requires { 0 < limit }
-    ensures runs { IfOk result
-        (λ runs. stretches_of runs.items ≡ cut_within limit (all_to target wanted.now)) }
-    ensures asked { OnErr result (0 < length wanted.now) }
-{
-    let mut made = Vec::new(alloc);
-    for piece in wanted.chunks(limit) {
-        let wanted = Vec::from_slice(alloc, piece)?;
-        made.push(Run { target, wanted })?;
-    }
-    Ok(made)
 }
 
 /// How many nodes at the front are the same as the first.
@@ -187,7 +152,7 @@ fn first_pages<A: Allocator + Copy>(
     })
 }
 
-/// The runs of a batch of pages of a process under a limit of at least 1, as `cut_within` cuts their requests. The pages
+/// The runs of a batch of pages of a process under a limit of at least 1, as `cut` cuts their requests. The pages
 /// are named by an address in each, and each goes to the node at the same index. An error means that the host is out of
 /// memory; no pages take none.
 pub fn cut_pages<A: Allocator + Copy>(

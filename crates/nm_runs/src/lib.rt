@@ -9,7 +9,7 @@ mod parallel;
 
 pub use check::check_batch;
 pub use classes::classes_of;
-pub use cutting::{cut, cut_pages, cut_to, cut_within, run_count};
+pub use cutting::{cut, cut_pages, run_count};
 use nm_types::NodeId;
 pub use nm_types::{Class, Request, Wanted};
 pub use parallel::classify;

@@ -109,7 +109,7 @@ impl<A: Allocator + Copy> AddressSpaces<A> {
         ensures { result ≡ page_at self.now.areas pid vpn }
     {
         let parts = &*self.parts;
-        let (first, area) = parts.areas.find(pid, vpn)?;
+        let (first, area) = parts.areas.over(pid, vpn)?;
         Some(page_in(first, &area, vpn))
     }
 
@@ -303,12 +303,11 @@ impl<A: Allocator + Copy> AddressSpaces<A> {
 }
 
 impl<A: Allocator + Copy> PageView for AddressSpaces<A> {
-    ghost use Rattle.nm_types.specs.Map.{get, page_cmp};
-    ghost use Rattle.nm_model.specs.definitions.Seen.{look_in, look_at_place};
+    ghost use Rattle.nm_model.specs.definitions.Seen.{look_in, frame_and_pin};
 
     ghost seen_at = { λ y pid v. look_in y.processes y.areas y.place y.pins pid v };
 
-    ghost placed_at = { λ y p. look_at_place y.processes y.pins p (get page_cmp y.place p) };
+    ghost placed_at = { λ y p. frame_and_pin y.place y.pins p };
 
     /// Looks up the area over the page number once.
     fn seen(&self, pid: Pid, vpn: Vpn) -> Seen {
@@ -325,11 +324,11 @@ impl<A: Allocator + Copy> PageView for AddressSpaces<A> {
         }
     }
 
-    fn placed(&self, page: Page) -> Seen {
+    fn placed(&self, page: Page) -> Option<(FrameId, bool)> {
         let parts = &*self.parts;
         match parts.areas.page_frame(page) {
-            None => Seen::Absent,
-            Some(frame) => self.look_at(page, frame),
+            None => None,
+            Some(frame) => Some((frame, parts.rmap.pins(frame) > 0)),
         }
     }
 }

@@ -35,7 +35,7 @@ fn begins(areas: &Areas<Global>, numbers: &[u64]) -> Result<bool, AllocError> {
 /// The length in pages of the area of a process that covers a page number.
 fn pages_over(areas: &Areas<Global>, pid: u32, vpn: u64) -> Option<u64> {
     match areas.find(Pid::new(pid), Vpn::new(vpn)) {
-        Some((_, area)) => Some(area.pages),
+        Some(area) => Some(area.pages),
         None => None,
     }
 }

@@ -2,8 +2,7 @@ ghost use Rattle.std.specs.Prelude.{◌≡◌, IfOk};
 ghost use Rattle.nm_types.specs.Layout.{frame_count};
 
 use nm_runs::{
-    Class, Request, Run, Wanted, check_batch, classes_of, classify, cut, cut_pages, cut_to,
-    cut_within, laws, run_count,
+    Class, Request, Run, Wanted, check_batch, classes_of, classify, cut, cut_pages, laws, run_count,
 };
 use nm_types::{Errno, FrameId, Geometry, NodeId, NodeMask, Page, PageView, Pid, Seen, Vpn};
 use std::alloc::{AllocError, Global};
@@ -49,14 +48,14 @@ fn runs_within(
     limit: usize,
 ) -> Result<Vec<(u32, usize)>, AllocError> {
     assert!(rt; limit > 0);
-    let runs = cut_within(alloc, requests(alloc, targets)?.as_slice(), limit)?;
+    let runs = cut(alloc, requests(alloc, targets)?.as_slice(), limit)?;
     assert!(rt; run_count(targets, limit) == runs.len());
     told(alloc, runs.as_slice())
 }
 
 /// Whether a batch for these nodes has these runs, each given as a node and a number of requests.
 fn are_runs(alloc: Global, targets: &[u32], want: &[(u32, usize)]) -> Result<bool, AllocError> {
-    let runs = cut(alloc, requests(alloc, targets)?.as_slice())?;
+    let runs = cut(alloc, requests(alloc, targets)?.as_slice(), 16384)?;
     Ok(told(alloc, runs.as_slice())?.as_slice() == want)
 }
 
@@ -109,31 +108,6 @@ fn pages_are_cut_by_their_nodes(rt: HostRuntime) -> Result<(), Fail> {
     Ok(())
 }
 
-/// Whether requests for these pages, all to go to one node, have these runs under a limit of 2.
-fn are_runs_to(alloc: Global, pages: &[Wanted], want: &[&[Wanted]]) -> Result<bool, AllocError> {
-    let node = NodeId::new(5);
-    let runs = cut_to(alloc, node, pages, 2)?;
-    Ok(
-        runs.iter()
-            .map(|run| (run.target, run.wanted.as_slice()))
-            .eq(want.iter().map(|pages| (node, *pages))),
-    )
-}
-
-#[test]
-fn requests_for_one_node_are_cut(rt: HostRuntime) -> Result<(), Fail> {
-    let pages = [16u64, 20, 18].map(|number| Wanted::At {
-        pid: Pid::new(7),
-        vpn: Vpn::new(number),
-        all: false,
-    });
-    let pages = pages.as_slice();
-    assert!(rt; are_runs_to(rt.alloc(), pages, &[&pages[..2], &pages[2..]])?);
-    assert!(rt; are_runs_to(rt.alloc(), &pages[..2], &[&pages[..2]])?);
-    assert!(rt; are_runs_to(rt.alloc(), &[], &[])?);
-    Ok(())
-}
-
 #[test]
 fn runs_are_counted(rt: HostRuntime) {
     let short = [1u32, 1, 1, 0];
@@ -160,7 +134,7 @@ fn laws_are_called() {
 /// Whether the runs of a batch, joined, have the requests of the batch in order.
 fn keep_their_order(alloc: Global, targets: &[u32]) -> Result<bool, AllocError> {
     let asked = requests(alloc, targets)?;
-    let runs = cut(alloc, asked.as_slice())?;
+    let runs = cut(alloc, asked.as_slice(), 16384)?;
     Ok(
         runs.iter()
             .flat_map(|run| run.wanted.iter())
@@ -200,12 +174,12 @@ fn checks(rt: HostRuntime) -> Result<(), Fail> {
 struct Row;
 
 impl PageView for Row {
-    ghost use Rattle.nm_types.specs.declared.seen.Seen.TheVariants.{Absent};
+    ghost use Rattle.std.specs.Prelude.{None};
     ghost use Rattle.nm_runs.specs.ShownRows.{row_seen};
 
     ghost seen_at = { λ row pid v. row_seen v };
 
-    ghost placed_at = { λ row p. Absent };
+    ghost placed_at = { λ row p. None };
 
     fn seen(&self, _pid: Pid, vpn: Vpn) -> Seen {
         match vpn.number() {
@@ -251,8 +225,8 @@ impl PageView for Row {
         }
     }
 
-    fn placed(&self, _page: Page) -> Seen {
-        Seen::Absent
+    fn placed(&self, _page: Page) -> Option<(FrameId, bool)> {
+        None
     }
 }
 
@@ -404,11 +378,12 @@ struct Meeting {
 }
 
 impl PageView for Meeting {
-    ghost use Rattle.nm_types.specs.declared.seen.Seen.TheVariants.{NoArea, Absent};
+    ghost use Rattle.std.specs.Prelude.{None};
+    ghost use Rattle.nm_types.specs.declared.seen.Seen.TheVariants.{NoArea};
 
     ghost seen_at = { λ meeting pid v. NoArea };
 
-    ghost placed_at = { λ meeting p. Absent };
+    ghost placed_at = { λ meeting p. None };
 
     fn seen(&self, _pid: Pid, vpn: Vpn) -> Seen {
         match vpn.number() {
@@ -426,8 +401,8 @@ impl PageView for Meeting {
         Seen::NoArea
     }
 
-    fn placed(&self, _page: Page) -> Seen {
-        Seen::Absent
+    fn placed(&self, _page: Page) -> Option<(FrameId, bool)> {
+        None
     }
 }
 

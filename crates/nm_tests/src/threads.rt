@@ -411,18 +411,19 @@ fn no_memory_for_two_jobs(rt: HostRuntime) -> Result<(), Fail> {
 struct Nothing;
 
 impl PageView for Nothing {
-    ghost use Rattle.nm_types.specs.declared.seen.Seen.TheVariants.{NoArea, Absent};
+    ghost use Rattle.std.specs.Prelude.{None};
+    ghost use Rattle.nm_types.specs.declared.seen.Seen.TheVariants.{NoArea};
 
     ghost seen_at = { λ nothing pid v. NoArea };
 
-    ghost placed_at = { λ nothing p. Absent };
+    ghost placed_at = { λ nothing p. None };
 
     fn seen(&self, _pid: Pid, _vpn: Vpn) -> nm_types::Seen {
         nm_types::Seen::NoArea
     }
 
-    fn placed(&self, _page: Page) -> nm_types::Seen {
-        nm_types::Seen::Absent
+    fn placed(&self, _page: Page) -> Option<(nm_types::FrameId, bool)> {
+        None
     }
 }
 

@@ -27,21 +27,21 @@ pub enum Seen {
 
 /// What can be looked at, by page number and by page. A look changes nothing and does not allocate.
 pub trait PageView {
-    ghost use Rattle.std.specs.Prelude.{◌≡◌, ℕ};
+    ghost use Rattle.std.specs.Prelude.{◌≡◌, ℕ, Bool, Option};
     ghost use Rattle.nm_types.specs.declared.page.Page.{Page};
     ghost use Rattle.nm_types.specs.declared.seen.Seen.{Seen};
 
     /// What each process sees at each page number.
     ghost seen_at: { Self → ℕ → ℕ → Seen };
 
-    /// What is to be seen of each page, whoever sees it.
-    ghost placed_at: { Self → Page → Seen };
+    /// The frame of each page that has one, and whether the page has a pin.
+    ghost placed_at: { Self → Page → Option (ℕ × Bool) };
 
     /// What a process sees at a page number.
     fn seen(&self, pid: Pid, vpn: Vpn) -> Seen
         ensures { result ≡ seen_at self.now pid vpn };
 
-    /// What is to be seen of a page, whoever sees it. Absent if it has no frame.
-    fn placed(&self, page: Page) -> Seen
+    /// The frame of a page, and whether the page has a pin. None if it has no frame.
+    fn placed(&self, page: Page) -> Option<(FrameId, bool)>
         ensures { result ≡ placed_at self.now page };
 }

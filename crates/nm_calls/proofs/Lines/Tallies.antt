@@ -18,7 +18,7 @@ use Rattle.std.proofs.lemmas.List.Elements.{All-from_recursion}
 use Rattle.nm_types.specs.Map.{Map}
 use Rattle.nm_types.specs.declared.area.Area.{Area}
 use Rattle.nm_types.specs.declared.area.Segment.{Segment}
-use Rattle.nm_areas.specs.declared.lines.Line.{Line}
+use Rattle.nm_areas.specs.declared.lines.Area.{Area as Listed}
 use Rattle.nm_areas.specs.Lines.{line_of, lines_of}
 use Rattle.nm_model.specs.definitions.Sound.{IsSound, IsWhole}
 use Rattle.nm_types.specs.Layout.{node_count}
@@ -117,11 +117,11 @@ one_counted s all rest pages most on p behind most' e lt is h =
     }
 
 -- every area ends below 2^64
-ends_low : (segments : Map ℕ Segment) (areas : Map (ℕ × ℕ) Area) (pid : ℕ) → AllByRecursion (λ a. a.0.1 + a.1.pages ≤ 2 ^ 35) areas → AllByRecursion (λ (l : Line). l.first + l.pages < 2 ^ 64) (lines_of segments areas pid)
+ends_low : (segments : Map ℕ Segment) (areas : Map (ℕ × ℕ) Area) (pid : ℕ) → AllByRecursion (λ a. a.0.1 + a.1.pages ≤ 2 ^ 35) areas → AllByRecursion (λ (l : Listed). l.first + l.pages < 2 ^ 64) (lines_of segments areas pid)
 ends_low segments [] pid h = tt
 ends_low segments (a ∷ areas) pid h =
     let rest = ends_low segments areas pid h.1 in
-    elim (a.0.0 == pid) as (λ b. AllByRecursion (λ (l : Line). l.first + l.pages < 2 ^ 64) (map (line_of segments) (cond b (a ∷ filter (λ a. a.0.0 == pid) areas) (filter (λ a. a.0.0 == pid) areas)))) [
+    elim (a.0.0 == pid) as (λ b. AllByRecursion (λ (l : Listed). l.first + l.pages < 2 ^ 64) (map (line_of segments) (cond b (a ∷ filter (λ a. a.0.0 == pid) areas) (filter (λ a. a.0.0 == pid) areas)))) [
       | true ↦ (omega (arith, h.0), rest)
       | false ↦ rest
     ]
@@ -130,5 +130,5 @@ wholes_end : (s : State) (areas : Map (ℕ × ℕ) Area) → AllByRecursion (IsW
 wholes_end s [] h = tt
 wholes_end s (a ∷ areas) h = (h.0.1, wholes_end s areas h.1)
 
-pub lines_end : (s : State) (pid : ℕ) (lines : List Line) → IsSound s → lines ≡ lines_of s.segments s.areas pid → All (λ (l : Line). l.first + l.pages < 2 ^ 64) lines
-lines_end s pid lines sound e = subst (All (λ (l : Line). l.first + l.pages < 2 ^ 64)) (sym e) (All-from_recursion _ _ (ends_low s.segments s.areas pid (wholes_end s s.areas sound.areas)))
+pub lines_end : (s : State) (pid : ℕ) (lines : List Listed) → IsSound s → lines ≡ lines_of s.segments s.areas pid → All (λ (l : Listed). l.first + l.pages < 2 ^ 64) lines
+lines_end s pid lines sound e = subst (All (λ (l : Listed). l.first + l.pages < 2 ^ 64)) (sym e) (All-from_recursion _ _ (ends_low s.segments s.areas pid (wholes_end s s.areas sound.areas)))

@@ -8,7 +8,7 @@ use Rattle.nm_types.specs.Layout.{node_count}
 use Rattle.nm_types.specs.Nodes.{up_from}
 use Rattle.nm_types.specs.State.{State}
 use Rattle.nm_model.specs.definitions.Seen.{users}
-use Rattle.nm_areas.specs.declared.lines.Line.{Line}
+use Rattle.nm_areas.specs.declared.lines.Area.{Area}
 use Rattle.nm_areas.specs.Lines.{lines_of}
 use Rattle.nm_types.specs.declared.located.Located.{Located}
 use Rattle.nm_model.specs.definitions.Seen.{located_between}
@@ -45,7 +45,7 @@ abbrev pub address_text : ℕ → List ℕ
 address_text vpn = let ds = digits 16 false vpn in replicate (5 - length ds) 48 ++ ds ++ codes "000"
 
 -- the pages that a process sees in an area
-abbrev pub pages_of : State → ℕ → Line → List Located
+abbrev pub pages_of : State → ℕ → Area → List Located
 pages_of s pid line = located_between s pid line.first (line.first + line.pages)
 
 -- the greatest number of processes that see any of these pages
@@ -68,7 +68,7 @@ pages_text s (p ∷ ps) =
     ++ flat_map (node_text (p ∷ ps)) (up_from 0 (node_count s.layout)) ++ codes " kernelpagesize_kB=4"
 
 -- an area as text
-abbrev pub area_text : State → ℕ → Line → List ℕ
+abbrev pub area_text : State → ℕ → Area → List ℕ
 area_text s pid line =
     address_text line.first ++ codes " " ++ policy_text line.policy ++ pages_text s (pages_of s pid line)
 

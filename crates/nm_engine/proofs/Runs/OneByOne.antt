@@ -1,6 +1,7 @@
 -- A run by its plan is a run one after another.
 use Rattle.std.proofs.Common.{◌≡◌, ◌≢◌, ℕ, zero, suc, ◌<◌, ◌≤◌, Bool, true, false, List, [], ◌∷◌, ◌++◌, map, length, take, drop, refl, sym, ap, subst, ◌∙◌, arith, ⊎_elim}
-use Rattle.std.specs.Prelude.{Option, Some, None, slice_get, slice_set, if◌then◌else◌, pos}
+use Rattle.std.specs.Prelude.{Option, Some, None, IfSome, slice_get, slice_set, if◌then◌else◌, pos}
+use Rattle.std.specs.Option.{option_map}
 use Rattle.std.specs.List.{AllByRecursion, sum_by}
 use Rattle.std.specs.List.Sorted.{IsStrictlySortedBy}
 use Rattle.std.specs.Map.{keys_of, values_of}
@@ -15,9 +16,9 @@ use Rattle.nm_types.specs.declared.request.Class.{Class}
 use Rattle.nm_types.specs.declared.request.Class.TheVariants.{Status, Move}
 use Rattle.nm_types.specs.declared.request.Wanted.{Wanted}
 use Rattle.nm_types.specs.declared.request.Wanted.TheVariants.{At as Spot, Whole}
-use Rattle.nm_model.specs.definitions.Seen.{sight_in, look_in, look_at_place, look_behind}
-use Rattle.nm_runs.specs.Shown.{class_shown, HasFrameBelow, ShowsItsFrames}
-use Rattle.nm_model.specs.definitions.Status.{status_or_move}
+use Rattle.nm_model.specs.definitions.Seen.{sight_in, look_in, look_at_place, look_behind, frame_and_pin, is_pinned}
+use Rattle.nm_runs.specs.Shown.{class_of_place, class_shown, HasFrameBelow, ShowsItsFrames}
+use Rattle.nm_model.specs.definitions.Status.{page_status, status_or_move}
 use Rattle.nm_types.specs.declared.taken.Taken.{Taken}
 use Rattle.nm_model.specs.definitions.Decide.{Choice, Decisions, has_moved, take_front, decide, shortage, Planned, planned}
 use Rattle.nm_model.specs.definitions.Run.{moved_page, decision, each_request, IsByAddress, IsByPage, HasOneAll}
@@ -85,17 +86,22 @@ few_suffice (Move page from ∷ classes) target moved front (suc n) enough =
       | false ↦ new_few classes target (few_suffice classes target) page from moved front n (omega (arith, enough))
     ]
 
+-- of a page that is asked for by its name the frame and the pin suffice
+place_suffices : (s : State) (target : ℕ) (p : Page) (o : Option ℕ) → class_of_place s.layout target p (option_map (λ frame. (frame, is_pinned s p)) o) ≡ page_status s target false p o
+place_suffices s target p None = refl
+place_suffices s target p (Some frame) = refl
+
 -- the class by the view of a state is its class
 pub class_by_view : (s : State) (target : ℕ) (w : Wanted) → IsStrictlySortedBy nat_cmp (keys_of s.processes)
-    → class_shown s.layout (λ pid v. look_in s.processes s.areas s.place s.pins pid v) (λ p. look_at_place s.processes s.pins p (get page_cmp s.place p)) target w ≡ status_or_move s target w
+    → class_shown s.layout (λ pid v. look_in s.processes s.areas s.place s.pins pid v) (λ p. frame_and_pin s.place s.pins p) target w ≡ status_or_move s target w
 class_by_view s target (Spot pid v all) order = looks_suffice s target (Spot pid v all) order
-class_by_view s target (Whole p) order = looks_suffice s target (Whole p) order
+class_by_view s target (Whole p) order = place_suffices s target p (get page_cmp s.place p)
 
 pub classes_by_view : (s : State) (target : ℕ) (ws : List Wanted) → IsStrictlySortedBy nat_cmp (keys_of s.processes)
-    → map (class_shown s.layout (λ pid v. look_in s.processes s.areas s.place s.pins pid v) (λ p. look_at_place s.processes s.pins p (get page_cmp s.place p)) target) ws ≡ map (status_or_move s target) ws
+    → map (class_shown s.layout (λ pid v. look_in s.processes s.areas s.place s.pins pid v) (λ p. frame_and_pin s.place s.pins p) target) ws ≡ map (status_or_move s target) ws
 classes_by_view s target [] order = refl
 classes_by_view s target (w ∷ ws) order =
-    ap (λ c. c ∷ map (class_shown s.layout (λ pid v. look_in s.processes s.areas s.place s.pins pid v) (λ p. look_at_place s.processes s.pins p (get page_cmp s.place p)) target) ws) (class_by_view s target w order)
+    ap (λ c. c ∷ map (class_shown s.layout (λ pid v. look_in s.processes s.areas s.place s.pins pid v) (λ p. frame_and_pin s.place s.pins p) target) ws) (class_by_view s target w order)
     ∙ ap (λ cs. status_or_move s target w ∷ cs) (classes_by_view s target ws order)
 
 -- a sound machine's pages are in its frames, and no others are seen
@@ -107,6 +113,10 @@ look_below : (s : State) (l : List ℕ) (p : Page) (o : Option ℕ) → FramesAr
 look_below s l p None h e = tt
 look_below s l p (Some f) h e = placed_below s l p f h e
 
+place_below : (s : State) (l : List ℕ) (p : Page) (o : Option ℕ) → FramesAreOnce s.layout s.place s.free l → get page_cmp s.place p ≡ o → IfSome {T = ℕ × Bool} (option_map (λ frame. (frame, is_pinned s p)) o) (λ place. place.0 < frame_count s.layout)
+place_below s l p None h e = tt
+place_below s l p (Some f) h e = placed_below s l p f h e
+
 sight_below : (s : State) (l : List ℕ) (o : Option Page) (x : Option Sight) → FramesAreOnce s.layout s.place s.free l → HasFrameBelow (frame_count s.layout) (look_behind s.processes s.place s.pins o x)
 sight_below s l None x h = tt
 sight_below s l (Some q) None h = tt
@@ -114,10 +124,10 @@ sight_below s l (Some q) (Some ZeroPage) h = tt
 sight_below s l (Some q) (Some (Sees p)) h = look_below s l p (get page_cmp s.place p) h refl
 
 pub shows_its_frames : (s : State) (l : List ℕ) → FramesAreOnce s.layout s.place s.free l
-    → ShowsItsFrames s.layout (λ pid v. look_in s.processes s.areas s.place s.pins pid v) (λ p. look_at_place s.processes s.pins p (get page_cmp s.place p))
+    → ShowsItsFrames s.layout (λ pid v. look_in s.processes s.areas s.place s.pins pid v) (λ p. frame_and_pin s.place s.pins p)
 shows_its_frames s l h = record {
   seen = λ pid v. sight_below s l (page_at s.areas pid v) (sight_in (get nat_cmp s.processes pid) v) h;
-  placed = λ p. look_below s l p (get page_cmp s.place p) h refl;
+  placed = λ p. place_below s l p (get page_cmp s.place p) h refl;
 }
 
 -- the plan by the classes of a view, with at most as many free frames as requests

@@ -64,6 +64,11 @@ look_at_place processes pins p None = Absent
 look_at_place processes pins p (Some frame) =
     At p frame (length (users processes p)) (nat_lt 0 (unwrap_or (get page_cmp pins p) 0))
 
+-- the frame of a page and whether the page has a pin, if it has a frame
+abbrev pub frame_and_pin : Map Page ℕ → Map Page ℕ → Page → Option (ℕ × Bool)
+frame_and_pin place pins p =
+    option_map (λ frame. (frame, nat_lt 0 (unwrap_or (get page_cmp pins p) 0))) (get page_cmp place p)
+
 -- the same in a state
 abbrev pub look_at_page : State → Page → Option ℕ → Seen
 look_at_page s p place = look_at_place s.processes s.pins p place

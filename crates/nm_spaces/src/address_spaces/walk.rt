@@ -164,10 +164,10 @@ impl<A: Allocator + Copy> AddressSpaces<A> {
                 if is_over(*first, *area, vpn) {
                     Some((*first, *area))
                 } else {
-                    parts.areas.find(pid, vpn)
+                    parts.areas.over(pid, vpn)
                 }
             }
-            None => parts.areas.find(pid, vpn),
+            None => parts.areas.over(pid, vpn),
         }
     }
 }

@@ -1,4 +1,4 @@
-use Rattle.std.proofs.Common.{◌≡◌, ℕ, sym, subst}
+use Rattle.std.proofs.Common.{◌≡◌, ℕ, Bool, Option, sym, subst}
 use Rattle.nm_types.specs.Layout.{Layout}
 use Rattle.nm_types.specs.declared.page.Page.{Page}
 use Rattle.nm_types.specs.declared.seen.Seen.{Seen}
@@ -6,7 +6,7 @@ use Rattle.nm_runs.specs.Shown.{ShowsItsFrames}
 use Rattle.nm_calls.proofs.Looks.{lent_shows}
 use Rattle.nm_checks.proofs.views.has_classes.Goals as goal
 
-of_layout : (l m : Layout) (seen_at : ℕ → ℕ → Seen) (placed_at : Page → Seen) → l ≡ m → ShowsItsFrames m seen_at placed_at → ShowsItsFrames l seen_at placed_at
+of_layout : (l m : Layout) (seen_at : ℕ → ℕ → Seen) (placed_at : Page → Option (ℕ × Bool)) → l ≡ m → ShowsItsFrames m seen_at placed_at → ShowsItsFrames l seen_at placed_at
 of_layout l m seen_at placed_at same h = subst (λ (x : Layout). ShowsItsFrames x seen_at placed_at) (sym same) h
 
 -- a sound machine shows frames of its own alone

@@ -1,10 +1,53 @@
-use Rattle.std.proofs.Common.{List, IfOk, ◌≡◌, subst, arith}
-use Rattle.nm_model.specs.definitions.Cut.{Stretch}
+use Rattle.std.proofs.Common.{◌++◌, ◌∷◌, [], length, ◌∙◌, sym, ap, append-nil, arith, drop, ◌+◌}
+use Rattle.std.proofs.lemmas.List.{length-take, length-drop, at_drop_all}
 use Rattle.nm_runs.specs.Stretches.{stretches_of}
-use Rattle.nm_runs.proofs.Pieces.{cut_in_limit}
+use Rattle.nm_model.specs.definitions.Cut.{cut_within}
+use Rattle.nm_runs.proofs.Pieces.{one_more}
 use Rattle.nm_runs.proofs.cutting.cut.Goals as goal
+
+pub loop-at-preserved : goal.loop-at-preserved
+loop-at-preserved g c =
+    let ran = c.in_ok-run.ensures in
+    let rest = c.split_at.result.1.now in
+    let requests = c.args.requests.now in
+    let left = length-drop c.loop-at.at requests in
+    let taken = length-take c.min-room.result rest in
+    let behind = ap length c.split_at.ensures.back in
+    record {
+      within = omega (arith, ran.within, left, taken, behind, c.len-at.ensures, c.in_ok-run.run'.wanted.ok.0, c.loop-at.invariant.within);
+      made =
+          ap (λ items. stretches_of items ++ cut_within c.args.limit (drop (c.loop-at.at + c.len-at.result) requests)) c.in_ok-push.ensures.items
+          ∙ ap (λ n. stretches_of (c.loop-at.runs.items ++ c.in_ok-run.run' ∷ []) ++ cut_within c.args.limit (drop (c.loop-at.at + n) requests)) (c.len-at.ensures ∙ c.in_ok-run.run'.wanted.ok.0)
+          ∙ one_more c.args.limit c.loop-at.runs.items c.in_ok-run.run' requests rest c.loop-at.at c.min-room.result c.requires c.split_at.ensures.back c.min-room.ensures ran.some ran.within ran.first
+          c.loop-at.invariant.made;
+    }
+
+pub loop-at-init : goal.loop-at-init
+loop-at-init g c = record {
+  within = omega arith;
+  made = ap (λ items. stretches_of items ++ cut_within c.args.limit c.args.requests.now) c.new-runs.ensures.items;
+}
+
+pub slice_bounds-first_run-end : goal.slice_bounds-first_run-end
+slice_bounds-first_run-end g c = omega (arith, length-take c.min-room.result c.split_at.result.1.now, c.min-room.ensures)
+
+pub first_run-requires : goal.first_run-requires
+first_run-requires g c =
+    let left = length-drop c.loop-at.at c.args.requests.now in
+    let taken = length-take c.min-room.result c.split_at.result.1.now in
+    omega (arith, left, taken, ap length c.split_at.ensures.back, c.min-room.ensures, c.requires, c.loop-at-test.true)
+
+pub overflow_add-at : goal.overflow_add-at
+overflow_add-at g c =
+    let left = length-drop c.loop-at.at c.args.requests.now in
+    let taken = length-take c.min-room.result c.split_at.result.1.now in
+    omega (arith, c.in_ok-run.ensures.within, left, taken, ap length c.split_at.ensures.back, c.len-at.ensures, c.in_ok-run.run'.wanted.ok.0)
+
+pub loop-at-smaller : goal.loop-at-smaller
+loop-at-smaller g c = omega (arith, c.in_ok-run.ensures.some, c.len-at.ensures, c.in_ok-run.run'.wanted.ok.0, c.loop-at-test.true)
 
 pub returns-clause-runs : goal.returns-clause-runs
 returns-clause-runs g c =
-    let requests = c.args.requests.now in
-    subst (λ (l : List Stretch). IfOk c.cut_within.result (λ runs. stretches_of runs.items ≡ l)) (cut_in_limit c.max-whole.result requests (omega arith) (omega arith)) c.cut_within.ensures.runs
+    let made = stretches_of c.loop-at.runs.items in
+    let none = at_drop_all (cut_within c.args.limit) c.args.requests.now c.loop-at.at c.loop-at-test.false in
+    sym (append-nil made) ∙ ap (λ rest. made ++ rest) (sym none) ∙ c.loop-at.invariant.made

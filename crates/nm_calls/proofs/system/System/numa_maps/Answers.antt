@@ -4,7 +4,7 @@ use Rattle.std.specs.Ordering.{nat_cmp}
 use Rattle.nm_types.specs.Map.{get}
 use Rattle.nm_types.specs.declared.errno.Errno.TheVariants.{Esrch}
 use Rattle.nm_areas.specs.Lines.{lines_of}
-use Rattle.nm_areas.specs.declared.lines.Line.{Line}
+use Rattle.nm_areas.specs.declared.lines.Area.{Area}
 use Rattle.nm_model.specs.definitions.Areas.{Mapped}
 use Rattle.nm_model.specs.definitions.Effect.{info_of}
 use Rattle.nm_spaces.specs.views.AddressSpaces.{AddressSpacesView}
@@ -43,7 +43,7 @@ pub returns-in_err-areas-clause-asked : goal.returns-in_err-areas-clause-asked
 returns-in_err-areas-clause-asked g c = λ runs policy_set is.
     let lines = ap (λ (m : Mapped). lines_of m.segments m.areas c.args.pid) c.areas.ensures.areas ∙ ap (λ (y : AddressSpacesView). lines_of y.segments y.areas c.args.pid) c.spaces-spaces.ensures in
     subst (λ (z : SystemState). 0 < length (lines_of z.state.segments z.state.areas c.args.pid)) c.self.view_is
-    (subst (λ (l : List Line). 0 < length l) lines c.in_err-areas.ensures.asked)
+    (subst (λ (l : List Area). 0 < length l) lines c.in_err-areas.ensures.asked)
 
 pub areas_text-requires-after_bounds : goal.areas_text-requires-after_bounds
 areas_text-requires-after_bounds g c = λ lifetimes bound.
@@ -64,7 +64,7 @@ pub returns-in_err-areas_text-clause-asked : goal.returns-in_err-areas_text-clau
 returns-in_err-areas_text-clause-asked g c = λ runs policy_set is.
     let lines = c.in_ok-areas.ensures.lines ∙ ap (λ (m : Mapped). lines_of m.segments m.areas c.args.pid) c.areas.ensures.areas ∙ ap (λ (y : AddressSpacesView). lines_of y.segments y.areas c.args.pid) c.spaces-spaces.ensures in
     subst (λ (z : SystemState). 0 < length (lines_of z.state.segments z.state.areas c.args.pid)) c.self.view_is
-    (subst (λ (l : List Line). 0 < length l) (c.as_slice.ensures.value ∙ lines) c.in_err-areas_text.ensures.asked)
+    (subst (λ (l : List Area). 0 < length l) (c.as_slice.ensures.value ∙ lines) c.in_err-areas_text.ensures.asked)
 
 pub returns-clause-done : goal.returns-clause-done
 unfolding refused ended

@@ -5,10 +5,9 @@ use Rattle.std.proofs.lemmas.Result.{IfOk-weaker}
 use Rattle.nm_areas.proofs.Counted.{err_always}
 use Rattle.nm_types.specs.Layout.{Layout, node_count}
 use Rattle.nm_types.specs.State.{State, free_list}
-use Rattle.nm_model.specs.definitions.Seen.{look_in, look_at_place}
+use Rattle.nm_model.specs.definitions.Seen.{look_in, frame_and_pin}
 use Rattle.nm_runs.specs.Shown.{class_shown, ShowsItsFrames}
 use Rattle.nm_model.specs.definitions.Status.{status_or_move}
-use Rattle.nm_types.specs.Map.{get, page_cmp}
 use Rattle.nm_laws.specs.Moves.{IsPlanOf}
 use Rattle.nm_engine.specs.views.Shown.{shown_by}
 use Rattle.nm_engine.proofs.Runs.OneByOne.{shows_its_frames, classes_by_view, planned_is, is_plan_of}
@@ -18,7 +17,7 @@ pub classify-requires-clause-frames : goal.classify-requires-clause-frames
 classify-requires-clause-frames g c =
     let i = c.self.inside in
     let y = i.spaces in
-    subst (λ (l : Layout). ShowsItsFrames l (λ pid v. look_in y.processes y.areas y.place y.pins pid v) (λ p. look_at_place y.processes y.pins p (get page_cmp y.place p))) (sym c.geometry-geometry.ensures)
+    subst (λ (l : Layout). ShowsItsFrames l (λ pid v. look_in y.processes y.areas y.place y.pins pid v) (λ p. frame_and_pin y.place y.pins p)) (sym c.geometry-geometry.ensures)
     (shows_its_frames (shown_by y i.frames i.online i.totals.moved i.totals.failed) i.frames.vacated c.self.invariant.kept.sound.frames)
 
 pub plan-requires : goal.plan-requires
@@ -35,7 +34,7 @@ returns-clause-plan g c =
     let ws = c.args.requests.now.wanted.items in
     let classes : c.as_slice.result.now ≡ map (status_or_move s t) ws =
     c.as_slice.ensures.value ∙ c.in_ok-classes.ensures.classes
-    ∙ ap (λ (l : Layout). map (class_shown l (λ pid v. look_in s.processes s.areas s.place s.pins pid v) (λ p. look_at_place s.processes s.pins p (get page_cmp s.place p)) t) ws) c.geometry-geometry.ensures
+    ∙ ap (λ (l : Layout). map (class_shown l (λ pid v. look_in s.processes s.areas s.place s.pins pid v) (λ p. frame_and_pin s.place s.pins p) t) ws) c.geometry-geometry.ensures
     ∙ classes_by_view s t ws c.self.invariant.kept.sound.order.processes in
     let front : c.as_slice-2.result.now ≡ take (length c.as_slice.result.now) (free_list s t) =
     c.as_slice-2.ensures.value ∙ c.in_ok-front.ensures.front ∙ ap (λ n. take n (free_list s t)) (c.len.ensures ∙ sym c.as_slice.ensures.len) in

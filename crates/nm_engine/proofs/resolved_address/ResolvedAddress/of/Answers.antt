@@ -22,18 +22,18 @@ over_index areas pid v {first} {area} h e = found_index areas pid v h (Some (fir
 
 pub overflow_sub-page : goal.overflow_sub-page
 overflow_sub-page g c =
-    let first = over_below c.areas.result.now.areas c.args.pid c.of_address-vpn.result c.find.ensures.kept.indices c.in-Some-find.ensures.found in
+    let first = over_below c.areas.result.now.areas c.args.pid c.of_address-vpn.result c.over.ensures.kept.indices c.in-Some-over.ensures.found in
     omega (arith, first, c.number-2.ensures, c.number.ensures)
 
 pub overflow_add-page : goal.overflow_add-page
 overflow_add-page g c =
-    let index = over_index c.areas.result.now.areas c.args.pid c.of_address-vpn.result c.find.ensures.kept.indices c.in-Some-find.ensures.found in
+    let index = over_index c.areas.result.now.areas c.args.pid c.of_address-vpn.result c.over.ensures.kept.indices c.in-Some-over.ensures.found in
     omega (arith, index, c.number-2.ensures, c.number.ensures)
 
 pub returns-clause-ok : goal.returns-clause-ok
 returns-clause-ok g c =
     let y = c.args.spaces.now in
-    let same = some_is (c.in-Some-find.ensures.found ∙ sym c.in-Some-find.ensures'.found) in
+    let same = some_is (c.in-Some-over.ensures.found ∙ sym c.in-Some-over.ensures'.found) in
     let of : Placed → ResolvedAddress = λ x. record {
       pid = c.args.pid;
       info = c.in-Some.info;
@@ -42,7 +42,7 @@ returns-clause-ok g c =
       policy = x.1.policy;
     } in
     subst (λ x. (p : Process) × (a : Placed) × IsSiteOf y.processes y.areas (of x) p a × ((s : State) → s.processes ≡ y.processes → s.areas ≡ y.areas → site s c.args.pid c.args.addr c.args.len ≡ Ok (access_site (of x) p a))) (sym same)
-    (touched_there y.processes y.areas c.args.pid c.args.addr c.args.len c.of_address-vpn.result c.in-Some-find.first _
-    c.in-Some.info c.in-Some-find.area (sym c.info.ensures ∙ c.in-Some.is) c.if-len-eq0.false (omega (arith, c.if-len-offset.false, c.offset.ensures.value)) c.of_address-vpn.ensures
-    (c.in-Some-find.ensures'.found ∙ ap (λ (m : Mapped). area_over m.areas c.args.pid c.of_address-vpn.result) c.areas.ensures.areas)
-    (ap (λ n. c.in-Some-find.area.page.index + (c.number.result - n)) (c.number-2.ensures ∙ ap (λ (x : Placed). x.0.1) same) ∙ ap (λ n. c.in-Some-find.area.page.index + (n - c.in-Some-find.first)) c.number.ensures))
+    (touched_there y.processes y.areas c.args.pid c.args.addr c.args.len c.of_address-vpn.result c.in-Some-over.first _
+    c.in-Some.info c.in-Some-over.area (sym c.info.ensures ∙ c.in-Some.is) c.if-len-eq0.false (omega (arith, c.if-len-offset.false, c.offset.ensures.value)) c.of_address-vpn.ensures
+    (c.in-Some-over.ensures'.found ∙ ap (λ (m : Mapped). area_over m.areas c.args.pid c.of_address-vpn.result) c.areas.ensures.areas)
+    (ap (λ n. c.in-Some-over.area.page.index + (c.number.result - n)) (c.number-2.ensures ∙ ap (λ (x : Placed). x.0.1) same) ∙ ap (λ n. c.in-Some-over.area.page.index + (n - c.in-Some-over.first)) c.number.ensures))

@@ -8,11 +8,11 @@ use Rattle.nm_spaces.proofs.address_spaces.AddressSpaces.page_at.Goals as goal
 
 pub page_in-requires-clause-over : goal.page_in-requires-clause-over
 page_in-requires-clause-over g c =
-    found_below c.deref-parts.result.now.areas.areas c.args.pid c.args.vpn c.find.ensures.kept.indices (Some (c.in_ok-first.first, c.in_ok-first.area)) c.in_ok-first.ensures.found
+    found_below c.deref-parts.result.now.areas.areas c.args.pid c.args.vpn c.over.ensures.kept.indices (Some (c.in_ok-first.first, c.in_ok-first.area)) c.in_ok-first.ensures.found
 
 pub page_in-requires-clause-index : goal.page_in-requires-clause-index
 page_in-requires-clause-index g c =
-    found_index c.deref-parts.result.now.areas.areas c.args.pid c.args.vpn c.find.ensures.kept.indices (Some (c.in_ok-first.first, c.in_ok-first.area)) c.in_ok-first.ensures.found
+    found_index c.deref-parts.result.now.areas.areas c.args.pid c.args.vpn c.over.ensures.kept.indices (Some (c.in_ok-first.first, c.in_ok-first.area)) c.in_ok-first.ensures.found
 
 pub returns : goal.returns
 returns g c =

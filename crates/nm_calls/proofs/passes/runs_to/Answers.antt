@@ -4,7 +4,7 @@ use Rattle.std.proofs.lemmas.List.{nil_from_length}
 use Rattle.nm_types.specs.declared.request.Wanted.{Wanted}
 use Rattle.nm_model.specs.definitions.Cut.{Stretch, all_to, cut_within}
 use Rattle.nm_runs.proofs.Pieces.{one_more_to}
-use Rattle.nm_runs.proofs.cutting.cut_to.Goals as goal
+use Rattle.nm_calls.proofs.passes.runs_to.Goals as goal
 
 pub loop-piece-preserved : goal.loop-piece-preserved
 loop-piece-preserved g c =

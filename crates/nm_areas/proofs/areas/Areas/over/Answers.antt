@@ -3,7 +3,7 @@ use Rattle.std.specs.Prelude.{Some, IfSome}
 use Rattle.nm_types.specs.State.{area_over}
 use Rattle.nm_model.specs.definitions.Areas.{Mapped}
 use Rattle.nm_areas.proofs.Searched.{found_over}
-use Rattle.nm_areas.proofs.areas.Areas.find.Goals as goal
+use Rattle.nm_areas.proofs.areas.Areas.over.Goals as goal
 
 pub returns-clause-over : goal.returns-clause-over
 returns-clause-over g c =
