@@ -1,5 +1,6 @@
 pub mod Between
 pub mod Does
+pub mod Early
 pub mod InFlight
 pub mod MidRun
 pub mod Runs

@@ -1,2 +1,3 @@
 pub mod AlikeRequests
+pub mod ByEvents
 pub mod OneByOne

@@ -1,6 +1,6 @@
 //! The machine.
 
-ghost use Rattle.std.specs.Prelude.{◌≡◌, ◌<◌, ◌≤◌, ◌+◌, ◌/◌, [], ◌∷◌, map, length, Some, Err, true, IfOk, OnOk, OnErr};
+ghost use Rattle.std.specs.Prelude.{◌≡◌, ◌<◌, ◌≤◌, ◌+◌, ◌/◌, map, length, Some, Err, true, IfOk, OnErr};
 ghost use Rattle.std.specs.Result.{result_err};
 ghost use Rattle.nm_types.specs.declared.page.Page.{Page};
 ghost use Rattle.nm_types.specs.declared.sight.Sight.TheVariants.{Sees};
@@ -8,13 +8,14 @@ ghost use Rattle.nm_types.specs.Layout.{node_count};
 ghost use Rattle.nm_types.specs.Nodes.{up_from};
 ghost use Rattle.nm_laws.specs.Moves.{IsPlanOf};
 ghost use Rattle.nm_model.specs.definitions.Touch.{Bytes, Done, read, write, site_refusal, touch};
-ghost use Rattle.nm_model.specs.definitions.Run.{total_after, with_counts, run, failures, HasOneAll};
-ghost use Rattle.nm_model.specs.views.Asked.{access_shown};
-ghost use Rattle.nm_memory.specs.views.Accesses.{answer_shown};
+ghost use Rattle.nm_model.specs.definitions.Run.{total_after, with_counts, failures, HasOneAll};
+ghost use Rattle.std.specs.declared.vec.Vec.{Vec};
+ghost use Rattle.nm_frames.specs.declared.job.CopyJob.{CopyJob};
+ghost use Rattle.nm_engine.specs.views.Runs.{asked_by, pair_of, ran_by};
 ghost use Rattle.nm_model.specs.definitions.Effect.{new_machine};
 ghost use Rattle.nm_model.specs.definitions.Seen.{sight_at};
 ghost use Rattle.nm_model.specs.definitions.Sound.{IsSound};
-ghost use Rattle.nm_engine.specs.definitions.Orders.{EndsSo};
+ghost use Rattle.nm_engine.specs.definitions.Orders.{EndsSo, GoesByEvents, run_asked};
 ghost use Rattle.nm_engine.specs.definitions.Does.{Accesses, AsksLast};
 ghost use Rattle.nm_engine.specs.views.Spaces.{spaces_of};
 
@@ -210,34 +211,24 @@ impl<A: Allocator + Copy + Send + Sync> Machine<A> {
         requires alike { HasOneAll requests.now.wanted.items }
 
         // On success
-        ensures statuses { IfOk result
-            (λ flown. flown.statuses.items
-            ≡ (run self.old requests.now.target requests.now.wanted.items
-            (map (λ a. access_shown a.now) accesses.now)).statuses) }
+        ensures run { IfOk result
+            (λ flown. ran_by self.new flown ≡ run_asked self.old (asked_by requests.now accesses.now)) }
         ensures failed { IfOk result (λ flown. flown.failed ≡ failures flown.statuses.items) }
-        ensures answers { IfOk result
-            (λ flown. map answer_shown flown.answers.items ∷ []
-            ≡ (run self.old requests.now.target requests.now.wanted.items
-            (map (λ a. access_shown a.now) accesses.now)).answers) }
-        ensures state { OnOk result
-            (self.new
-            ≡ (run self.old requests.now.target requests.now.wanted.items
-            (map (λ a. access_shown a.now) accesses.now)).state) }
+
+        // Its own events, whose jobs the crew has done
+        ensures events { IfOk result
+            (λ flown. (jobs : Vec (CopyJob _) _) × C.has_done crew.now jobs
+            × GoesByEvents self.old (asked_by requests.now accesses.now) (map pair_of jobs.items) (ran_by self.new flown)) }
 
         // Whatever order the events of such a run take
         ensures orders { IfOk result
-            (λ flown. EndsSo self.old requests.now.target requests.now.wanted.items
-            (map (λ a. access_shown a.now) accesses.now) (record {
-              state = self.new;
-              statuses = flown.statuses.items;
-              answers = map answer_shown flown.answers.items ∷ [];
-            })) }
+            (λ flown. EndsSo self.old (asked_by requests.now accesses.now) (ran_by self.new flown)) }
 
         // Without memory
         ensures err { OnErr result (self.new ≡ self.old) }
         ensures asked { OnErr result (0 < length requests.now.wanted.items + length accesses.now) }
     {
-        // The clause `orders` is this law about every order of a run's events, at this run.
+        // For `orders`: `events` speaks of one order, and this law of all.
         interleavings();
         let plan = self.plan(crew, requests)?;
         let answers = Vec::with_capacity(self.alloc, accesses.len())?;
@@ -257,7 +248,6 @@ impl<A: Allocator + Copy + Send + Sync> Machine<A> {
         requires alike { HasOneAll requests.now.wanted.items }
         ensures plan { IfOk result
             (λ plan. IsPlanOf self.now requests.now.target requests.now.wanted.items plan) }
-        ensures sound { IsSound self.now }
         ensures asked { OnErr result (0 < length requests.now.wanted.items) }
     {
         let geometry = self.frames.geometry();

@@ -1,12 +1,14 @@
 //! Runs that are planned, made on a machine.
 
-ghost use Rattle.std.specs.Prelude.{◌≡◌, ◌<◌, ◌≤◌, ◌+◌, [], ◌∷◌, map, length, vec_capacity, IfOk, OnOk, OnErr};
+ghost use Rattle.std.specs.Prelude.{◌≡◌, ◌<◌, ◌≤◌, ◌+◌, [], map, length, vec_capacity, IfOk, OnErr};
 ghost use denote.Param.Send.{Frees, IsSend, IsSync};
 ghost use Rattle.nm_types.specs.Layout.{node_count};
 ghost use Rattle.nm_laws.specs.Moves.{IsPlanOf};
-ghost use Rattle.nm_model.specs.definitions.Run.{run, failures, HasOneAll};
-ghost use Rattle.nm_model.specs.views.Asked.{access_shown};
-ghost use Rattle.nm_memory.specs.views.Accesses.{answer_shown};
+ghost use Rattle.std.specs.declared.vec.Vec.{Vec};
+ghost use Rattle.nm_frames.specs.declared.job.CopyJob.{CopyJob as Job};
+ghost use Rattle.nm_model.specs.definitions.Run.{failures, HasOneAll};
+ghost use Rattle.nm_engine.specs.definitions.Orders.{GoesByEvents, run_asked};
+ghost use Rattle.nm_engine.specs.views.Runs.{asked_by, pair_of, ran_by};
 
 use crate::answers::RunAnswer;
 use crate::machine::Machine;
@@ -38,25 +40,21 @@ where
     A: Allocator + Copy + Send + Sync,
     C: RunCrew<A>,
     requires bounds { IsSend A.row × IsSync A.row × Frees A.Allocator A.dealloc_token }
+    requires alike { HasOneAll planned.requests.now.wanted.items }
     requires target { planned.requests.now.target < node_count machine.layout }
     requires plan { IsPlanOf machine planned.requests.now.target planned.requests.now.wanted.items planned.plan }
     requires unanswered { planned.answers.items ≡ [] }
     requires space { length planned.accesses.now ≤ vec_capacity planned.answers }
 
     // On success
-    ensures statuses { IfOk result.1
-        (λ flown. flown.statuses.items
-        ≡ (run machine planned.entry.requests.now.target planned.entry.requests.now.wanted.items
-        (map (λ a. access_shown a.now) planned.entry.accesses.now)).statuses) }
+    ensures run { IfOk result.1
+        (λ flown. ran_by result.0 flown
+        ≡ run_asked machine (asked_by planned.entry.requests.now planned.entry.accesses.now)) }
     ensures failed { IfOk result.1 (λ flown. flown.failed ≡ failures flown.statuses.items) }
-    ensures answers { IfOk result.1
-        (λ flown. map answer_shown flown.answers.items ∷ []
-        ≡ (run machine planned.entry.requests.now.target planned.entry.requests.now.wanted.items
-        (map (λ a. access_shown a.now) planned.entry.accesses.now)).answers) }
-    ensures state { OnOk result.1
-        (result.0
-        ≡ (run machine planned.entry.requests.now.target planned.entry.requests.now.wanted.items
-        (map (λ a. access_shown a.now) planned.entry.accesses.now)).state) }
+    ensures events { IfOk result.1
+        (λ flown. (jobs : Vec (Job _) _) × C.has_done planned.entry.crew.now jobs
+        × GoesByEvents machine (asked_by planned.entry.requests.now planned.entry.accesses.now) (map pair_of jobs.items)
+        (ran_by result.0 flown)) }
 
     // Without memory
     ensures err { OnErr result.1 (result.0 ≡ machine) }

@@ -1,22 +1,17 @@
 //! Runs that are prepared, and how they begin.
 
-ghost use Rattle.std.specs.Prelude.{◌≡◌, ◌≤◌, [], ℕ, Bool, List, Some, map, length, slice_get, option_map};
-ghost use Rattle.std.specs.List.{AllByRecursion};
-ghost use Rattle.nm_types.specs.declared.request.Wanted.{Wanted};
+ghost use Rattle.std.specs.Prelude.{◌≡◌, ◌≤◌, [], ℕ, Some, map, length, slice_get, option_map};
 ghost use Rattle.nm_frames.specs.declared.job.CopyJob.{CopyJob as Job};
-ghost use Rattle.nm_laws.specs.Interleavings.{IsAtRest};
-ghost use Rattle.nm_laws.specs.Laws.{moves_all, with_moves};
-ghost use Rattle.nm_laws.specs.Moves.{IsPlanOf};
+ghost use Rattle.nm_laws.specs.Laws.{with_moves};
 ghost use Rattle.nm_model.specs.definitions.BeforeCopy.{PendingAccess as Pending, with_fronts, frames_taken, IsPending};
-ghost use Rattle.nm_model.specs.definitions.Decide.{Planned};
-ghost use Rattle.nm_model.specs.definitions.Events.{begun, held_by, laid_for};
+ghost use Rattle.nm_model.specs.definitions.Events.{held_by, laid_for};
 ghost use Rattle.nm_model.specs.definitions.Frames.{Store};
 ghost use Rattle.nm_model.specs.definitions.PageTables.{entry_at};
-ghost use Rattle.nm_model.specs.definitions.RunMachine.{RunMachine, state_of};
 ghost use Rattle.nm_spaces.specs.definitions.Moves.{all_moved};
 ghost use Rattle.nm_spaces.specs.views.Held.{entry_here};
 ghost use Rattle.nm_memory.specs.definitions.AfterCopy.{CanDo};
-ghost use Rattle.nm_engine.specs.views.Flights.{AreOutIn, IsMoment, IsReadyFor, state_meanwhile};
+ghost use Rattle.nm_engine.specs.views.Flights.{AreOutIn, BeginsSo, IsReadyFor, state_meanwhile};
+ghost use Rattle.nm_engine.specs.views.Runs.{pair_of};
 ghost use Rattle.nm_engine.specs.views.Spaces.{spaces_of};
 
 mod prepare;
@@ -109,16 +104,10 @@ impl<A: Allocator + Copy + Send + Sync> PreparedRun<A> {
             ≡ with_moves (with_fronts self.state target (frames_taken moves.now)) target moves.now }
 
         // The run machine that has begun the same run
-        ensures event { (m : RunMachine) (target : ℕ) (wanted : List Wanted) (all : Bool) (p : Planned) →
-            IsAtRest m →
-            AllByRecursion (λ w. moves_all w ≡ all) wanted →
-            IsReadyFor self target moves.now →
-            state_of m ≡ with_fronts self.state target (frames_taken moves.now) →
-            IsPlanOf (state_of m) target wanted p →
-            p.taken ≡ moves.now →
-            IsMoment (begun m target wanted) result.0 result.1.items }
+        ensures event { BeginsSo self moves.now result.0 result.1.items }
 
         // Its jobs
+        ensures pairs { map pair_of result.1.items ≡ map (λ t. (t.from, t.to)) moves.now }
         ensures out { AreOutIn result.0 result.1.items }
         ensures tickets { (t : ℕ) (job : Job _) → slice_get result.1.items t ≡ Some job → job.ticket ≡ t }
 

@@ -1,9 +1,8 @@
 //! Where an access finds its bytes.
 
 ghost use Rattle.std.specs.Prelude.{◌≡◌, ◌+◌, ◌/◌, ◌%◌, ◌≤◌, Ok, Err, IfOk, IfErr};
-ghost use Rattle.nm_types.specs.State.{Process, Placed, State};
-ghost use Rattle.nm_model.specs.definitions.Touch.{site};
-ghost use Rattle.nm_engine.specs.views.Parts.{IsSiteOf, access_site};
+ghost use Rattle.nm_types.specs.State.{Process, Placed};
+ghost use Rattle.nm_engine.specs.views.Parts.{IsSiteOf, SiteIs, access_site};
 
 use nm_spaces::AddressSpaces;
 use nm_types::limits::PAGE_BYTES;
@@ -32,20 +31,13 @@ impl ResolvedAddress {
         // On success
         ensures ok { IfOk result
             (λ t. (p : Process) × (a : Placed) × IsSiteOf spaces.now.processes spaces.now.areas t p a
-            × ((s : State) →
-            s.processes ≡ spaces.now.processes →
-            s.areas ≡ spaces.now.areas →
-            site s pid addr len ≡ Ok (access_site t p a))) }
+            × SiteIs spaces.now pid addr len (Ok (access_site t p a))) }
         ensures pid { IfOk result (λ t. t.pid ≡ pid) }
         ensures page { IfOk result (λ t. t.vpn ≡ addr / 4096) }
         ensures inside { IfOk result (λ t. addr % 4096 + len ≤ 4096) }
 
         // On refusal
-        ensures err { IfErr result
-            (λ errno. (s : State) →
-            s.processes ≡ spaces.now.processes →
-            s.areas ≡ spaces.now.areas →
-            site s pid addr len ≡ Err errno) }
+        ensures err { IfErr result (λ errno. SiteIs spaces.now pid addr len (Err errno)) }
     {
         let Some(info) = spaces.info(pid) else {
             return Err(Errno::Esrch);

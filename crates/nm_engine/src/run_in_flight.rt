@@ -1,19 +1,14 @@
 //! Runs whose pages are on their way.
 
-ghost use Rattle.std.specs.Prelude.{◌≡◌, ◌≤◌, [], ◌∷◌, ◌++◌, ℕ, List, IsSome, Some, true, map, length, slice_get, vec_len, vec_capacity};
-ghost use Rattle.std.specs.List.{AllByRecursion, list_all};
+ghost use Rattle.std.specs.Prelude.{◌≡◌, ℕ, IsSome, Some, map, length, slice_get};
 ghost use Rattle.nm_frames.specs.Job.{copied};
 ghost use Rattle.nm_frames.specs.declared.job.CopyJob.{CopyJob as Job};
 ghost use Rattle.nm_types.specs.Map.{get, page_cmp};
-ghost use Rattle.nm_model.specs.definitions.Accesses.{accessed};
-ghost use Rattle.nm_model.specs.definitions.BeforeCopy.{after_copy, all_after_copy, answer_after_copy};
-ghost use Rattle.nm_model.specs.definitions.Events.{Event, accesses_in, after, ended, is_given};
+ghost use Rattle.nm_model.specs.definitions.BeforeCopy.{all_after_copy};
 ghost use Rattle.nm_model.specs.definitions.Run.{failures, frames_left, with_all_free, with_counts};
-ghost use Rattle.nm_model.specs.definitions.RunMachine.{RunMachine, Moving, state_of};
-ghost use Rattle.nm_model.specs.definitions.Touch.{Access, all_in_flight, in_flight};
 ghost use Rattle.nm_memory.specs.definitions.AfterCopy.{CanDo, all_stored_after_copy, answer_from_store, frame_at, store_after_copy};
 ghost use Rattle.nm_memory.specs.views.Accesses.{answer_shown, pending_shown, HasRoom};
-ghost use Rattle.nm_engine.specs.views.Flights.{AreOutIn, IsMoment, state_meanwhile, with_store};
+ghost use Rattle.nm_engine.specs.views.Flights.{AnswersEach, AnswersSo, AreOutIn, CanAnswer, EndsAs, FliesSo, state_meanwhile, with_store};
 
 use crate::machine::{Machine, Totals};
 use crate::run_crew::RunCrew;
@@ -62,17 +57,8 @@ impl<'m, A: Allocator + Copy> RunInFlight<'m, A> {
             ≡ answer_from_store self.old.spaces.place self.old.frames.frames
             (pending_shown due.entry) }
 
-        // The run machine that has made an access which does, and answers, the same
-        ensures event { (m : RunMachine) (a : Access) (jobs : List (Job A)) →
-            AreOutIn self.old jobs →
-            IsMoment m self.old jobs →
-            in_flight (state_of m) (map (λ t. t.page) self.old.moves) a
-            ≡ record {
-              state = after_copy (state_of m) (pending_shown due.entry);
-              answer = answer_after_copy (state_of m) (pending_shown due.entry);
-            } →
-            IsMoment (accessed m a) self.new jobs
-            × ((accessed m a).answers ≡ m.answers ++ answer_shown result ∷ []) }
+        // The run machine that has made such an access
+        ensures event { AnswersSo A self.old (pending_shown due.entry) self.new (answer_shown result) }
     {
         match due {
             PendingAccess::Known(answer) => answer,
@@ -113,23 +99,8 @@ impl<'m, A: Allocator + Copy> RunInFlight<'m, A> {
         mut answers: Vec<AccessAnswer<A>, A>,
         crew: &C,
     ) -> (Self, Vec<AccessAnswer<A>, A>)
-        // What is left to do
-        requires due { AllByRecursion (CanDo self.spaces.place self.frames.frames)
-            (map pending_shown dues.items) }
-        requires room { AllByRecursion HasRoom dues.items }
-
-        // The list for the answers
-        requires unanswered { answers.items ≡ [] }
-        requires space { vec_len dues ≤ vec_capacity answers }
-
-        // Afterwards
-        ensures run { result.0
-            ≡ with_store self.entry
-            (all_stored_after_copy self.entry.spaces.place self.entry.frames.frames
-            (map pending_shown dues.entry.items)).store }
-        ensures answers { map answer_shown result.1.items
-            ≡ (all_stored_after_copy self.entry.spaces.place self.entry.frames.frames
-            (map pending_shown dues.entry.items)).answers }
+        requires can { CanAnswer self dues answers }
+        ensures done { AnswersEach self.entry dues.entry.items result.0 result.1.items }
     {
         for due in dues {
             crew.access(answers.len());
@@ -150,18 +121,9 @@ impl<'m, A: Allocator + Copy + Send + Sync> RunInFlight<'m, A> {
         dues: Vec<PendingAccess<'_, A>, A>,
         answers: Vec<AccessAnswer<A>, A>,
     ) -> (Self, Vec<CopyJob<A>, A>, Vec<AccessAnswer<A>, A>)
-        // The jobs
         requires out { AreOutIn self jobs.items }
         requires tickets { (t : ℕ) (job : Job _) → slice_get jobs.items t ≡ Some job → job.ticket ≡ t }
-
-        // What is left to do
-        requires due { AllByRecursion (CanDo self.spaces.place self.frames.frames)
-            (map pending_shown dues.items) }
-        requires room { AllByRecursion HasRoom dues.items }
-
-        // The list for the answers
-        requires unanswered { answers.items ≡ [] }
-        requires space { vec_len dues ≤ vec_capacity answers }
+        requires can { CanAnswer self dues answers }
 
         // Afterwards
         ensures run { result.0
@@ -169,38 +131,23 @@ impl<'m, A: Allocator + Copy + Send + Sync> RunInFlight<'m, A> {
             (all_stored_after_copy self.entry.spaces.place self.entry.frames.frames
             (map pending_shown dues.entry.items)).store }
         ensures jobs { result.1.items ≡ map copied jobs.items }
+        ensures done { C.has_done crew.now result.1 }
         ensures out { AreOutIn result.0 result.1.items }
         ensures state { state_meanwhile result.0 result.1.items
             ≡ (all_after_copy (state_meanwhile self.entry jobs.items) (map pending_shown dues.entry.items)).state }
         ensures answers { map answer_shown result.2.items
             ≡ (all_after_copy (state_meanwhile self.entry jobs.items) (map pending_shown dues.entry.items)).answers }
 
-        // The run machine in which jobs are drawn and given back, and accesses made which do and answer the same
-        ensures event { (m n : RunMachine) (events : List Event) →
-            IsMoment m self.entry jobs.items →
-            after m events ≡ Some n →
-            n.phase ≡ Moving →
-            all_in_flight (state_of m) (map (λ t. t.page) self.entry.moves) (accesses_in events)
-            ≡ all_after_copy (state_of m) (map pending_shown dues.entry.items) →
-            IsMoment n result.0 result.1.items
-            × (n.answers ≡ m.answers ++ map answer_shown result.2.items) }
+        // The run machine in which jobs are drawn and given back, and such accesses made
+        ensures event { FliesSo self.entry jobs.items (map pending_shown dues.entry.items) result.0 result.1.items
+            (map answer_shown result.2.items) }
     {
         let run = self;
         let (jobs, (run, answers)) = crew.copy_while(
             jobs,
             move || -> (RunInFlight<A>, Vec<AccessAnswer<A>, A>)
-                requires due { AllByRecursion (CanDo run.spaces.place run.frames.frames)
-                    (map pending_shown dues.items) }
-                requires room { AllByRecursion HasRoom dues.items }
-                requires unanswered { answers.items ≡ [] }
-                requires space { vec_len dues ≤ vec_capacity answers }
-                ensures run { result.0
-                    ≡ with_store run.entry
-                    (all_stored_after_copy run.entry.spaces.place run.entry.frames.frames
-                    (map pending_shown dues.entry.items)).store }
-                ensures answers { map answer_shown result.1.items
-                    ≡ (all_stored_after_copy run.entry.spaces.place run.entry.frames.frames
-                    (map pending_shown dues.entry.items)).answers }
+                requires can { CanAnswer run dues answers }
+                ensures done { AnswersEach run.entry dues.entry.items result.0 result.1.items }
             { run.answer_each(dues, answers, crew) },
         );
         (run, jobs, answers)
@@ -218,11 +165,7 @@ impl<'m, A: Allocator + Copy + Send + Sync> RunInFlight<'m, A> {
         ensures failed { result.1 ≡ failures statuses.now }
 
         // The run machine that has ended the same run
-        ensures event { (m : RunMachine) →
-            IsMoment m self.entry jobs.items →
-            list_all (λ job. is_given job.stage) m.jobs ≡ true →
-            m.statuses ≡ statuses.now →
-            state_of (ended m) ≡ result.0 }
+        ensures event { EndsAs self.entry jobs.items statuses.now result.0 }
     {
         let spaces = self.spaces.settle(self.moves);
         let mut frames = self.frames.put_back(jobs);

@@ -1,19 +1,14 @@
 //! Touches: what reads and writes do before they reach the bytes.
 
-ghost use Rattle.std.specs.Prelude.{ℕ, ◌≡◌, ◌+◌, ◌≤◌, ◌++◌, true, false, replicate, vec_len, vec_capacity, Some, None, IfOk, IfNone, IsSome, OnErr};
-ghost use Rattle.std.specs.Ordering.{nat_cmp};
-ghost use Rattle.std.specs.Result.{result_err};
+ghost use Rattle.std.specs.Prelude.{◌≡◌, ◌+◌, ◌≤◌, ◌++◌, true, false, replicate, vec_len, vec_capacity, Some, None, IfOk, IfNone, IsSome, OnErr};
 ghost use Rattle.nm_types.specs.declared.page.Page.{Page};
 ghost use Rattle.nm_types.specs.declared.sight.Sight.TheVariants.{Sees, ZeroPage};
 ghost use Rattle.nm_types.specs.Map.{get, page_cmp};
-ghost use Rattle.nm_types.specs.State.{Process, Placed};
-ghost use Rattle.nm_model.specs.definitions.Seen.{frame_of, sight_in};
+ghost use Rattle.nm_model.specs.definitions.Seen.{frame_of};
 ghost use Rattle.nm_model.specs.definitions.Order.{first_touch_order};
-ghost use Rattle.nm_model.specs.definitions.Touch.{first_free, filled, joined, touched_entry};
-ghost use Rattle.nm_engine.specs.views.Parts.{AreKept, IsSiteOf, access_site};
-ghost use Rattle.nm_engine.specs.views.Shown.{shown_by};
-ghost use Rattle.nm_engine.specs.definitions.Does.{AsksLast, Touches};
-ghost use Rattle.nm_engine.specs.definitions.Undo.{noted};
+ghost use Rattle.nm_model.specs.definitions.Touch.{first_free, filled, joined};
+ghost use Rattle.nm_engine.specs.views.Parts.{AreKept, HasSite, TouchesBoth, TouchesLast, noted_by, seen_by, touched_by};
+ghost use Rattle.nm_engine.specs.definitions.Undo.{noted, touched_at};
 
 use crate::prepared_run::undo::Undo;
 use crate::resolved_address::ResolvedAddress;
@@ -37,17 +32,7 @@ pub(crate) struct Touched {
 impl Touched {
     /// The process sees the page shown there, which got this frame, in place of nothing or of the page of zeros.
     fn placed(pid: Pid, vpn: Vpn, zero: bool, page: Page, frame: FrameId) -> Self
-        ensures { result
-            ≡ record {
-              frame = Some frame;
-              undo = Some
-                  (record {
-                    pid = pid;
-                    vpn = vpn;
-                    zero = zero;
-                    given = Some (page, frame);
-                  });
-            } }
+        ensures { result ≡ touched_at pid vpn zero (Some frame) (Some (page, frame)) }
     {
         Touched {
             frame: Some(frame),
@@ -62,17 +47,7 @@ impl Touched {
 
     /// The process sees a page that had this frame before, or the page of zeros, in place of nothing.
     fn seen(pid: Pid, vpn: Vpn, frame: Option<FrameId>) -> Self
-        ensures { result
-            ≡ record {
-              frame = frame;
-              undo = Some
-                  (record {
-                    pid = pid;
-                    vpn = vpn;
-                    zero = false;
-                    given = None;
-                  });
-            } }
+        ensures { result ≡ touched_at pid vpn false frame None }
     {
         Touched {
             frame,
@@ -98,48 +73,31 @@ impl ResolvedAddress {
         alloc: A,
         writes: bool,
     ) -> Result<Touched, MachineError>
-        requires site { (p : Process) × (a : Placed)
-            × IsSiteOf spaces.old.processes spaces.old.areas self p a }
+        requires site { HasSite spaces.old.processes spaces.old.areas self }
         requires kept { AreKept spaces.old frames.old online }
 
         // In any case
-        ensures touches { (moved failed : ℕ) (p : Process) (a : Placed) →
-            IsSiteOf spaces.old.processes spaces.old.areas self p a →
-            Touches result (shown_by spaces.old frames.old online moved failed)
-            (shown_by spaces.new frames.new online moved failed)
-            (touched_entry (shown_by spaces.old frames.old online moved failed) (access_site self p a) writes (get nat_cmp p.sees self.vpn)) }
+        ensures touches { TouchesBoth result self spaces.old frames.old spaces.new frames.new online
+            (touched_by self writes) }
         ensures kept { AreKept spaces.new frames.new online }
         ensures left { frames.new.vacated ≡ frames.old.vacated }
         ensures room { frames.new.room ≡ frames.old.room }
 
         // On success
         ensures frame { IfOk result
-            (λ touched. touched.frame
-            ≡ frame_of spaces.new.place
-            (sight_in (get nat_cmp spaces.new.processes self.pid) self.vpn)) }
+            (λ touched. touched.frame ≡ frame_of spaces.new.place (seen_by spaces.new self)) }
         ensures some { IfOk result (λ touched. writes ≡ true → IsSome touched.frame) }
         ensures zeros { IfOk result
-            (λ touched. IfNone touched.frame
-            (sight_in (get nat_cmp spaces.new.processes self.pid) self.vpn ≡ Some ZeroPage)) }
+            (λ touched. IfNone touched.frame (seen_by spaces.new self ≡ Some ZeroPage)) }
         ensures undo { IfOk result
-            (λ touched. touched.undo
-            ≡ noted self.pid self.vpn self.page
-            (sight_in (get nat_cmp spaces.old.processes self.pid) self.vpn)
-            (get page_cmp spaces.old.place self.page) touched.frame) }
+            (λ touched. touched.undo ≡ noted_by self spaces.old touched.frame) }
 
         // Without memory
-        ensures memory { (moved failed : ℕ) (p : Process) (a : Placed) →
-            IsSiteOf spaces.old.processes spaces.old.areas self p a →
-            AsksLast result
-            (result_err (touched_entry (shown_by spaces.old frames.old online moved failed) (access_site self p a) writes (get nat_cmp p.sees self.vpn))) }
+        ensures memory { TouchesLast result self spaces.old frames.old online (touched_by self writes) }
         ensures asked { OnErr result
-            ((page : Page) →
-            sight_in (get nat_cmp spaces.old.processes self.pid) self.vpn ≡ Some (Sees page) →
-            ⊥) }
+            ((page : Page) → seen_by spaces.old self ≡ Some (Sees page) → ⊥) }
         ensures zero { OnErr result
-            (writes ≡ false →
-            sight_in (get nat_cmp spaces.old.processes self.pid) self.vpn ≡ Some ZeroPage →
-            ⊥) }
+            (writes ≡ false → seen_by spaces.old self ≡ Some ZeroPage → ⊥) }
     {
         let ResolvedAddress { pid, vpn, page, .. } = self;
         match spaces.sight(pid, vpn, page) {
@@ -182,30 +140,22 @@ impl ResolvedAddress {
         online: NodeMask,
         alloc: A,
     ) -> Result<Touched, MachineError>
-        requires touched { (p : Process) × (a : Placed)
-            × IsSiteOf spaces.old.processes spaces.old.areas self p a }
+        requires touched { HasSite spaces.old.processes spaces.old.areas self }
         requires kept { AreKept spaces.old frames.old online }
-        requires unseen { sight_in (get nat_cmp spaces.old.processes self.pid) self.vpn ≡ None }
+        requires unseen { seen_by spaces.old self ≡ None }
 
         // In any case
-        ensures touches { (moved failed : ℕ) (p : Process) (a : Placed) →
-            IsSiteOf spaces.old.processes spaces.old.areas self p a →
-            Touches result (shown_by spaces.old frames.old online moved failed)
-            (shown_by spaces.new frames.new online moved failed)
-            (joined (shown_by spaces.old frames.old online moved failed) (access_site self p a) (get page_cmp spaces.old.place self.page)) }
-        ensures memory { (moved failed : ℕ) (p : Process) (a : Placed) →
-            IsSiteOf spaces.old.processes spaces.old.areas self p a →
-            AsksLast result
-            (result_err (joined (shown_by spaces.old frames.old online moved failed) (access_site self p a) (get page_cmp spaces.old.place self.page))) }
+        ensures touches { TouchesBoth result self spaces.old frames.old spaces.new frames.new online
+            (λ s p at. joined s at (get page_cmp spaces.old.place self.page)) }
+        ensures memory { TouchesLast result self spaces.old frames.old online
+            (λ s p at. joined s at (get page_cmp spaces.old.place self.page)) }
         ensures kept { AreKept spaces.new frames.new online }
         ensures left { frames.new.vacated ≡ frames.old.vacated }
         ensures room { frames.new.room ≡ frames.old.room }
 
         // On success
         ensures frame { IfOk result
-            (λ touched. touched.frame
-            ≡ frame_of spaces.new.place
-            (sight_in (get nat_cmp spaces.new.processes self.pid) self.vpn)) }
+            (λ touched. touched.frame ≡ frame_of spaces.new.place (seen_by spaces.new self)) }
         ensures some { IfOk result (λ touched. IsSome touched.frame) }
         ensures undo { IfOk result
             (λ touched. touched.undo
@@ -228,33 +178,22 @@ impl ResolvedAddress {
         online: NodeMask,
         alloc: A,
     ) -> Result<FrameId, MachineError>
-        requires touched { (p : Process) × (a : Placed)
-            × IsSiteOf spaces.old.processes spaces.old.areas self p a }
+        requires touched { HasSite spaces.old.processes spaces.old.areas self }
         requires kept { AreKept spaces.old frames.old online }
         requires unplaced { get page_cmp spaces.old.place self.page ≡ None }
-        requires unseen { (page : Page) →
-            sight_in (get nat_cmp spaces.old.processes self.pid) self.vpn ≡ Some (Sees page) →
-            ⊥ }
+        requires unseen { (page : Page) → seen_by spaces.old self ≡ Some (Sees page) → ⊥ }
 
         // In any case
-        ensures touches { (moved failed : ℕ) (p : Process) (a : Placed) →
-            IsSiteOf spaces.old.processes spaces.old.areas self p a →
-            Touches result (shown_by spaces.old frames.old online moved failed)
-            (shown_by spaces.new frames.new online moved failed)
-            (filled (shown_by spaces.old frames.old online moved failed) (access_site self p a)) }
-        ensures memory { (moved failed : ℕ) (p : Process) (a : Placed) →
-            IsSiteOf spaces.old.processes spaces.old.areas self p a →
-            AsksLast result
-            (result_err (filled (shown_by spaces.old frames.old online moved failed) (access_site self p a))) }
+        ensures touches { TouchesBoth result self spaces.old frames.old spaces.new frames.new online
+            (λ s p at. filled s at) }
+        ensures memory { TouchesLast result self spaces.old frames.old online (λ s p at. filled s at) }
         ensures kept { AreKept spaces.new frames.new online }
         ensures left { frames.new.vacated ≡ frames.old.vacated }
         ensures room { frames.new.room ≡ frames.old.room }
 
         // On success
         ensures frame { IfOk result
-            (λ frame. frame_of spaces.new.place
-            (sight_in (get nat_cmp spaces.new.processes self.pid) self.vpn)
-            ≡ Some frame) }
+            (λ frame. frame_of spaces.new.place (seen_by spaces.new self) ≡ Some frame) }
     {
         let ResolvedAddress { pid, vpn, page, .. } = self;
         let Some(node) = first_node(frames, online, &self) else {

@@ -150,7 +150,7 @@ by_page [] h = tt
 by_page (Spot pid v b ∷ ws) h = absurd h.0
 by_page (Whole p ∷ ws) h = (refl, by_page ws h.1)
 
-one_all : (ws : List Wanted) → HasOneAll ws → (all : Bool) × AllByRecursion (λ w. moves_all w ≡ all) ws
+pub one_all : (ws : List Wanted) → HasOneAll ws → (all : Bool) × AllByRecursion (λ w. moves_all w ≡ all) ws
 one_all ws h = ⊎_elim (λ a. (a.0, by_address a.0 ws a.1)) (λ p. (true, by_page ws p)) h
 
 -- the plan for requests says what becomes of them one after another

@@ -10,8 +10,14 @@ use Rattle.nm_types.specs.State.{Process, State}
 use Rattle.nm_model.specs.definitions.Seen.{sight_at}
 use Rattle.nm_model.specs.definitions.Frames.{prepended}
 use Rattle.nm_engine.specs.declared.prepared_run.undo.Undo.{Undo}
+use Rattle.nm_engine.specs.declared.touch.Touched.{Touched}
 use Rattle.nm_model.specs.definitions.Effect.{seeing_before}
 use Rattle.nm_model.specs.definitions.Sound.{IsSoundMidRun}
+
+-- a touch of a process at a page number, where it saw the page of zeros or nothing; the page got a frame, or none was given
+abbrev pub touched_at : ℕ → ℕ → Bool → Option ℕ → Option (Page × ℕ) → Touched
+touched_at pid v zero frame given =
+    record { frame = frame; undo = Some (record { pid = pid; vpn = v; zero = zero; given = given }) }
 
 -- a process sees at a page number what it saw before: the page of zeros, or nothing
 abbrev pub seen_before : State → Option Process → ℕ → ℕ → Bool → State

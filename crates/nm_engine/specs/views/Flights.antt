@@ -1,22 +1,34 @@
 -- A run whose pages are on their way, with the whole machine.
-use Rattle.std.specs.Prelude.{◌≡◌, ℕ, ◌<◌, true, List, Some, map}
-use Rattle.std.specs.List.{AllByRecursion}
+use Rattle.std.specs.Prelude.{◌≡◌, ℕ, ◌<◌, ◌≤◌, ◌++◌, ℤ, Bool, true, List, [], ◌∷◌, Some, map, vec_len, vec_capacity}
+use Rattle.std.specs.List.{AllByRecursion, list_all}
+use Rattle.std.specs.declared.vec.Vec.{Vec}
 use Rattle.nm_types.specs.Map.{Map}
 use Rattle.nm_types.specs.declared.entry.Entry.TheVariants.{Held}
+use Rattle.nm_types.specs.declared.request.Wanted.{Wanted}
 use Rattle.nm_types.specs.declared.taken.Taken.{Taken}
 use Rattle.nm_types.specs.Layout.{node_count}
 use Rattle.nm_types.specs.State.{State}
 use Rattle.nm_frames.specs.declared.job.CopyJob.{CopyJob}
 use Rattle.nm_frames.specs.Job.{copied}
 use Rattle.nm_frames.specs.Populated.{IsPopulated}
-use Rattle.nm_model.specs.definitions.BeforeCopy.{with_fronts, frames_taken}
+use Rattle.nm_model.specs.definitions.Accesses.{accessed}
+use Rattle.nm_model.specs.definitions.BeforeCopy.{PendingAccess, after_copy, all_after_copy, answer_after_copy, with_fronts, frames_taken}
+use Rattle.nm_model.specs.definitions.Decide.{Planned}
+use Rattle.nm_model.specs.definitions.Events.{Event, accesses_in, after, begun, ended, is_given}
 use Rattle.nm_model.specs.definitions.Frames.{Store}
 use Rattle.nm_model.specs.definitions.PageTables.{Task, entry_at}
 use Rattle.nm_model.specs.definitions.Run.{frames_left}
-use Rattle.nm_model.specs.definitions.RunMachine.{RunMachine, state_of}
+use Rattle.nm_model.specs.definitions.RunMachine.{RunMachine, Moving, state_of}
 use Rattle.nm_model.specs.definitions.Sound.{IsSound}
+use Rattle.nm_model.specs.definitions.Touch.{Access, AccessAnswer, all_in_flight, in_flight}
+use Rattle.nm_laws.specs.Interleavings.{IsAtRest}
+use Rattle.nm_laws.specs.Laws.{moves_all}
 use Rattle.nm_laws.specs.Midway.{IsMidway, ends_of}
-use Rattle.nm_laws.specs.Moves.{CanMove}
+use Rattle.nm_laws.specs.Moves.{CanMove, IsPlanOf}
+use Rattle.nm_memory.specs.declared.answers.AccessAnswer.{AccessAnswer as Given}
+use Rattle.nm_memory.specs.declared.pending_access.PendingAccess.{PendingAccess as Left}
+use Rattle.nm_memory.specs.definitions.AfterCopy.{CanDo, all_stored_after_copy}
+use Rattle.nm_memory.specs.views.Accesses.{HasRoom, answer_shown, pending_shown}
 use Rattle.nm_memory.specs.views.Copies.{refilled, CanRefill}
 use Rattle.nm_memory.specs.views.Frames.{FramesView, HasAllFrames}
 use Rattle.nm_spaces.specs.views.AddressSpaces.{AddressSpacesView}
@@ -86,3 +98,44 @@ module _ {A : Type 0} where
     pub state : state_of m ≡ state_meanwhile x jobs
     pub entries : (pid v : ℕ) → entry_at m.tasks pid v ≡ entry_at x.tables pid v
     pub ends : map ends_of m.jobs ≡ map (λ t. (t.from, t.to)) x.moves
+
+  -- what is left to do for accesses can be done meanwhile, and an empty list has room for their answers
+  pub record CanAnswer (x : Flight) (dues : Vec (Left A) A) (answers : Vec (Given A) A) : Type 0 where
+    pub can : AllByRecursion (CanDo x.spaces.place x.frames.frames) (map pending_shown dues.items)
+    pub room : AllByRecursion HasRoom dues.items
+    pub unanswered : answers.items ≡ []
+    pub space : vec_len dues ≤ vec_capacity answers
+
+  -- it is done, in order, on the bytes that are home, and these are the answers
+  pub record AnswersEach (x : Flight) (dues : List (Left A)) (y : Flight) (told : List (Given A)) : Type 0 where
+    pub run : y ≡ with_store x (all_stored_after_copy x.spaces.place x.frames.frames (map pending_shown dues)).store
+    pub answers : map answer_shown told ≡ (all_stored_after_copy x.spaces.place x.frames.frames (map pending_shown dues)).answers
+
+  -- a run machine that begins the run of a plan with these moves is then at this moment
+  abbrev pub BeginsSo : MidRun → List Taken → Flight → List (CopyJob A) → Type 0
+  BeginsSo prepared moves x jobs =
+      (m : RunMachine) (target : ℕ) (wanted : List Wanted) (all : Bool) (p : Planned) →
+      IsAtRest m → AllByRecursion (λ w. moves_all w ≡ all) wanted → IsReadyFor prepared target moves →
+      state_of m ≡ with_fronts prepared.state target (frames_taken moves) →
+      IsPlanOf (state_of m) target wanted p → p.taken ≡ moves → IsMoment (begun m target wanted) x jobs
+
+  -- a run machine at the first moment, at the second once jobs are drawn and given back, and accesses made for which this is
+  -- left to do, with their answers
+  abbrev pub FliesSo : Flight → List (CopyJob A) → List PendingAccess → Flight → List (CopyJob A) → List AccessAnswer → Type 0
+  FliesSo x jobs dues y done answers =
+      (m n : RunMachine) (events : List Event) → IsMoment m x jobs → after m events ≡ Some n → n.phase ≡ Moving →
+      all_in_flight (state_of m) (map (λ t. t.page) x.moves) (accesses_in events) ≡ all_after_copy (state_of m) dues →
+      IsMoment n y done × (n.answers ≡ m.answers ++ answers)
+
+  -- a run machine at this moment, whose jobs are given back, is in this state once it has ended the run
+  abbrev pub EndsAs : Flight → List (CopyJob A) → List ℤ → State → Type 0
+  EndsAs x jobs statuses s =
+      (m : RunMachine) → IsMoment m x jobs → list_all (λ job. is_given job.stage) m.jobs ≡ true → m.statuses ≡ statuses →
+      state_of (ended m) ≡ s
+
+-- a run machine at the first moment, at the second once an access is made for which this is left to do, with its answer
+abbrev pub AnswersSo : (A : Type 0) → Flight → PendingAccess → Flight → AccessAnswer → Type 0
+AnswersSo A x due y answer =
+    (m : RunMachine) (a : Access) (jobs : List (CopyJob A)) → AreOutIn x jobs → IsMoment m x jobs →
+    in_flight (state_of m) (map (λ t. t.page) x.moves) a ≡ record { state = after_copy (state_of m) due; answer = answer_after_copy (state_of m) due } →
+    IsMoment (accessed m a) y jobs × ((accessed m a).answers ≡ m.answers ++ answer ∷ [])

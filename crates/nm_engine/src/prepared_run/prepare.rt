@@ -1,20 +1,19 @@
 //! Accesses that processes make while the pages of a run move: whatever has to be allocated for them is allocated
 //! before.
 
-ghost use Rattle.std.specs.Prelude.{◌≡◌, ◌≤◌, ◌<◌, [], map, length, ◌+◌, vec_len, IfOk, OnOk, OnErr};
-ghost use Rattle.std.specs.List.{AllByRecursion, list_any};
+ghost use Rattle.std.specs.Prelude.{◌≡◌, ◌<◌, [], map, length, ◌+◌, IfOk, OnOk, OnErr};
+ghost use Rattle.std.specs.List.{list_any};
 ghost use Rattle.nm_types.specs.declared.page.Page.{Page};
 ghost use Rattle.nm_types.specs.Layout.{node_count};
 ghost use Rattle.nm_types.specs.Map.{same_page};
 ghost use Rattle.nm_laws.specs.Moves.{CanMove};
 ghost use Rattle.nm_model.specs.definitions.Sound.{IsSound};
 ghost use Rattle.nm_model.specs.definitions.Touch.{Read, Write};
-ghost use Rattle.nm_engine.specs.views.MidRun.{with_state};
-ghost use Rattle.nm_model.specs.definitions.BeforeCopy.{before_copy, all_before_copy, without_fronts, frames_taken};
+ghost use Rattle.nm_model.specs.views.Asked.{access_shown};
 ghost use Rattle.nm_engine.specs.definitions.Does.{ComesToTouch};
 ghost use Rattle.nm_engine.specs.definitions.Undo.{IsStillUndone};
-ghost use Rattle.nm_model.specs.views.Asked.{access_shown};
-ghost use Rattle.nm_memory.specs.views.Accesses.{pending_shown, HasRoom};
+ghost use Rattle.nm_engine.specs.views.Early.{Prepares, TakesFrames, TouchesEach, TouchesEarly};
+ghost use Rattle.nm_engine.specs.views.Runs.{accesses_shown};
 
 use crate::prepared_run::PreparedRun;
 use crate::prepared_run::undo::Undo;
@@ -40,25 +39,9 @@ impl<A: Allocator + Copy> PreparedRun<A> {
         requires target { target < node_count self.old.state.layout }
         requires none { self.old.left ≡ [] }
         requires moves { CanMove self.old.state target moves.now }
-
-        // On success
-        ensures state { OnOk result
-            (self.new.state
-            ≡ (all_before_copy (without_fronts self.old.state target (length moves.now))
-            (map (λ t. t.page) moves.now) (map (λ a. access_shown a.now) accesses.now)).state) }
-        ensures dues { IfOk result
-            (λ dues. map pending_shown dues.items
-            ≡ (all_before_copy (without_fronts self.old.state target (length moves.now))
-            (map (λ t. t.page) moves.now) (map (λ a. access_shown a.now) accesses.now)).dues) }
-        ensures ready { IfOk result (λ dues. AllByRecursion HasRoom dues.items) }
-        ensures len { IfOk result (λ dues. vec_len dues ≡ length accesses.now) }
-        ensures left { OnOk result (self.new.left ≡ frames_taken moves.now) }
-        ensures room { OnOk result (length moves.now ≤ self.new.room) }
-
-        // In any case
+        ensures prepared { IfOk result
+            (λ dues. Prepares self.old target moves.now (accesses_shown accesses.now) self.new dues) }
         ensures sound { IsSound self.old.state }
-
-        // Without memory
         ensures err { OnErr result (self.new ≡ record (self.old) { room = self.new.room }) }
         ensures asked { OnErr result (0 < length moves.now + length accesses.now) }
     {
@@ -79,17 +62,8 @@ impl<A: Allocator + Copy> PreparedRun<A> {
         requires target { target < node_count self.old.state.layout }
         requires none { self.old.left ≡ [] }
         requires moves { CanMove self.old.state target moves.now }
-
-        // On success
-        ensures state { OnOk result
-            (self.new.state ≡ without_fronts self.old.state target (length moves.now)) }
-        ensures left { OnOk result (self.new.left ≡ frames_taken moves.now) }
-        ensures room { OnOk result (length moves.now ≤ self.new.room) }
-
-        // In any case
+        ensures taken { OnOk result (TakesFrames self.old target moves.now self.new) }
         ensures sound { IsSound self.old.state }
-
-        // Without memory
         ensures err { OnErr result (self.new ≡ record (self.old) { room = self.new.room }) }
         ensures asked { OnErr result (0 < length moves.now) }
     {
@@ -106,22 +80,8 @@ impl<A: Allocator + Copy> PreparedRun<A> {
         moves: &[Taken],
         accesses: &[&'d Access<A>],
     ) -> Result<Vec<PendingAccess<'d, A>, A>, AllocError>
-        // On success
-        ensures state { OnOk result
-            (self.new.state
-            ≡ (all_before_copy self.old.state (map (λ t. t.page) moves.now)
-            (map (λ a. access_shown a.now) accesses.now)).state) }
-        ensures dues { IfOk result
-            (λ dues. map pending_shown dues.items
-            ≡ (all_before_copy self.old.state (map (λ t. t.page) moves.now)
-            (map (λ a. access_shown a.now) accesses.now)).dues) }
-        ensures room { IfOk result (λ dues. AllByRecursion HasRoom dues.items) }
-        ensures len { IfOk result (λ dues. vec_len dues ≡ length accesses.now) }
-
-        // Nothing else changes
-        ensures same { self.new ≡ with_state self.old (self.new.state) }
-
-        // Without memory
+        ensures touched { IfOk result
+            (λ dues. TouchesEach self.old (map (λ t. t.page) moves.now) (accesses_shown accesses.now) self.new dues) }
         ensures err { OnErr result (self.new ≡ self.old) }
         ensures asked { OnErr result (0 < length accesses.now) }
     {
@@ -150,23 +110,10 @@ impl<A: Allocator + Copy> PreparedRun<A> {
         access: &'d Access<A>,
         undos: &mut Vec<Undo, A>,
     ) -> Result<PendingAccess<'d, A>, AllocError>
-        // On success
-        ensures state { OnOk result
-            (self.new.state
-            ≡ (before_copy self.old.state moving.now.keys (access_shown access.now)).state) }
-        ensures due { IfOk result
-            (λ due. pending_shown due
-            ≡ (before_copy self.old.state moving.now.keys (access_shown access.now)).due) }
-        ensures room { IfOk result (λ due. HasRoom due) }
-
-        // Nothing else changes
-        ensures same { self.new ≡ with_state self.old (self.new.state) }
-
-        // Without memory
+        ensures touched { IfOk result
+            (λ due. TouchesEarly self.old moving.now.keys (access_shown access.now) self.new due) }
         ensures err { OnErr result (self.new ≡ self.old) }
         ensures asked { OnErr result (ComesToTouch self.old.state moving.now.keys (access_shown access.now)) }
-
-        // The touches to undo
         ensures back { IsStillUndone self.old.left self.old.state undos.old.items self.new.state undos.new.items }
     {
         match access {
@@ -186,22 +133,10 @@ impl<A: Allocator + Copy> PreparedRun<A> {
         len: u64,
         undos: &mut Vec<Undo, A>,
     ) -> Result<PendingAccess<'d, A>, AllocError>
-        // On success
-        ensures state { OnOk result
-            (self.new.state ≡ (before_copy self.old.state moving.now.keys (Read pid addr len)).state) }
-        ensures due { IfOk result
-            (λ due. pending_shown due
-            ≡ (before_copy self.old.state moving.now.keys (Read pid addr len)).due) }
-        ensures room { IfOk result (λ due. HasRoom due) }
-
-        // Nothing else changes
-        ensures same { self.new ≡ with_state self.old (self.new.state) }
-
-        // Without memory
+        ensures touched { IfOk result
+            (λ due. TouchesEarly self.old moving.now.keys (Read pid addr len) self.new due) }
         ensures err { OnErr result (self.new ≡ self.old) }
         ensures asked { OnErr result (ComesToTouch self.old.state moving.now.keys (Read pid addr len)) }
-
-        // The touches to undo
         ensures back { IsStillUndone self.old.left self.old.state undos.old.items self.new.state undos.new.items }
     {
         let resolved = match ResolvedAddress::of(&self.spaces, pid, addr, len) {
@@ -240,23 +175,10 @@ impl<A: Allocator + Copy> PreparedRun<A> {
         bytes: &'d [u8],
         undos: &mut Vec<Undo, A>,
     ) -> Result<PendingAccess<'d, A>, AllocError>
-        // On success
-        ensures state { OnOk result
-            (self.new.state
-            ≡ (before_copy self.old.state moving.now.keys (Write pid addr bytes.now)).state) }
-        ensures due { IfOk result
-            (λ due. pending_shown due
-            ≡ (before_copy self.old.state moving.now.keys (Write pid addr bytes.now)).due) }
-        ensures room { IfOk result (λ due. HasRoom due) }
-
-        // Nothing else changes
-        ensures same { self.new ≡ with_state self.old (self.new.state) }
-
-        // Without memory
+        ensures touched { IfOk result
+            (λ due. TouchesEarly self.old moving.now.keys (Write pid addr bytes.now) self.new due) }
         ensures err { OnErr result (self.new ≡ self.old) }
         ensures asked { OnErr result (ComesToTouch self.old.state moving.now.keys (Write pid addr bytes.now)) }
-
-        // The touches to undo
         ensures back { IsStillUndone self.old.left self.old.state undos.old.items self.new.state undos.new.items }
     {
         let resolved = match ResolvedAddress::of(&self.spaces, pid, addr, bytes.len() as u64) {

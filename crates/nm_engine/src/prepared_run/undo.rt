@@ -1,18 +1,16 @@
 //! Undoing touches.
 
 ghost use Rattle.std.specs.Prelude.{◌≡◌, [], true, vec_capacity, Some, IfOk, IfNone, IsSome, OnErr, OnOk};
-ghost use Rattle.std.specs.Ordering.{nat_cmp};
 ghost use Rattle.nm_types.specs.declared.sight.Sight.TheVariants.{ZeroPage};
-ghost use Rattle.nm_types.specs.Map.{get, page_cmp};
 ghost use Rattle.nm_types.specs.State.{Process, Placed};
 ghost use Rattle.nm_model.specs.definitions.Seen.{sight_at};
-ghost use Rattle.nm_model.specs.definitions.Touch.{touched_entry};
 ghost use Rattle.nm_engine.specs.views.MidRun.{with_state};
-ghost use Rattle.nm_engine.specs.views.Parts.{IsSiteOf, access_site};
+ghost use Rattle.nm_engine.specs.views.Parts.{HasSite, IsSiteOf, access_site, noted_by, touched_by};
+ghost use Rattle.nm_engine.specs.views.Spaces.{spaces_of};
 ghost use Rattle.nm_engine.specs.definitions.Does.{Touches};
 ghost use Rattle.nm_model.specs.definitions.Seen.{frame_seen};
 ghost use Rattle.nm_model.specs.definitions.Sound.{IsSoundMidRun};
-ghost use Rattle.nm_engine.specs.definitions.Undo.{CanUndo, IsUndoable, IsStillUndone, undone, all_undone, noted, with_undo};
+ghost use Rattle.nm_engine.specs.definitions.Undo.{CanUndo, IsUndoable, IsStillUndone, undone, all_undone, with_undo};
 
 use crate::prepared_run::PreparedRun;
 use crate::resolved_address::ResolvedAddress;
@@ -40,14 +38,13 @@ impl<A: Allocator + Copy> PreparedRun<A> {
         writes: bool,
         undos: &mut Vec<Undo, A>,
     ) -> Result<Option<FrameId>, MachineError>
-        requires { (p : Process) × (a : Placed)
-            × IsSiteOf self.old.state.processes self.old.state.areas t p a }
+        requires { HasSite self.old.state.processes self.old.state.areas t }
 
         // The touch
         ensures touches { (p : Process) (a : Placed) →
             IsSiteOf self.old.state.processes self.old.state.areas t p a →
             Touches result self.old.state self.new.state
-            (touched_entry self.old.state (access_site t p a) writes (get nat_cmp p.sees t.vpn)) }
+            (touched_by t writes self.old.state p (access_site t p a)) }
         ensures frame { IfOk result (λ frame. frame ≡ frame_seen self.new.state t.pid t.vpn) }
         ensures some { IfOk result (λ frame. writes ≡ true → IsSome frame) }
         ensures zeros { IfOk result
@@ -57,9 +54,7 @@ impl<A: Allocator + Copy> PreparedRun<A> {
         // The notes
         ensures noted { IfOk result
             (λ frame. undos.new.items
-            ≡ with_undo undos.old.items
-            (noted t.pid t.vpn t.page (sight_at self.old.state t.pid t.vpn)
-            (get page_cmp self.old.state.place t.page) frame)) }
+            ≡ with_undo undos.old.items (noted_by t (spaces_of self.old.state) frame)) }
         ensures err { OnErr result (undos.new.items ≡ undos.old.items) }
         ensures sound { OnOk result (IsSoundMidRun self.old.state self.old.left) }
         ensures back { IsStillUndone self.old.left self.old.state undos.old.items self.new.state undos.new.items }

@@ -1,4 +1,4 @@
-use Rattle.std.proofs.Common.{◌≡◌, ℕ, ◌+◌, ◌<◌, List, [], ◌∷◌, map, length, ap, sym, subst, ◌∙◌, arith}
+use Rattle.std.proofs.Common.{◌≡◌, ℕ, ◌+◌, ◌<◌, List, [], ◌∷◌, map, length, refl, ap, sym, subst, ◌∙◌, arith}
 use Rattle.std.specs.List.{AllByRecursion}
 use Rattle.std.proofs.lemmas.List.{length-map}
 use Rattle.nm_types.specs.Layout.{node_count}
@@ -17,12 +17,19 @@ use Rattle.nm_model.specs.definitions.Decide.{Planned}
 use Rattle.nm_model.specs.definitions.Run.{failures, frames_left, run, with_all_free, with_counts}
 use Rattle.nm_model.specs.definitions.Sound.{IsSound}
 use Rattle.nm_model.specs.definitions.Touch.{Access, AllAnswered}
-use Rattle.nm_model.specs.views.Asked.{access_shown}
 use Rattle.nm_memory.specs.views.Accesses.{answer_shown, pending_shown}
 use Rattle.nm_engine.specs.views.Flights.{Flight, IsReadyFor, state_meanwhile}
 use Rattle.nm_engine.specs.views.MidRun.{MidRun}
+use Rattle.nm_engine.specs.views.Runs.{accesses_shown, asked_by, pair_of}
+use Rattle.nm_engine.proofs.Early.{early_state, early_dues, early_left, early_room}
+use Rattle.nm_engine.proofs.Runs.ByEvents.{goes_by_events}
 use Rattle.nm_engine.proofs.InFlight.Flights.{copied_twice}
 use Rattle.nm_engine.proofs.planned_run.make_run.Goals as goal
+
+-- a job's copy is between the same frames
+still_pairs : {A : Type 0} (jobs : List (CopyJob A)) → map pair_of (map copied jobs) ≡ map pair_of jobs
+still_pairs [] = refl
+still_pairs (job ∷ jobs) = ap (λ ps. pair_of job ∷ ps) (still_pairs jobs)
 
 -- what holds of each thing that is left to do
 all_by : {P Q : PendingAccess → Type 0} (ds : List PendingAccess) → ((d : PendingAccess) → P d → Q d) → AllByRecursion P ds → AllByRecursion Q ds
@@ -59,40 +66,39 @@ begin-run-requires-clause-ready g c κs within =
     let t = c.args.planned.requests.now.target in
     let ws = c.args.planned.requests.now.wanted.items in
     let moves : List Taken = c.moves-moves.result.now in
-    let accesses : List Access = map (λ a. access_shown {A = g.row.A.Denot} a.now) c.args.planned.accesses.now in
+    let accesses : List Access = accesses_shown {A = g.row.A.Denot} c.args.planned.accesses.now in
     let at = c.of-run.ensures.state in
     let ready = planned_phases r t moves accesses c.args.machine ws c.args.planned.plan at c.requires.plan c.moves-moves.ensures c.in-Ok.ensures.sound c.requires.target in
-    (t, ready_for c.prepare.new.self r c.args.machine t moves accesses at c.requires.target c.in-Ok.ensures.left c.in-Ok.ensures.state ready.1.back ready.1.can)
+    (t, ready_for c.prepare.new.self r c.args.machine t moves accesses at c.requires.target (early_left c.of-run.result t moves accesses c.prepare.new.self c.in-Ok.dues c.in-Ok.ensures.prepared) (early_state c.of-run.result t moves accesses c.prepare.new.self c.in-Ok.dues c.in-Ok.ensures.prepared) ready.1.back ready.1.can)
 
 pub begin-run-requires-clause-few : goal.begin-run-requires-clause-few
-begin-run-requires-clause-few g c κs within = c.in-Ok.ensures.room
+begin-run-requires-clause-few g c κs within =
+    early_room c.of-run.result c.args.planned.requests.now.target c.moves-moves.result.now (accesses_shown {A = g.row.A.Denot} c.args.planned.accesses.now) c.prepare.new.self c.in-Ok.dues c.in-Ok.ensures.prepared
 
-pub copy_beside-run-requires-clause-due : goal.copy_beside-run-requires-clause-due
-copy_beside-run-requires-clause-due g c κs within =
+pub copy_beside-run-requires-clause-can : goal.copy_beside-run-requires-clause-can
+copy_beside-run-requires-clause-can g c κs within =
     let r = c.of-run.result.state in
     let t = c.args.planned.requests.now.target in
     let ws = c.args.planned.requests.now.wanted.items in
     let moves : List Taken = c.moves-moves.result.now in
-    let accesses : List Access = map (λ a. access_shown {A = g.row.A.Denot} a.now) c.args.planned.accesses.now in
+    let accesses : List Access = accesses_shown {A = g.row.A.Denot} c.args.planned.accesses.now in
     let ready = planned_phases r t moves accesses c.args.machine ws c.args.planned.plan c.of-run.ensures.state c.requires.plan c.moves-moves.ensures c.in-Ok.ensures.sound c.requires.target in
-    all_by (map pending_shown c.in-Ok.dues.items) c.begin-run.ensures.due
-    (subst (λ (ds : List PendingAccess). AllByRecursion (IsPending (pages_of moves) c.prepare.new.self.state) ds) (sym c.in-Ok.ensures.dues)
-    (subst (λ (x : State). AllByRecursion (IsPending (pages_of moves) x) (touched_all r t moves accesses).dues) (sym c.in-Ok.ensures.state) ready.1.due))
+    let many : length accesses ≡ length c.args.planned.accesses.now = length-map c.args.planned.accesses.now _ in
+    record {
+      can =
+          all_by (map pending_shown c.in-Ok.dues.items) c.begin-run.ensures.due
+          (subst (λ (ds : List PendingAccess). AllByRecursion (IsPending (pages_of moves) c.prepare.new.self.state) ds) (sym (early_dues c.of-run.result t moves accesses c.prepare.new.self c.in-Ok.dues c.in-Ok.ensures.prepared))
+          (subst (λ (x : State). AllByRecursion (IsPending (pages_of moves) x) (touched_all r t moves accesses).dues) (sym (early_state c.of-run.result t moves accesses c.prepare.new.self c.in-Ok.dues c.in-Ok.ensures.prepared)) ready.1.due));
+      room = c.in-Ok.ensures.prepared.touches.room;
+      unanswered = c.requires.unanswered;
+      space = omega (arith, c.in-Ok.ensures.prepared.touches.len, many, c.requires.space);
+    }
 
 pub copy_beside-run-requires-clause-out : goal.copy_beside-run-requires-clause-out
 copy_beside-run-requires-clause-out g c κs within = c.begin-run.ensures.out
 
 pub copy_beside-run-requires-clause-tickets : goal.copy_beside-run-requires-clause-tickets
 copy_beside-run-requires-clause-tickets g c κs within = c.begin-run.ensures.tickets
-
-pub copy_beside-run-requires-clause-room : goal.copy_beside-run-requires-clause-room
-copy_beside-run-requires-clause-room g c κs within = c.in-Ok.ensures.ready
-
-pub copy_beside-run-requires-clause-unanswered : goal.copy_beside-run-requires-clause-unanswered
-copy_beside-run-requires-clause-unanswered g c κs within = c.requires.unanswered
-
-pub copy_beside-run-requires-clause-space : goal.copy_beside-run-requires-clause-space
-copy_beside-run-requires-clause-space g c κs within = omega (arith, c.in-Ok.ensures.len, c.requires.space)
 
 pub finish-machine-requires-clause-out : goal.finish-machine-requires-clause-out
 finish-machine-requires-clause-out g c κs within = c.copy_beside-run.ensures.out
@@ -105,47 +111,50 @@ finish-machine-requires-clause-done g c κs within =
 pub returns-in-Ok-clause-failed : goal.returns-in-Ok-clause-failed
 returns-in-Ok-clause-failed g c = c.finish-machine.ensures.failed ∙ ap failures (c.statuses.ensures ∙ sym c.into_statuses.ensures)
 
-pub returns-in-Ok-clause-statuses : goal.returns-in-Ok-clause-statuses
-returns-in-Ok-clause-statuses g c = c.into_statuses.ensures ∙ sym c.requires.plan.agrees.statuses
-
-pub returns-in-Ok-clause-answers : goal.returns-in-Ok-clause-answers
-returns-in-Ok-clause-answers g c =
+pub returns-in-Ok-clause-run : goal.returns-in-Ok-clause-run
+returns-in-Ok-clause-run g c =
     let r = c.of-run.result.state in
     let t = c.args.planned.requests.now.target in
     let ws = c.args.planned.requests.now.wanted.items in
     let moves : List Taken = c.moves-moves.result.now in
-    let accesses : List Access = map (λ a. access_shown {A = g.row.A.Denot} a.now) c.args.planned.accesses.now in
+    let accesses : List Access = accesses_shown {A = g.row.A.Denot} c.args.planned.accesses.now in
     let at = c.of-run.ensures.state in
-    let ready = planned_phases r t moves accesses c.args.machine ws c.args.planned.plan at c.requires.plan c.moves-moves.ensures c.in-Ok.ensures.sound c.requires.target in
-    let early = touched_all r t moves accesses in
-    let dues = map pending_shown c.in-Ok.dues.items in
-    let made : List PendingAccess → State → AllAnswered = λ ds x. all_after_copy (with_moves (with_fronts x t (frames_taken moves)) t moves) ds in
-    run_answers r t ws c.args.planned.plan moves accesses (all_after_copy (with_moves (given_back r t moves accesses) t moves) early.dues) ready.0 c.moves-moves.ensures ready.1.flight (map (answer_shown {A = g.row.A.Denot}) c.copy_beside-run.result.2.items)
-    (c.copy_beside-run.ensures.answers ∙ ap (λ (x : State). (all_after_copy x dues).answers) (c.begin-run.ensures.state t (ready_for c.prepare.new.self r c.args.machine t moves accesses at c.requires.target c.in-Ok.ensures.left c.in-Ok.ensures.state ready.1.back ready.1.can))
-    ∙ ap (λ (x : State). (made dues x).answers) c.in-Ok.ensures.state ∙ ap (λ (ds : List PendingAccess). (made ds early.state).answers) c.in-Ok.ensures.dues)
-    ∙ ap (λ (s : State). (run s t ws accesses).answers) at
-
-pub returns-in-Ok-clause-state : goal.returns-in-Ok-clause-state
-returns-in-Ok-clause-state g c =
-    let r = c.of-run.result.state in
-    let t = c.args.planned.requests.now.target in
-    let ws = c.args.planned.requests.now.wanted.items in
-    let moves : List Taken = c.moves-moves.result.now in
-    let accesses : List Access = map (λ a. access_shown {A = g.row.A.Denot} a.now) c.args.planned.accesses.now in
-    let at = c.of-run.ensures.state in
+    let touched = early_state c.of-run.result t moves accesses c.prepare.new.self c.in-Ok.dues c.in-Ok.ensures.prepared in
+    let told = early_dues c.of-run.result t moves accesses c.prepare.new.self c.in-Ok.dues c.in-Ok.ensures.prepared in
+    let left = early_left c.of-run.result t moves accesses c.prepare.new.self c.in-Ok.dues c.in-Ok.ensures.prepared in
     let ready = planned_phases r t moves accesses c.args.machine ws c.args.planned.plan at c.requires.plan c.moves-moves.ensures c.in-Ok.ensures.sound c.requires.target in
     let early = touched_all r t moves accesses in
     let dues = map pending_shown c.in-Ok.dues.items in
     let flown = c.copy_beside-run.result.0 in
     let now = state_meanwhile flown c.copy_beside-run.result.1.items in
-    let made : List PendingAccess → State → AllAnswered = λ ds x. all_after_copy (with_moves (with_fronts x t (frames_taken moves)) t moves) ds in
+    let during = all_after_copy (with_moves (given_back r t moves accesses) t moves) early.dues in
+    let begun = c.begin-run.ensures.state t (ready_for c.prepare.new.self r c.args.machine t moves accesses at c.requires.target left touched ready.1.back ready.1.can) in
+    let made : all_after_copy (state_meanwhile c.begin-run.result.0 c.begin-run.result.1.items) dues ≡ during =
+    ap (λ (x : State). all_after_copy x dues) begun
+    ∙ (λ i. all_after_copy (with_moves (with_fronts (touched i) t (frames_taken moves)) t moves) (told i)) in
+    let state =
     c.finish-machine.ensures.state
     ∙ ap (λ n. with_counts (with_all_free now (frames_left flown.moves)) n (failures c.statuses.result.now)) (sym (length-map flown.moves (λ (t : Taken). t.from)))
-    ∙ run_state r t ws c.args.planned.plan moves accesses (all_after_copy (with_moves (given_back r t moves accesses) t moves) early.dues) ready.0 c.moves-moves.ensures ready.1.flight now (frames_left flown.moves) c.statuses.result.now
-    (c.copy_beside-run.ensures.state ∙ ap (λ (x : State). (all_after_copy x dues).state) (c.begin-run.ensures.state t (ready_for c.prepare.new.self r c.args.machine t moves accesses at c.requires.target c.in-Ok.ensures.left c.in-Ok.ensures.state ready.1.back ready.1.can))
-    ∙ ap (λ (x : State). (made dues x).state) c.in-Ok.ensures.state ∙ ap (λ (ds : List PendingAccess). (made ds early.state).state) c.in-Ok.ensures.dues)
+    ∙ run_state r t ws c.args.planned.plan moves accesses during ready.0 c.moves-moves.ensures ready.1.flight now (frames_left flown.moves) c.statuses.result.now
+    (c.copy_beside-run.ensures.state ∙ ap (λ (x : AllAnswered). x.state) made)
     (ap (λ (x : Flight). frames_left x.moves) c.copy_beside-run.ensures.run ∙ ap frames_left c.begin-run.ensures.moves) c.statuses.ensures
-    ∙ ap (λ (s : State). (run s t ws accesses).state) at
+    ∙ ap (λ (s : State). (run s t ws accesses).state) at in
+    let answers =
+    run_answers r t ws c.args.planned.plan moves accesses during ready.0 c.moves-moves.ensures ready.1.flight (map (answer_shown {A = g.row.A.Denot}) c.copy_beside-run.result.2.items)
+    (c.copy_beside-run.ensures.answers ∙ ap (λ (x : AllAnswered). x.answers) made)
+    ∙ ap (λ (s : State). (run s t ws accesses).answers) at in
+    let statuses = c.into_statuses.ensures ∙ sym c.requires.plan.agrees.statuses in
+    λ i. record { state = state i; statuses = statuses i; answers = answers i }
+
+pub returns-in-Ok-clause-events : goal.returns-in-Ok-clause-events
+returns-in-Ok-clause-events g c =
+    let moves : List Taken = c.moves-moves.result.now in
+    let sound = subst IsSound c.of-run.ensures.state c.in-Ok.ensures.sound in
+    let pairs : map pair_of c.copy_beside-run.result.1.items ≡ _ = ap (map pair_of) c.copy_beside-run.ensures.jobs ∙ still_pairs c.begin-run.result.1.items ∙ c.begin-run.ensures.pairs in (
+      c.copy_beside-run.result.1,
+      c.copy_beside-run.ensures.done,
+      goes_by_events c.args.machine (asked_by c.args.planned.requests.now c.args.planned.accesses.now) c.args.planned.plan moves _ _ sound c.requires.alike c.requires.plan c.moves-moves.ensures pairs (returns-in-Ok-clause-run g c),
+    )
 
 -- memory that is asked for moves, or for accesses, is asked for none where nothing is requested
 asked_for : (s : State) (t : ℕ) (ws : List Wanted) (p : Planned) (moves : List Taken) (n : ℕ) → IsPlanOf s t ws p → moves ≡ p.taken → 0 < length moves + n → 0 < length ws + n

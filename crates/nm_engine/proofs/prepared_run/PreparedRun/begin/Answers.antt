@@ -1,4 +1,4 @@
-use Rattle.std.proofs.Common.{◌≡◌, ℕ, ◌<◌, List, [], ◌∷◌, map, refl, sym, ap, subst, ◌∙◌, arith}
+use Rattle.std.proofs.Common.{◌≡◌, ℕ, ◌+◌, ◌<◌, List, [], ◌∷◌, map, refl, sym, ap, subst, ◌∙◌, arith}
 use Rattle.std.specs.Prelude.{option_map, slice_get}
 use Rattle.std.specs.List.{AllByRecursion}
 use Rattle.std.specs.Ordering.{nat_cmp}
@@ -12,6 +12,7 @@ use Rattle.nm_model.specs.definitions.Events.{held_by, laid_for}
 use Rattle.nm_model.specs.definitions.Frames.{Store}
 use Rattle.nm_model.specs.definitions.Run.{frames_left}
 use Rattle.nm_model.specs.definitions.Sound.{IsSound}
+use Rattle.nm_types.specs.declared.taken.Taken.{Taken}
 use Rattle.nm_model.specs.definitions.Seen.{sight_in}
 use Rattle.nm_spaces.specs.definitions.Moves.{all_moved}
 use Rattle.nm_spaces.specs.views.AddressSpaces.{AddressSpacesView}
@@ -19,11 +20,12 @@ use Rattle.nm_spaces.specs.views.Held.{entry_here}
 use Rattle.nm_spaces.proofs.Held.HeldEntries.{held_is_taken, frames_stay, takes_below}
 use Rattle.nm_spaces.proofs.Held.NoEntryThere.{names_another}
 use Rattle.nm_memory.specs.definitions.AfterCopy.{CanDo}
-use Rattle.nm_memory.specs.views.Copies.{CanCopy, HasBoth, emptied, refilled, with_copies}
+use Rattle.nm_memory.specs.views.Copies.{CanCopy, HasBoth, emptied, jobs_of, refilled, with_copies, without_both}
 use Rattle.nm_memory.specs.views.Frames.{FramesView}
 use Rattle.nm_memory.proofs.Copies.Copied.{tickets_from}
 use Rattle.nm_memory.proofs.Copies.Populated.{after_populated}
 use Rattle.nm_engine.specs.views.MidRun.{MidRun, IsKept}
+use Rattle.nm_engine.specs.views.Runs.{pair_of}
 use Rattle.nm_engine.specs.views.Shown.{shown_by}
 use Rattle.nm_engine.specs.views.Spaces.{spaces_of}
 use Rattle.nm_engine.proofs.InFlight.AllAtOnce.{prepared, lefts_populated, both_whole, remap, can_copy, can_meanwhile, finished_shows, finished_kept}
@@ -154,6 +156,16 @@ returns-clause-out g c =
           (subst (λ (s : Store). AllByRecursion (IsPopulated s) (frames_left moves)) (sym home)
           (after_populated (frames_left moves) (all_moved i.spaces moves).place [] moves k.frames k.frames (both_whole i.spaces i.frames i.online i.totals.moved i.totals.failed r.0 moves [] h) tt leaves));
     }
+
+-- the jobs of moves are between the frames that these name
+pairs_are : (A : Type 0) (moves : List Taken) (k : ℕ) (store : Store) → map (pair_of {A = A}) (jobs_of k store moves) ≡ map (λ t. (t.from, t.to)) moves
+pairs_are A [] k store = refl
+pairs_are A (t ∷ moves) k store = ap (λ ps. (t.from, t.to) ∷ ps) (pairs_are A moves (k + 1) (without_both store t))
+
+pub returns-clause-pairs : goal.returns-clause-pairs
+returns-clause-pairs g c =
+    let v : FramesView = c.vacate_each.new.self in
+    ap (map pair_of) c.take_out-frames.ensures.jobs ∙ pairs_are g.row.A.Denot c.args.moves.now 0 v.frames
 
 pub returns-clause-tickets : goal.returns-clause-tickets
 returns-clause-tickets g c t job at =

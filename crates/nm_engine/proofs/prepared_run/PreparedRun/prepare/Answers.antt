@@ -1,11 +1,9 @@
-use Rattle.std.proofs.Common.{◌<◌, map, ap, sym, subst, ◌∙◌, arith}
+use Rattle.std.proofs.Common.{◌<◌, ap, sym, subst, ◌∙◌, arith}
 use Rattle.nm_types.specs.Layout.{node_count}
 use Rattle.nm_types.specs.State.{State}
-use Rattle.nm_types.specs.declared.taken.Taken.{Taken}
 use Rattle.nm_memory.specs.views.Frames.{FramesView}
 use Rattle.nm_memory.proofs.FreeLists.Returned.{sound_returns}
-use Rattle.nm_model.specs.views.Asked.{access_shown}
-use Rattle.nm_model.specs.definitions.BeforeCopy.{all_before_copy, with_fronts, frames_taken}
+use Rattle.nm_model.specs.definitions.BeforeCopy.{with_fronts, frames_taken}
 use Rattle.nm_model.specs.definitions.Sound.{IsSound}
 use Rattle.nm_engine.specs.views.MidRun.{MidRun, IsKept}
 use Rattle.nm_engine.specs.views.Shown.{shown_by}
@@ -14,7 +12,7 @@ use Rattle.nm_engine.proofs.prepared_run.PreparedRun.prepare.Goals as goal
 
 pub give_back-requires-clause-node : goal.give_back-requires-clause-node
 give_back-requires-clause-node g c =
-    let there = ap (λ (x : MidRun). x.state) (c.self.view_is ∙ c.in-Err.ensures.err) ∙ c.in_ok-take_frames.ensures.state in
+    let there = ap (λ (x : MidRun). x.state) (c.self.view_is ∙ c.in-Err.ensures.err) ∙ c.in_ok-take_frames.ensures.taken.state in
     subst (λ (x : State). c.args.target < node_count x.layout) (sym there) c.requires.target
 
 pub give_back-requires-clause-can : goal.give_back-requires-clause-can
@@ -24,7 +22,7 @@ give_back-requires-clause-can g c =
     let t = c.args.target in
     let moves = c.args.moves.now in
     let sound = c.in_ok-take_frames.ensures.sound in
-    let there = ap (λ (x : MidRun). x.state) (c.self.view_is ∙ c.in-Err.ensures.err) ∙ c.in_ok-take_frames.ensures.state in
+    let there = ap (λ (x : MidRun). x.state) (c.self.view_is ∙ c.in-Err.ensures.err) ∙ c.in_ok-take_frames.ensures.taken.state in
     let back = ap (λ (x : State). with_fronts x t (frames_taken moves)) there ∙ back_again c.args.self.now.state t moves (omega (arith, sound.frames.lists, c.requires.target)) c.requires.moves in
     let nodes = ap (λ (x : State). node_count x.layout) there in
     sound_returns s t (frames_taken moves) (omega (arith, nodes, c.self.invariant.sound.frames.lists, c.requires.target)) (subst IsSound (sym back) sound)
@@ -35,7 +33,7 @@ invariant_of-self g c =
     let t = c.args.target in
     let moves = c.args.moves.now in
     let sound = c.in_ok-take_frames.ensures.sound in
-    let there = ap (λ (x : MidRun). x.state) (c.self.view_is ∙ c.in-Err.ensures.err) ∙ c.in_ok-take_frames.ensures.state in
+    let there = ap (λ (x : MidRun). x.state) (c.self.view_is ∙ c.in-Err.ensures.err) ∙ c.in_ok-take_frames.ensures.taken.state in
     let back = ap (λ (x : State). with_fronts x t (frames_taken moves)) there ∙ back_again c.args.self.now.state t moves (omega (arith, sound.frames.lists, c.requires.target)) c.requires.moves in
     subst (λ (k : FramesView). IsKept (shown_by i.spaces k i.online i.totals.moved i.totals.failed) k.vacated i.spaces.frames) (sym c.give_back.ensures.given)
     (record { sound = subst IsSound (sym back) sound; as_many = c.self.invariant.as_many })
@@ -47,33 +45,15 @@ returns-in-Err-clause-err g c =
     let moves = c.args.moves.now in
     let sound = c.in_ok-take_frames.ensures.sound in
     let view = c.self.view_is ∙ c.in-Err.ensures.err in
-    let there = ap (λ (x : MidRun). x.state) view ∙ c.in_ok-take_frames.ensures.state in
+    let there = ap (λ (x : MidRun). x.state) view ∙ c.in_ok-take_frames.ensures.taken.state in
     let back = ap (λ (x : State). with_fronts x t (frames_taken moves)) there ∙ back_again c.args.self.now.state t moves (omega (arith, sound.frames.lists, c.requires.target)) c.requires.moves in
     let given = c.give_back.ensures.given in
     let state = ap (λ (k : FramesView). shown_by i.spaces k i.online i.totals.moved i.totals.failed) given ∙ back in
     let left = ap (λ (k : FramesView). k.vacated) given ∙ sym c.requires.none in
     λ j. record { state = state j; left = left j; room = c.give_back.new.self.room }
 
--- what was made ready is made ready where the frames are taken
-pub returns-in-Ok-clause-state : goal.returns-in-Ok-clause-state
-returns-in-Ok-clause-state g c =
-    c.in-Ok.ensures.state ∙ ap (λ (x : State). (all_before_copy x (map (λ (t : Taken). t.page) c.args.moves.now) (map (λ a. access_shown a.now) c.args.accesses.now)).state) c.in_ok-take_frames.ensures.state
-
-pub returns-in-Ok-clause-dues : goal.returns-in-Ok-clause-dues
-returns-in-Ok-clause-dues g c =
-    c.in-Ok.ensures.dues ∙ ap (λ (x : State). (all_before_copy x (map (λ (t : Taken). t.page) c.args.moves.now) (map (λ a. access_shown a.now) c.args.accesses.now)).dues) c.in_ok-take_frames.ensures.state
-
-pub returns-in-Ok-clause-ready : goal.returns-in-Ok-clause-ready
-returns-in-Ok-clause-ready g c = c.in-Ok.ensures.room
-
-pub returns-in-Ok-clause-len : goal.returns-in-Ok-clause-len
-returns-in-Ok-clause-len g c = c.in-Ok.ensures.len
-
-pub returns-in-Ok-clause-left : goal.returns-in-Ok-clause-left
-returns-in-Ok-clause-left g c = ap (λ (x : MidRun). x.left) c.in-Ok.ensures.same ∙ c.in_ok-take_frames.ensures.left
-
-pub returns-in-Ok-clause-room : goal.returns-in-Ok-clause-room
-returns-in-Ok-clause-room g c = omega (arith, ap (λ (x : MidRun). x.room) c.in-Ok.ensures.same, c.in_ok-take_frames.ensures.room)
+pub returns-in-Ok-clause-prepared : goal.returns-in-Ok-clause-prepared
+returns-in-Ok-clause-prepared g c = record { between = c.take_frames.new.self; frames = c.in_ok-take_frames.ensures.taken; touches = c.in-Ok.ensures.touched }
 
 pub returns-in-Ok-clause-sound : goal.returns-in-Ok-clause-sound
 returns-in-Ok-clause-sound g c = c.in_ok-take_frames.ensures.sound

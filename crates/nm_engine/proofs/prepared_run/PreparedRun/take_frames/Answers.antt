@@ -114,23 +114,25 @@ returns-in_err-populate_each-clause-err g c =
     let kept_room : k.room ≡ r.room = ap (λ (x : FramesView). x.room) there.same in
     err_always c.from_residual-in_err-populate_each.result (view ∙ ap (λ n. record (c.args.self.now) { room = n }) (sym kept_room))
 
-pub returns-clause-state : goal.returns-clause-state
-returns-clause-state g c =
+pub returns-clause-taken : goal.returns-clause-taken
+returns-clause-taken g c =
     let i = c.self.inside in
     let r : FramesView = c.reserve.new.self in
-    let room = c.in_ok-reserve.ensures.same in
-    let roomy = roomy_kept i.spaces i.frames r i.online i.totals.moved i.totals.failed room c.self.invariant in
-    ap (λ (x : FramesView). shown_by i.spaces x i.online i.totals.moved i.totals.failed) c.take_for_run.ensures.taken
-    ∙ ap (λ (s : State). without_fronts s c.args.target (length c.args.moves.now))
-    (same_shown i.spaces r c.populate_each.new.self i.online i.totals.moved i.totals.failed c.in_ok-populate_each.ensures.same c.in_ok-populate_each.ensures.kept r.vacated roomy.sound
-    ∙ ap (λ (x : MidRun). x.state) (roomy_view i.spaces i.frames r i.online i.totals.moved i.totals.failed room c.args.self.now c.self.view_is))
-
-pub returns-clause-left : goal.returns-clause-left
-returns-clause-left g c =
-    let i = c.self.inside in
     let k : FramesView = c.populate_each.new.self in
     let there = c.in_ok-populate_each.ensures in
-    let is = populated i.spaces i.frames c.reserve.new.self k i.online i.totals.moved i.totals.failed c.args.self.now c.args.target c.args.moves.now
-    c.in_ok-reserve.ensures.same there.same there.kept c.self.invariant c.self.view_is c.requires.target c.requires.moves in
-    ap (λ (x : FramesView). x.vacated) c.take_for_run.ensures.taken
-    ∙ ap (λ xs. xs ++ take (length c.args.moves.now) (free_on k c.args.target)) (ap (λ (x : MidRun). x.left) is.view ∙ c.requires.none) ∙ sym is.front
+    let room = c.in_ok-reserve.ensures.same in
+    let taken = c.take_for_run.ensures.taken in
+    let roomy = roomy_kept i.spaces i.frames r i.online i.totals.moved i.totals.failed room c.self.invariant in
+    let is = populated i.spaces i.frames r k i.online i.totals.moved i.totals.failed c.args.self.now c.args.target c.args.moves.now
+    room there.same there.kept c.self.invariant c.self.view_is c.requires.target c.requires.moves in
+    record {
+      state =
+          ap (λ (x : FramesView). shown_by i.spaces x i.online i.totals.moved i.totals.failed) taken
+          ∙ ap (λ (s : State). without_fronts s c.args.target (length c.args.moves.now))
+          (same_shown i.spaces r k i.online i.totals.moved i.totals.failed there.same there.kept r.vacated roomy.sound
+          ∙ ap (λ (x : MidRun). x.state) (roomy_view i.spaces i.frames r i.online i.totals.moved i.totals.failed room c.args.self.now c.self.view_is));
+      left =
+          ap (λ (x : FramesView). x.vacated) taken
+          ∙ ap (λ xs. xs ++ take (length c.args.moves.now) (free_on k c.args.target)) (ap (λ (x : MidRun). x.left) is.view ∙ c.requires.none) ∙ sym is.front;
+      room = omega (arith, ap (λ (x : FramesView). x.room) taken, ap (λ (x : FramesView). x.room) there.same, c.in_ok-reserve.ensures.room);
+    }

@@ -1,6 +1,6 @@
 use Rattle.std.proofs.Common.{◌≡◌, ◌==◌, true, ℕ, ◌+◌, ◌++◌, List, [], ◌∷◌, map, length, drop, refl, sym, ap, subst, ◌∙◌, arith, length-append, append_assoc}
 use Rattle.std.proofs.Math.ListN.{drop_of_length-le}
-use Rattle.std.proofs.lemmas.List.{map-append, append-nil}
+use Rattle.std.proofs.lemmas.List.{length-map, map-append, append-nil}
 use Rattle.std.proofs.lemmas.Bool.Decides.{nat_tests}
 use Rattle.std.specs.List.{AllByRecursion}
 use Rattle.nm_types.specs.State.{State}
@@ -8,6 +8,7 @@ use Rattle.nm_model.specs.views.Asked.{access_shown}
 use Rattle.nm_memory.specs.views.Accesses.{pending_shown, HasRoom}
 use Rattle.nm_model.specs.definitions.BeforeCopy.{PendingAccess, AllBeforeCopy, before_copy, all_before_copy}
 use Rattle.nm_engine.specs.views.MidRun.{MidRun, with_state}
+use Rattle.nm_engine.specs.views.Runs.{accesses_shown}
 use Rattle.nm_engine.specs.definitions.Undo.{CanUndo, all_undone}
 use Rattle.nm_laws.proofs.Early.Among.{all_early_alike}
 use Rattle.nm_laws.proofs.Early.Phases.{pages_of}
@@ -44,7 +45,7 @@ take_back-requires g c =
     let s = c.loop-access.self in
     let left = ap (λ (x : MidRun). x.left) c.loop-access.invariant.same in
     let can = c.touch_early.ensures.back (subst (λ (l : List ℕ). CanUndo s.state l c.loop-access.undos.items) (sym left) c.loop-access.invariant.back.0) in
-    subst (λ (l : List ℕ). CanUndo c.touch_early.new.self.state l c.touch_early.new.undos.items) (sym (ap (λ (x : MidRun). x.left) c.touch_early.ensures.same)) can.0
+    subst (λ (l : List ℕ). CanUndo c.touch_early.new.self.state l c.touch_early.new.undos.items) (sym (ap (λ (x : MidRun). x.left) c.in-Err.ensures.err)) can.0
 
 pub returns-in-Err-clause-err : goal.returns-in-Err-clause-err
 returns-in-Err-clause-err g c =
@@ -53,16 +54,8 @@ returns-in-Err-clause-err g c =
     let left = ap (λ (x : MidRun). x.left) c.loop-access.invariant.same in
     let can = c.touch_early.ensures.back (subst (λ (l : List ℕ). CanUndo s.state l c.loop-access.undos.items) (sym left) c.loop-access.invariant.back.0) in
     let then : State = all_undone n.state c.touch_early.new.undos.items in
-    c.take_back.ensures.back ∙ ap (λ (x : MidRun). with_state x then) (c.touch_early.ensures.same) ∙ ap (λ (x : MidRun). with_state x then) c.loop-access.invariant.same
+    c.take_back.ensures.back ∙ ap (λ (x : MidRun). with_state x then) c.in-Err.ensures.err ∙ ap (λ (x : MidRun). with_state x then) c.loop-access.invariant.same
     ∙ ap (with_state c.args.self.now) (can.1 ∙ c.loop-access.invariant.back.1)
-
-pub returns-in-Err-clause-same : goal.returns-in-Err-clause-same
-returns-in-Err-clause-same g c =
-    let s = c.loop-access.self in
-    let n = c.touch_early.new.self in
-    let then : State = all_undone n.state c.touch_early.new.undos.items in
-    let whole = c.take_back.ensures.back ∙ ap (λ (x : MidRun). with_state x then) (c.touch_early.ensures.same) ∙ ap (λ (x : MidRun). with_state x then) c.loop-access.invariant.same in
-    whole ∙ ap (λ (x : MidRun). with_state c.args.self.now x.state) (sym whole)
 
 pub loop-access-preserved : goal.loop-access-preserved
 loop-access-preserved g c =
@@ -74,83 +67,67 @@ loop-access-preserved g c =
     let keys = c.in_ok-moving.moving.keys in
     let rest = map (λ a. access_shown {A = g.row.A.Denot} a.now) (drop (k + 1) accesses) in
     let at = drop_item accesses k a c.loop-access-test.true c.access-item.is in
-    let due = c.in-Ok.ensures.due in
+    let touched = c.in-Ok.ensures.touched in
+    let state = ap (λ (x : MidRun). x.state) touched.touched in
     let told = map pending_shown c.loop-access.dues.items in
     let items = c.push_reserved.ensures.items in
     let left = ap (λ (x : MidRun). x.left) c.loop-access.invariant.same in
     let can = c.touch_early.ensures.back (subst (λ (l : List ℕ). CanUndo s.state l c.loop-access.undos.items) (sym left) c.loop-access.invariant.back.0) in
     let more = ap length items ∙ length-append c.loop-access.dues.items _ in
     record {
-      state = ap (λ (x : State). (all_before_copy x keys rest).state) c.in-Ok.ensures.state ∙ ap (λ xs. (all_before_copy s.state keys (map (λ a. access_shown {A = g.row.A.Denot} a.now) xs)).state) (sym at) ∙ c.loop-access.invariant.state;
+      state = ap (λ (x : State). (all_before_copy x keys rest).state) state ∙ ap (λ xs. (all_before_copy s.state keys (map (λ a. access_shown {A = g.row.A.Denot} a.now) xs)).state) (sym at) ∙ c.loop-access.invariant.state;
       dues =
           ap (λ ds. map pending_shown ds ++ (all_before_copy n.state keys rest).dues) items
           ∙ ap (λ ds. ds ++ (all_before_copy n.state keys rest).dues) (map-append pending_shown c.loop-access.dues.items _)
           ∙ append_assoc told _ _
-          ∙ ap (λ (x : State). told ++ pending_shown c.in-Ok.due ∷ (all_before_copy x keys rest).dues) c.in-Ok.ensures.state
-          ∙ ap (λ (d : PendingAccess). told ++ d ∷ (all_before_copy (before_copy s.state keys (access_shown a.now)).state keys rest).dues) due
+          ∙ ap (λ (x : State). told ++ pending_shown c.in-Ok.due ∷ (all_before_copy x keys rest).dues) state
+          ∙ ap (λ (d : PendingAccess). told ++ d ∷ (all_before_copy (before_copy s.state keys (access_shown a.now)).state keys rest).dues) touched.due
           ∙ ap (λ xs. told ++ (all_before_copy s.state keys (map (λ a. access_shown {A = g.row.A.Denot} a.now) xs)).dues) (sym at) ∙ c.loop-access.invariant.dues;
-      room = subst (AllByRecursion HasRoom) (sym items) (all_and_one HasRoom c.loop-access.dues.items c.in-Ok.due c.loop-access.invariant.room c.in-Ok.ensures.room);
+      room = subst (AllByRecursion HasRoom) (sym items) (all_and_one HasRoom c.loop-access.dues.items c.in-Ok.due c.loop-access.invariant.room touched.room);
       len = omega (arith, more, c.loop-access.invariant.len);
       within = omega (arith, c.loop-access-test.true);
       fits = omega (arith, c.push_reserved.ensures.capacity, c.loop-access.invariant.fits);
-      same = c.touch_early.ensures.same ∙ ap (λ (x : MidRun). with_state x n.state) c.loop-access.invariant.same;
+      same = touched.touched ∙ ap (λ (x : MidRun). with_state x ((before_copy s.state keys (access_shown a.now)).state)) c.loop-access.invariant.same ∙ ap (with_state c.args.self.now) (sym state);
       back = (subst (λ (l : List ℕ). CanUndo n.state l c.touch_early.new.undos.items) left can.0, can.1 ∙ c.loop-access.invariant.back.1);
     }
 
-pub returns-clause-state : goal.returns-clause-state
-returns-clause-state g c =
+pub returns-clause-touched : goal.returns-clause-touched
+returns-clause-touched g c =
     let accesses = c.args.accesses.now in
     let keys = c.in_ok-moving.moving.keys in
-    let shown = map (λ a. access_shown {A = g.row.A.Denot} a.now) accesses in
-    let ends = drop_of_length-le accesses (omega (arith, c.loop-access-test.false)) in
-    ap (λ xs. (all_before_copy c.loop-access.self.state keys (map (λ a. access_shown {A = g.row.A.Denot} a.now) xs)).state) (sym ends) ∙ c.loop-access.invariant.state
-    ∙ ap (λ (x : AllBeforeCopy). x.state) (all_early_alike keys (pages_of c.args.moves.now) c.in_ok-moving.ensures.pages shown c.args.self.now.state)
-
-pub returns-clause-dues : goal.returns-clause-dues
-returns-clause-dues g c =
-    let accesses = c.args.accesses.now in
-    let keys = c.in_ok-moving.moving.keys in
-    let shown = map (λ a. access_shown {A = g.row.A.Denot} a.now) accesses in
+    let shown = accesses_shown {A = g.row.A.Denot} accesses in
     let told = map pending_shown c.loop-access.dues.items in
     let ends = drop_of_length-le accesses (omega (arith, c.loop-access-test.false)) in
-    sym (append-nil told)
-    ∙ ap (λ xs. told ++ (all_before_copy c.loop-access.self.state keys (map (λ a. access_shown {A = g.row.A.Denot} a.now) xs)).dues) (sym ends) ∙ c.loop-access.invariant.dues
-    ∙ ap (λ (x : AllBeforeCopy). x.dues) (all_early_alike keys (pages_of c.args.moves.now) c.in_ok-moving.ensures.pages shown c.args.self.now.state)
-
-pub returns-clause-room : goal.returns-clause-room
-returns-clause-room g c = c.loop-access.invariant.room
-
-pub returns-clause-len : goal.returns-clause-len
-returns-clause-len g c =
+    let alike = all_early_alike keys (pages_of c.args.moves.now) c.in_ok-moving.ensures.pages shown c.args.self.now.state in
     let many = c.loop-access.dues.ok.0 in
-    omega (arith, many, c.loop-access.invariant.len, c.loop-access.invariant.within, c.loop-access-test.false)
-
-pub returns-clause-same : goal.returns-clause-same
-returns-clause-same g c = c.loop-access.invariant.same
+    let all : length shown ≡ length accesses = length-map accesses _ in
+    record {
+      touched =
+          c.loop-access.invariant.same
+          ∙ ap (with_state c.args.self.now) (ap (λ xs. (all_before_copy c.loop-access.self.state keys (accesses_shown {A = g.row.A.Denot} xs)).state) (sym ends) ∙ c.loop-access.invariant.state ∙ ap (λ (x : AllBeforeCopy). x.state) alike);
+      dues =
+          sym (append-nil told)
+          ∙ ap (λ xs. told ++ (all_before_copy c.loop-access.self.state keys (accesses_shown {A = g.row.A.Denot} xs)).dues) (sym ends) ∙ c.loop-access.invariant.dues
+          ∙ ap (λ (x : AllBeforeCopy). x.dues) alike;
+      room = c.loop-access.invariant.room;
+      len = omega (arith, many, all, c.loop-access.invariant.len, c.loop-access.invariant.within, c.loop-access-test.false);
+    }
 
 -- without accesses nothing is made ready
 no_access : {X : Type 0} (xs : List X) → true ≡ (length xs == 0) → xs ≡ []
 no_access [] is = refl
 no_access (x ∷ xs) is = absurd (grind (arith, nat_tests))
 
-pub returns-then-is_empty-clause-state : goal.returns-then-is_empty-clause-state
-returns-then-is_empty-clause-state g c =
+pub returns-then-is_empty-clause-touched : goal.returns-then-is_empty-clause-touched
+returns-then-is_empty-clause-touched g c =
     let none = no_access c.args.accesses.now (sym c.if-is_empty.true ∙ c.is_empty.ensures) in
-    ap (λ xs. (all_before_copy c.args.self.now.state (pages_of c.args.moves.now) (map (λ a. access_shown {A = g.row.A.Denot} a.now) xs)).state) (sym none)
-
-pub returns-then-is_empty-clause-dues : goal.returns-then-is_empty-clause-dues
-returns-then-is_empty-clause-dues g c =
-    let none = no_access c.args.accesses.now (sym c.if-is_empty.true ∙ c.is_empty.ensures) in
-    ap (map pending_shown) c.in_ok-dues.ensures.items
-    ∙ ap (λ xs. (all_before_copy c.args.self.now.state (pages_of c.args.moves.now) (map (λ a. access_shown {A = g.row.A.Denot} a.now) xs)).dues) (sym none)
-
-pub returns-then-is_empty-clause-room : goal.returns-then-is_empty-clause-room
-returns-then-is_empty-clause-room g c = subst (AllByRecursion HasRoom) (sym c.in_ok-dues.ensures.items) tt
-
-pub returns-then-is_empty-clause-len : goal.returns-then-is_empty-clause-len
-returns-then-is_empty-clause-len g c =
-    let none = no_access c.args.accesses.now (sym c.if-is_empty.true ∙ c.is_empty.ensures) in
-    c.in_ok-dues.ensures.len ∙ ap (λ xs. length xs) (sym none)
+    let early = ap (λ xs. all_before_copy c.args.self.now.state (pages_of c.args.moves.now) (accesses_shown {A = g.row.A.Denot} xs)) (sym none) in
+    record {
+      touched = ap (λ (e : AllBeforeCopy). with_state c.args.self.now e.state) early;
+      dues = ap (map pending_shown) c.in_ok-dues.ensures.items ∙ ap (λ (e : AllBeforeCopy). e.dues) early;
+      room = subst (AllByRecursion HasRoom) (sym c.in_ok-dues.ensures.items) tt;
+      len = c.in_ok-dues.ensures.len ∙ ap (λ xs. length xs) (sym none) ∙ sym (length-map c.args.accesses.now _);
+    }
 
 pub returns-in-Err-clause-asked : goal.returns-in-Err-clause-asked
 returns-in-Err-clause-asked g c = omega (arith, c.loop-access-test.true)

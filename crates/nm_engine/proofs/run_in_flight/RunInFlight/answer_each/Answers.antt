@@ -15,16 +15,16 @@ loop-due-init g c =
     let shown = pending_shown in
     let place = c.args.self.spaces.place in
     let store = c.args.self.frames.frames in
-    let none = ap length c.requires.unanswered in
+    let none = ap length c.requires.can.unanswered in
     let many = c.args.dues.ok.0 in
     let len = ap length all in
     record {
-      due = subst (λ ds. AllByRecursion (CanDo place store) (map shown ds)) (sym all) c.requires.due;
-      room = subst (λ ds. AllByRecursion HasRoom ds) (sym all) c.requires.room;
+      due = subst (λ ds. AllByRecursion (CanDo place store) (map shown ds)) (sym all) c.requires.can.can;
+      room = subst (λ ds. AllByRecursion HasRoom ds) (sym all) c.requires.can.room;
       run = ap (λ ds. with_store c.args.self (all_stored_after_copy place store (map shown ds)).store) all;
-      answers = ap (λ xs. map answer_shown xs ++ (all_stored_after_copy place store (map shown c.into_iter-due-iterator.result.rest.items)).answers) c.requires.unanswered
+      answers = ap (λ xs. map answer_shown xs ++ (all_stored_after_copy place store (map shown c.into_iter-due-iterator.result.rest.items)).answers) c.requires.can.unanswered
           ∙ ap (λ ds. (all_stored_after_copy place store (map shown ds)).answers) all;
-      space = omega (arith, none, many, len, c.requires.space);
+      space = omega (arith, none, many, len, c.requires.can.space);
     }
 
 pub access-answer-requires-clause-due : goal.access-answer-requires-clause-due
@@ -78,14 +78,17 @@ no_items : {A : Type 0} (xs : List A) → length xs ≡ 0 → xs ≡ []
 no_items [] none = refl
 no_items (x ∷ xs) none = absurd (omega (arith, none))
 
-pub returns-clause-run : goal.returns-clause-run
-returns-clause-run g c =
-    let ends = no_items c.loop-due.due-iterator.rest.items (sym c.loop-due.due-iterator.rest.ok.0 ∙ c.in-None.ensures.steps.0) in
-    ap (λ ds. with_store c.loop-due.self (all_stored_after_copy c.loop-due.self.spaces.place c.loop-due.self.frames.frames (map pending_shown ds)).store) (sym ends) ∙ c.loop-due.invariant.run
-
-pub returns-clause-answers : goal.returns-clause-answers
-returns-clause-answers g c =
+pub returns : goal.returns
+returns g c =
     let ends = no_items c.loop-due.due-iterator.rest.items (sym c.loop-due.due-iterator.rest.ok.0 ∙ c.in-None.ensures.steps.0) in
     let before = map (answer_shown {A = g.row.A.Denot}) c.loop-due.answers.items in
-    sym (append-nil before)
-    ∙ ap (λ ds. before ++ (all_stored_after_copy c.loop-due.self.spaces.place c.loop-due.self.frames.frames (map pending_shown ds)).answers) (sym ends) ∙ c.loop-due.invariant.answers
+    let place = c.loop-due.self.spaces.place in
+    let store = c.loop-due.self.frames.frames in
+    record {
+      done = record {
+        run = ap (λ ds. with_store c.loop-due.self (all_stored_after_copy place store (map pending_shown ds)).store) (sym ends) ∙ c.loop-due.invariant.run;
+        answers =
+            sym (append-nil before)
+            ∙ ap (λ ds. before ++ (all_stored_after_copy place store (map pending_shown ds)).answers) (sym ends) ∙ c.loop-due.invariant.answers;
+      };
+    }
