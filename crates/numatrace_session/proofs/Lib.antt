@@ -1,5 +1,4 @@
 pub mod Replied
 pub mod Lines
 pub mod Early
-pub mod Causes
 pub mod Served

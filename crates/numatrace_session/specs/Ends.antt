@@ -1,5 +1,5 @@
 -- Why a session ends before its input does, and the exit status.
-use Rattle.std.specs.Prelude.{◌≡◌, ◌⊎◌, ℕ, Bool, true, false, List, Option, Result, Ok, Err, codes}
+use Rattle.std.specs.Prelude.{◌≡◌, ℕ, Bool, true, false, List, Option, Result, Ok, Err, codes}
 use Rattle.std.specs.Io.KnownBytes.{Appends}
 use Rattle.std.specs.declared.io.ErrorKind.{ErrorKind}
 use Rattle.std.specs.declared.io.ErrorKind.TheVariants.{OutOfMemory}
@@ -15,10 +15,6 @@ abbrev pub unread : ErrorKind → Bool → End
 unread OutOfMemory failed = HostMemory
 unread kind true = Stream
 unread kind false = HostMemory
-
--- a stream is told as failed only where the reader or the writer has failed
-abbrev pub HasCause : Result (Unit {0}) End → Bool → Bool → Type 0
-HasCause result reader writer = result ≡ Err Stream → (reader ≡ true) ⊎ (writer ≡ true)
 
 -- where the first line begins no session, for this fault
 abbrev pub unopened : TraceError → End

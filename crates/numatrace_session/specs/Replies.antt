@@ -105,10 +105,6 @@ abbrev pub IsRefused : Option (List ℕ) → Option (List ℕ) → Option (List 
 IsRefused left left_then old new fault =
     (top : List ℕ) × (opened top ≡ Err fault) × ReadsLines left left_then (top ∷ []) × Appends old new []
 
--- a bad top is told only where the first line begins no session, and nothing is written
-abbrev pub Refuses : Result (Unit {0}) End → Option (List ℕ) → Option (List ℕ) → Option (List ℕ) → Option (List ℕ) → Type 0
-Refuses result left left_then old new = (fault : TraceError) → result ≡ Err (BadTop fault) → IsRefused left left_then old new fault
-
 -- ---- where a session ends before its input does
 
 -- a line feed is among these bytes
@@ -127,37 +123,55 @@ ReadsBeyond left left_then lines = (between : Option (List ℕ)) × ReadsLines l
 abbrev pub but_last : List (List ℕ) → List (List ℕ)
 but_last lines = take (length lines - 1) lines
 
--- after lines that are read, all replies to them are written and the writer has not failed anew, or it has, and a front
--- of them is written, with all of them but the last, and nothing was read after these lines
+-- after lines that are read: the reader has failed, and all replies to them are written; or the writer has, a front of the
+-- replies is written, with all of them but the last, and nothing was read after these lines
 abbrev pub WritesReplies : SessionState → List (List ℕ) → Option (List ℕ) → Option (List ℕ) → Option (List ℕ)
-    → Option (List ℕ) → Bool → Bool → Type 0
-WritesReplies s lines left left_then old new failed fails =
-    (Appends old new (replies_to s lines) × (fails ≡ failed))
+    → Option (List ℕ) → Bool → Bool → Bool → Type 0
+WritesReplies s lines left left_then old new reader failed fails =
+    (Appends old new (replies_to s lines) × (fails ≡ failed) × (reader ≡ true))
     ⊎ ((front : List ℕ) × (rest : List ℕ) × (front ++ rest ≡ replies_to s lines) × Appends old new front × (fails ≡ true)
     × (length (replies_to s (but_last lines)) ≤ length front) × ReadsLines left left_then lines)
 
--- replies to lines end early: for lack of memory, with all replies to the lines before; where a stream fails, with a front
--- of them if it is the writer
-abbrev pub EndsEarly : End → SessionState → Option (List ℕ) → Option (List ℕ) → Option (List ℕ) → Option (List ℕ) → Bool → Bool → Type 0
-EndsEarly (BadTop fault) s left left_then old new failed fails = ⊥
-EndsEarly HostMemory s left left_then old new failed fails =
+-- replies to lines end early: for lack of memory, with all replies to the lines before; or where the reader or the writer has
+-- failed
+abbrev pub EndsEarly : End → SessionState → Option (List ℕ) → Option (List ℕ) → Option (List ℕ) → Option (List ℕ) → Bool → Bool → Bool → Type 0
+EndsEarly (BadTop fault) s left left_then old new reader failed fails = ⊥
+EndsEarly HostMemory s left left_then old new reader failed fails =
     (lines : List (List ℕ)) × ReadsBeyond left left_then lines × AllByRecursion HasByte lines
     × Appends old new (replies_to s lines) × (fails ≡ failed)
-EndsEarly Stream s left left_then old new failed fails =
+EndsEarly Stream s left left_then old new reader failed fails =
     (lines : List (List ℕ)) × ReadsBeyond left left_then lines × AllByRecursion HasByte lines
-    × WritesReplies s lines left left_then old new failed fails
+    × WritesReplies s lines left left_then old new reader failed fails
 
--- a session ends early: before its first line has begun it, when no more than that line was read and nothing was written; or
--- after it, when the replies to further lines end early
-abbrev pub EndsTalk : End → Option (List ℕ) → Option (List ℕ) → Option (List ℕ) → Option (List ℕ) → Bool → Bool → Type 0
-EndsTalk end left left_then old new failed fails =
-    (ReadsUpToLine left left_then × Appends old new [] × (fails ≡ failed))
-    ⊎ ((top : List ℕ) × (s : SessionState) × (between : Option (List ℕ)) × (opened top ≡ Ok s) × ReadsLines left between (top ∷ [])
-    × EndsEarly end s between left_then old new failed fails)
+-- a first line begins a session, and the replies to further lines end early
+abbrev pub EndsBegun : End → Option (List ℕ) → Option (List ℕ) → Option (List ℕ) → Option (List ℕ) → Bool → Bool → Bool → Type 0
+EndsBegun end left left_then old new reader failed fails =
+    (top : List ℕ) × (s : SessionState) × (between : Option (List ℕ)) × (opened top ≡ Ok s) × ReadsLines left between (top ∷ [])
+    × EndsEarly end s between left_then old new reader failed fails
 
--- a session ends early, once the replies that wait were flushed; or they could not be, and the writer has failed, which
--- may have failed before
-abbrev pub EndsFlushed : End → Option (List ℕ) → Option (List ℕ) → Option (List ℕ) → Option (List ℕ) → Bool → Bool → Type 0
-EndsFlushed Stream left left_then old new failed fails =
-    EndsTalk Stream left left_then old new failed fails ⊎ EndsTalk Stream left left_then old new true fails
-EndsFlushed end left left_then old new failed fails = EndsTalk end left left_then old new failed fails
+-- nothing is written, and no more than a first line was read
+abbrev pub EndsAtOnce : Option (List ℕ) → Option (List ℕ) → Option (List ℕ) → Option (List ℕ) → Bool → Bool → Type 0
+EndsAtOnce left left_then old new failed fails = ReadsUpToLine left left_then × Appends old new [] × (fails ≡ failed)
+
+-- a session ends early, with this of the reader and of the writer: the first line begins none; or the host has no memory for
+-- that line or the session, or the reader has failed before the line was read; or replies to further lines end early
+abbrev pub EndsTalk : End → Option (List ℕ) → Option (List ℕ) → Option (List ℕ) → Option (List ℕ) → Bool → Bool → Bool → Type 0
+EndsTalk (BadTop fault) left left_then old new reader failed fails =
+    IsRefused left left_then old new fault × (fails ≡ failed)
+EndsTalk HostMemory left left_then old new reader failed fails =
+    EndsAtOnce left left_then old new failed fails ⊎ EndsBegun HostMemory left left_then old new reader failed fails
+EndsTalk Stream left left_then old new reader failed fails =
+    (EndsAtOnce left left_then old new failed fails × (reader ≡ true))
+    ⊎ EndsBegun Stream left left_then old new reader failed fails
+
+-- a session has ended, early or not, and then the writer has failed to flush the replies that wait
+abbrev pub IsUnflushed : Option (List ℕ) → Option (List ℕ) → Option (List ℕ) → Option (List ℕ) → Bool → Bool → Bool → Type 0
+IsUnflushed left left_then old new reader failed fails =
+    (fails ≡ true) × (Talks left left_then old new
+    ⊎ ((end : End) × (told : Bool) × EndsTalk end left left_then old new reader failed told))
+
+-- a session ends early, and the replies that wait are flushed; or they could not be
+abbrev pub EndsFlushed : End → Option (List ℕ) → Option (List ℕ) → Option (List ℕ) → Option (List ℕ) → Bool → Bool → Bool → Type 0
+EndsFlushed Stream left left_then old new reader failed fails =
+    EndsTalk Stream left left_then old new reader failed fails ⊎ IsUnflushed left left_then old new reader failed fails
+EndsFlushed end left left_then old new reader failed fails = EndsTalk end left left_then old new reader failed fails

@@ -14,9 +14,9 @@ ghost use Rattle.std.specs.Io.KnownBytes.{Consumes, IsAtEnd, Keeps};
 ghost use Rattle.std.specs.Io.Buffered.{reader_buffer, writer_buffer, writer_inner};
 ghost use Rattle.nm_steps.specs.Memory.{IsSomeText};
 ghost use Rattle.nm_steps.specs.declared.trace_error.TraceError.{TraceError};
-ghost use Rattle.numatrace_session.specs.Ends.{status_of, unopened, unread, Begins, HasCause, IsTold};
+ghost use Rattle.numatrace_session.specs.Ends.{status_of, unopened, unread, Begins, IsTold};
 ghost use Rattle.numatrace_session.specs.Input.{has_read_failed, left_in};
-ghost use Rattle.numatrace_session.specs.Replies.{bad_step_reply, has_line, EndsEarly, EndsFlushed, EndsTalk, ReachesEnd, Refuses, Replies, RepliesToLines, Talks, TellsFault, Writes};
+ghost use Rattle.numatrace_session.specs.Replies.{bad_step_reply, has_line, EndsEarly, EndsFlushed, EndsTalk, ReachesEnd, Replies, RepliesToLines, Talks, TellsFault, Writes};
 
 use nm_crew::Alone;
 use nm_frames::CopyJob;
@@ -192,8 +192,7 @@ fn reply_to_lines<T: Wait, R: Read, W: FlushingWriter>(
     ensures fault { IfErr result (λ e. (e ≡ End.HostMemory) ⊎ (e ≡ End.Stream)) }
     ensures early { IfErr result (λ e. EndsEarly e session.old
         (left_in R.remaining input.old) (left_in R.remaining input.new)
-        (W.contents out.old) (W.contents out.new) (W.has_failed out.old) (W.has_failed out.new)) }
-    ensures cause { HasCause result (has_read_failed input.new) (W.has_failed out.new) }
+        (W.contents out.old) (W.contents out.new) (has_read_failed input.new) (W.has_failed out.old) (W.has_failed out.new)) }
 {
     let mut line = Vec::new(heap);
     for _ in rt.forever() {
@@ -242,13 +241,9 @@ fn talk<T: Wait, R: Read, W: FlushingWriter>(
     ensures told { OnOk result (W.has_failed out.new ≡ W.has_failed out.old) }
 
     // On a fault
-    ensures refused { Refuses result
-        (left_in R.remaining input.old) (left_in R.remaining input.new)
-        (W.contents out.old) (W.contents out.new) }
     ensures early { IfErr result (λ e. EndsTalk e
         (left_in R.remaining input.old) (left_in R.remaining input.new)
-        (W.contents out.old) (W.contents out.new) (W.has_failed out.old) (W.has_failed out.new)) }
-    ensures cause { HasCause result (has_read_failed input.new) (W.has_failed out.new) }
+        (W.contents out.old) (W.contents out.new) (has_read_failed input.new) (W.has_failed out.old) (W.has_failed out.new)) }
 {
     let mut line = Vec::new(heap);
     next_line(input, &mut line)?;
@@ -272,13 +267,9 @@ fn talk_to_end<T: Wait, R: Read, W: FlushingWriter>(
     ensures told { OnOk result (W.has_failed out.new ≡ W.has_failed out.old) }
 
     // On a fault
-    ensures refused { Refuses result
-        (left_in R.remaining input.old) (left_in R.remaining input.new)
-        (W.contents out.old) (W.contents out.new) }
     ensures early { IfErr result (λ e. EndsFlushed e
         (left_in R.remaining input.old) (left_in R.remaining input.new)
-        (W.contents out.old) (W.contents out.new) (W.has_failed out.old) (W.has_failed out.new)) }
-    ensures cause { HasCause result (has_read_failed input.new) (W.has_failed out.new) }
+        (W.contents out.old) (W.contents out.new) (has_read_failed input.new) (W.has_failed out.old) (W.has_failed out.new)) }
 
     // In any case
     ensures flushed { ((result ≡ Err End.Stream) × (W.has_failed out.new ≡ true))

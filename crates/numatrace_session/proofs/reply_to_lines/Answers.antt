@@ -1,11 +1,10 @@
-use Rattle.std.proofs.Common.{◌≡◌, ℕ, List, Err, ap, inr, refl, subst, sym, ◌∙◌, rules}
+use Rattle.std.proofs.Common.{◌≡◌, ℕ, List, Err, ap, refl, subst, sym, ◌∙◌, rules}
 use Rattle.std.proofs.lemmas.Bool.{ltb-true}
-use Rattle.numatrace_session.specs.Input.{left_in}
+use Rattle.numatrace_session.specs.Input.{has_read_failed, left_in}
 use Rattle.std.specs.Io.KnownBytes.{Appends}
 use Rattle.nm_trace.specs.Session.{asked}
 use Rattle.numatrace_session.specs.Replies.{after, reply_of, EndsEarly, Replies}
 use Rattle.numatrace_session.proofs.Early.{if_err, unflushed, unread, unreplied}
-use Rattle.numatrace_session.proofs.Causes.{read_cause, reply_cause}
 use Rattle.numatrace_session.proofs.Lines.{no_lines, one_more}
 use Rattle.numatrace_session.proofs.reply_to_lines.Goals as goal
 
@@ -30,10 +29,10 @@ loop-preserved g c =
 pub returns-in_err-next_line-clause-early : goal.returns-in_err-next_line-clause-early
 returns-in_err-next_line-clause-early g c =
     let is : c.from_residual.result ≡ Err c.in_err-next_line.field-0.0 = search rules in
-    if_err (λ e. EndsEarly e c.args.session.now (left_in g.R.Read.remaining c.args.input.now) (left_in g.R.Read.remaining c.next_line.new.input) (g.W.Write.contents c.args.out.now) (g.W.Write.contents c.loop.out) (g.W.TellingWriter.has_failed c.args.out.now) (g.W.TellingWriter.has_failed c.loop.out))
+    if_err (λ e. EndsEarly e c.args.session.now (left_in g.R.Read.remaining c.args.input.now) (left_in g.R.Read.remaining c.next_line.new.input) (g.W.Write.contents c.args.out.now) (g.W.Write.contents c.loop.out) (has_read_failed c.next_line.new.input) (g.W.TellingWriter.has_failed c.args.out.now) (g.W.TellingWriter.has_failed c.loop.out))
     c.in_err-next_line.field-0.0 c.from_residual.result is
-    (unread c.args.session.now c.loop.session _ (left_in g.R.Read.remaining c.loop.input) (left_in g.R.Read.remaining c.next_line.new.input) _ _ _ _ c.next_line.new.line.items c.in_err-next_line.field-0.0
-    c.loop.invariant.replied c.next_line.ensures.none_lost c.next_line.ensures.stops c.loop.invariant.told c.in_err-next_line.ensures.fault)
+    (unread c.args.session.now c.loop.session _ (left_in g.R.Read.remaining c.loop.input) (left_in g.R.Read.remaining c.next_line.new.input) _ _ (has_read_failed c.next_line.new.input) _ _ c.next_line.new.line.items c.in_err-next_line.field-0.0
+    c.loop.invariant.replied c.next_line.ensures.none_lost c.next_line.ensures.stops c.loop.invariant.told c.in_err-next_line.ensures.fault c.in_err-next_line.ensures.cause)
 
 pub returns-in_err-reply-clause-early : goal.returns-in_err-reply-clause-early
 returns-in_err-reply-clause-early g c =
@@ -42,9 +41,9 @@ returns-in_err-reply-clause-early g c =
     let t = c.loop.session in
     let made = subst (λ (x : List ℕ). Replies t c.reply.new.session x (g.W.Write.contents c.loop.out) (g.W.Write.contents c.reply.new.out) (g.W.TellingWriter.has_failed c.loop.out) (g.W.TellingWriter.has_failed c.reply.new.out) (Err c.in_err-reply.field-0.0))
     c.as_slice.ensures.value c.in_err-reply.ensures.replies in
-    if_err (λ e. EndsEarly e c.args.session.now (left_in g.R.Read.remaining c.args.input.now) (left_in g.R.Read.remaining c.next_line.new.input) (g.W.Write.contents c.args.out.now) (g.W.Write.contents c.reply.new.out) (g.W.TellingWriter.has_failed c.args.out.now) (g.W.TellingWriter.has_failed c.reply.new.out))
+    if_err (λ e. EndsEarly e c.args.session.now (left_in g.R.Read.remaining c.args.input.now) (left_in g.R.Read.remaining c.next_line.new.input) (g.W.Write.contents c.args.out.now) (g.W.Write.contents c.reply.new.out) (has_read_failed c.next_line.new.input) (g.W.TellingWriter.has_failed c.args.out.now) (g.W.TellingWriter.has_failed c.reply.new.out))
     c.in_err-reply.field-0.0 c.from_residual-in_err-reply.result is
-    (unreplied c.args.session.now t c.reply.new.session _ (left_in g.R.Read.remaining c.loop.input) (left_in g.R.Read.remaining c.next_line.new.input) _ (g.W.Write.contents c.loop.out) _ _ (g.W.TellingWriter.has_failed c.loop.out) _ line c.in_err-reply.field-0.0
+    (unreplied c.args.session.now t c.reply.new.session _ (left_in g.R.Read.remaining c.loop.input) (left_in g.R.Read.remaining c.next_line.new.input) _ (g.W.Write.contents c.loop.out) _ (has_read_failed c.next_line.new.input) _ (g.W.TellingWriter.has_failed c.loop.out) _ line c.in_err-reply.field-0.0
     c.loop.invariant.replied c.in_ok-next_line.ensures.line c.in_ok-next_line.ensures.rest c.next_line.ensures.none_lost c.next_line.ensures.stops (ltb-true 0 _ (sym c.in_ok-next_line.ensures.more ∙ c.if-not-branch.false)) c.loop.invariant.told made)
 
 pub returns-in_err-flush_unless_asked-clause-early : goal.returns-in_err-flush_unless_asked-clause-early
@@ -54,22 +53,9 @@ returns-in_err-flush_unless_asked-clause-early g c =
     let s = c.loop.session in
     let written = subst (λ (x : List ℕ). Appends (g.W.Write.contents c.loop.out) (g.W.Write.contents c.reply.new.out) (reply_of s (asked s x))) line c.in_ok-reply.ensures.replies.0.0 in
     let made = c.in_ok-reply.ensures.replies.1 ∙ ap (λ (x : List ℕ). after s (asked s x)) line in
-    if_err (λ e. EndsEarly e c.args.session.now (left_in g.R.Read.remaining c.args.input.now) (left_in g.R.Read.remaining c.next_line.new.input) (g.W.Write.contents c.args.out.now) (g.W.Write.contents c.flush_unless_asked.new.out) (g.W.TellingWriter.has_failed c.args.out.now) (g.W.TellingWriter.has_failed c.flush_unless_asked.new.out))
+    if_err (λ e. EndsEarly e c.args.session.now (left_in g.R.Read.remaining c.args.input.now) (left_in g.R.Read.remaining c.next_line.new.input) (g.W.Write.contents c.args.out.now) (g.W.Write.contents c.flush_unless_asked.new.out) (has_read_failed c.next_line.new.input) (g.W.TellingWriter.has_failed c.args.out.now) (g.W.TellingWriter.has_failed c.flush_unless_asked.new.out))
     c.in_err-flush_unless_asked.field-0.0 c.from_residual-in_err-flush_unless_asked.result is
-    (unflushed c.args.session.now c.reply.new.session _ (left_in g.R.Read.remaining c.next_line.new.input) _ (g.W.Write.contents c.flush_unless_asked.new.out) _ _ c.in_err-flush_unless_asked.field-0.0
+    (unflushed c.args.session.now c.reply.new.session _ (left_in g.R.Read.remaining c.next_line.new.input) _ (g.W.Write.contents c.flush_unless_asked.new.out) (has_read_failed c.next_line.new.input) _ _ c.in_err-flush_unless_asked.field-0.0
     (one_more c.args.session.now s c.reply.new.session _ (left_in g.R.Read.remaining c.loop.input) (left_in g.R.Read.remaining c.next_line.new.input) _ _ _ (g.W.Write.contents c.flush_unless_asked.new.out)
     c.next_line.new.line.items c.loop.invariant.replied c.in_ok-next_line.ensures.line c.in_ok-next_line.ensures.rest written made c.in_err-flush_unless_asked.ensures.kept (ltb-true 0 _ (sym c.in_ok-next_line.ensures.more ∙ c.if-not-branch.false)))
     c.in_err-flush_unless_asked.ensures.fault c.in_err-flush_unless_asked.ensures.told)
-
-pub returns-in_err-next_line-clause-cause : goal.returns-in_err-next_line-clause-cause
-returns-in_err-next_line-clause-cause g c =
-    let is : c.from_residual.result ≡ Err c.in_err-next_line.field-0.0 = search rules in
-    read_cause c.in_err-next_line.field-0.0 c.from_residual.result _ _ is c.in_err-next_line.ensures.cause
-
-pub returns-in_err-reply-clause-cause : goal.returns-in_err-reply-clause-cause
-returns-in_err-reply-clause-cause g c =
-    let is : c.from_residual-in_err-reply.result ≡ Err c.in_err-reply.field-0.0 = search rules in
-    reply_cause _ _ _ _ _ _ _ c.in_err-reply.field-0.0 c.from_residual-in_err-reply.result _ is c.in_err-reply.ensures.replies
-
-pub returns-in_err-flush_unless_asked-clause-cause : goal.returns-in_err-flush_unless_asked-clause-cause
-returns-in_err-flush_unless_asked-clause-cause g c = λ is. inr c.in_err-flush_unless_asked.ensures.told

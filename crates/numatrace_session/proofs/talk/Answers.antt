@@ -1,10 +1,9 @@
-use Rattle.std.proofs.Common.{rules, ◌≡◌, ℕ, List, Ok, Err, inl, refl, subst}
-use Rattle.numatrace_session.specs.Input.{left_in}
+use Rattle.std.proofs.Common.{rules, ◌≡◌, ℕ, List, Ok, Err, subst}
+use Rattle.numatrace_session.specs.Input.{has_read_failed, left_in}
 use Rattle.nm_trace.specs.Session.{opened}
-use Rattle.nm_streams.proofs.Known.{appends_none}
+use Rattle.numatrace_session.specs.Ends.{Begins}
 use Rattle.numatrace_session.specs.Replies.{EndsTalk}
-use Rattle.numatrace_session.proofs.Causes.{begin_cause, read_cause}
-use Rattle.numatrace_session.proofs.Early.{ends_begun, if_err}
+use Rattle.numatrace_session.proofs.Early.{ends_begun, first_unread, if_err, unbegun}
 use Rattle.numatrace_session.proofs.Lines.{talked}
 use Rattle.numatrace_session.proofs.Served.{reaches_end}
 use Rattle.numatrace_session.proofs.talk.Goals as goal
@@ -22,32 +21,27 @@ returns-clause-end g c =
 pub returns-clause-early : goal.returns-clause-early
 returns-clause-early g c =
     ends_begun c.in_ok-session.session (left_in g.R.Read.remaining c.args.input.now) (left_in g.R.Read.remaining c.next_line.new.input) (left_in g.R.Read.remaining c.reply_to_lines.new.input) (g.W.Write.contents c.args.out.now) (g.W.Write.contents c.reply_to_lines.new.out)
-    _ _ c.next_line.new.line.items c.reply_to_lines.result (subst (λ (x : List ℕ). opened x ≡ Ok c.in_ok-session.session) c.as_slice.ensures.value c.in_ok-session.ensures) c.in_ok-next_line.ensures.line c.in_ok-next_line.ensures.rest c.reply_to_lines.ensures.early
+    (has_read_failed c.reply_to_lines.new.input) _ _ c.next_line.new.line.items c.reply_to_lines.result (subst (λ (x : List ℕ). opened x ≡ Ok c.in_ok-session.session) c.as_slice.ensures.value c.in_ok-session.ensures) c.in_ok-next_line.ensures.line c.in_ok-next_line.ensures.rest c.reply_to_lines.ensures.early
 
 pub returns-in_err-next_line-clause-early : goal.returns-in_err-next_line-clause-early
 returns-in_err-next_line-clause-early g c =
     let is : c.from_residual.result ≡ Err c.in_err-next_line.field-0.0 = search rules in
     let written = g.W.Write.contents c.args.out.now in
     let failed = g.W.TellingWriter.has_failed c.args.out.now in
-    if_err (λ e. EndsTalk e (left_in g.R.Read.remaining c.args.input.now) (left_in g.R.Read.remaining c.next_line.new.input) written written failed failed)
+    let read = has_read_failed c.next_line.new.input in
+    if_err (λ e. EndsTalk e (left_in g.R.Read.remaining c.args.input.now) (left_in g.R.Read.remaining c.next_line.new.input) written written read failed failed)
     c.in_err-next_line.field-0.0 c.from_residual.result is
-    (inl ((c.next_line.new.line.items, c.next_line.ensures.none_lost, c.next_line.ensures.stops), appends_none written, refl))
+    (first_unread (left_in g.R.Read.remaining c.args.input.now) (left_in g.R.Read.remaining c.next_line.new.input) written read failed c.next_line.new.line.items c.in_err-next_line.field-0.0
+    c.next_line.ensures.none_lost c.next_line.ensures.stops c.in_err-next_line.ensures.fault c.in_err-next_line.ensures.cause)
 
 pub returns-in_err-session-clause-early : goal.returns-in_err-session-clause-early
 returns-in_err-session-clause-early g c =
     let is : c.from_residual-in_err-session.result ≡ Err c.in_err-session.field-0.0 = search rules in
     let written = g.W.Write.contents c.args.out.now in
     let failed = g.W.TellingWriter.has_failed c.args.out.now in
-    if_err (λ e. EndsTalk e (left_in g.R.Read.remaining c.args.input.now) (left_in g.R.Read.remaining c.next_line.new.input) written written failed failed)
+    let read = has_read_failed c.next_line.new.input in
+    if_err (λ e. EndsTalk e (left_in g.R.Read.remaining c.args.input.now) (left_in g.R.Read.remaining c.next_line.new.input) written written read failed failed)
     c.in_err-session.field-0.0 c.from_residual-in_err-session.result is
-    (inl ((c.next_line.new.line.items, c.next_line.ensures.none_lost, c.next_line.ensures.stops), appends_none written, refl))
-
-pub returns-in_err-next_line-clause-cause : goal.returns-in_err-next_line-clause-cause
-returns-in_err-next_line-clause-cause g c =
-    let is : c.from_residual.result ≡ Err c.in_err-next_line.field-0.0 = search rules in
-    read_cause c.in_err-next_line.field-0.0 c.from_residual.result _ _ is c.in_err-next_line.ensures.cause
-
-pub returns-in_err-session-clause-cause : goal.returns-in_err-session-clause-cause
-returns-in_err-session-clause-cause g c =
-    let is : c.from_residual-in_err-session.result ≡ Err c.in_err-session.field-0.0 = search rules in
-    begin_cause _ c.in_err-session.field-0.0 c.from_residual-in_err-session.result _ _ is c.in_err-session.ensures
+    (unbegun (left_in g.R.Read.remaining c.args.input.now) (left_in g.R.Read.remaining c.next_line.new.input) written read failed c.next_line.new.line.items c.in_err-session.field-0.0
+    (subst (λ (x : List ℕ). Begins (Err c.in_err-session.field-0.0) x) c.as_slice.ensures.value c.in_err-session.ensures)
+    c.in_ok-next_line.ensures.line c.in_ok-next_line.ensures.rest c.next_line.ensures.none_lost c.next_line.ensures.stops)

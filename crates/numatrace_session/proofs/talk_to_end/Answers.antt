@@ -1,7 +1,5 @@
-use Rattle.numatrace_session.specs.Input.{left_in}
-use Rattle.std.proofs.Common.{inr}
-use Rattle.numatrace_session.proofs.Causes.{cause_kept}
-use Rattle.numatrace_session.proofs.Served.{ends_kept, ends_lost, refused_kept, talks_kept}
+use Rattle.numatrace_session.specs.Input.{has_read_failed, left_in}
+use Rattle.numatrace_session.proofs.Served.{ends_kept, ends_lost, talks_kept}
 use Rattle.numatrace_session.proofs.talk_to_end.Goals as goal
 
 pub returns-clause-talk : goal.returns-clause-talk
@@ -9,23 +7,12 @@ returns-clause-talk g c =
     talks_kept (left_in g.R.Read.remaining c.args.input.now) (left_in g.R.Read.remaining c.talk-ended.new.input) (g.W.Write.contents c.args.out.now) (g.W.Write.contents c.talk-ended.new.out) (g.W.Write.contents c.flush_telling.new.self)
     c.talk-ended.result c.talk-ended.ensures.talk c.in-Ok.ensures.bytes
 
-pub returns-clause-refused : goal.returns-clause-refused
-returns-clause-refused g c = λ fault is.
-    refused_kept (left_in g.R.Read.remaining c.args.input.now) (left_in g.R.Read.remaining c.talk-ended.new.input) (g.W.Write.contents c.args.out.now) (g.W.Write.contents c.talk-ended.new.out) (g.W.Write.contents c.flush_telling.new.self)
-    fault (c.talk-ended.ensures.refused fault is) c.in-Ok.ensures.bytes
-
 pub returns-clause-early : goal.returns-clause-early
 returns-clause-early g c =
     ends_kept (left_in g.R.Read.remaining c.args.input.now) (left_in g.R.Read.remaining c.talk-ended.new.input) (g.W.Write.contents c.args.out.now) (g.W.Write.contents c.talk-ended.new.out) (g.W.Write.contents c.flush_telling.new.self)
-    _ _ _ c.talk-ended.result c.talk-ended.ensures.early c.in-Ok.ensures.bytes c.in-Ok.ensures.failed
+    (has_read_failed c.talk-ended.new.input) _ _ _ c.talk-ended.result c.talk-ended.ensures.early c.in-Ok.ensures.bytes c.in-Ok.ensures.failed
 
 pub returns-in_default-clause-early : goal.returns-in_default-clause-early
 returns-in_default-clause-early g c =
     ends_lost (left_in g.R.Read.remaining c.args.input.now) (left_in g.R.Read.remaining c.talk-ended.new.input) (g.W.Write.contents c.args.out.now) (g.W.Write.contents c.talk-ended.new.out) (g.W.Write.contents c.flush_telling.new.self)
-    _ _ _ c.talk-ended.result c.talk-ended.ensures.talk c.talk-ended.ensures.early c.in_default.ensures.bytes c.in_default.ensures.failed
-
-pub returns-clause-cause : goal.returns-clause-cause
-returns-clause-cause g c = cause_kept _ _ _ c.talk-ended.result c.talk-ended.ensures.cause c.in-Ok.ensures.failed
-
-pub returns-in_default-clause-cause : goal.returns-in_default-clause-cause
-returns-in_default-clause-cause g c = λ is. inr c.in_default.ensures.failed
+    (has_read_failed c.talk-ended.new.input) _ _ _ c.talk-ended.result c.talk-ended.ensures.talk c.talk-ended.ensures.early c.in_default.ensures.bytes c.in_default.ensures.failed
