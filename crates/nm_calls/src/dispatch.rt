@@ -1,13 +1,11 @@
 //! Making calls that are given as values.
 
-ghost use Rattle.std.specs.Prelude.{map, ◌<◌};
-ghost use Rattle.nm_memory.specs.views.Accesses.{answer_shown};
+ghost use Rattle.std.specs.Prelude.{◌<◌};
 ghost use Rattle.nm_steps.specs.Calls as calls;
-ghost use Rattle.nm_calls.specs.definitions.Answers as answers;
 ghost use Rattle.nm_calls.specs.definitions.Does.{Asks, Does};
 ghost use Rattle.nm_calls.specs.definitions.Memory.{MayAllocate};
-ghost use Rattle.nm_steps.specs.Views.{call_of};
-ghost use Rattle.nm_calls.specs.views.Answers.{answer_of};
+ghost use Rattle.nm_steps.specs.Views.{attach_call, call_of, mbind_call, query_call, spawn_call};
+ghost use Rattle.nm_calls.specs.views.Answers.{answer_of, moved_shown};
 
 use crate::answer::{Answer, Moved};
 use crate::call_error::CallError;
@@ -22,8 +20,7 @@ fn spawn<A: Allocator + Copy + Send + Sync>(
     system: &mut System<A>,
     process: &NewProcess,
 ) -> Result<Answer<A>, CallError>
-    ensures { Does answer_of result system.old system.new
-        (calls.Spawn process.now.pid process.now.uid process.now.home process.now.allowed process.now.privileged) }
+    ensures { Does answer_of result system.old system.new (spawn_call process.now) }
 {
     system.spawn(process)?;
     Ok(Answer::Done)
@@ -34,8 +31,7 @@ fn attach<A: Allocator + Copy + Send + Sync>(
     system: &mut System<A>,
     area: &Attachment,
 ) -> Result<Answer<A>, CallError>
-    ensures { Does answer_of result system.old system.new
-        (calls.Attach area.now.pid area.now.addr area.now.segment area.now.offset area.now.pages) }
+    ensures { Does answer_of result system.old system.new (attach_call area.now) }
 {
     system.attach(area)?;
     Ok(Answer::Done)
@@ -47,9 +43,8 @@ fn mbind<A: Allocator + Copy + Send + Sync, C: RunCrew<A>>(
     system: &mut System<A>,
     request: &MbindRequest,
 ) -> Result<Answer<A>, CallError>
-    ensures done { Does answer_of result system.old system.new
-        (calls.Mbind request.now.caller request.now.addr request.now.len request.now.mode request.now.nodes request.now.flags) }
-    ensures asked { Asks result (MayAllocate system.old.state (calls.Mbind request.now.caller request.now.addr request.now.len request.now.mode request.now.nodes request.now.flags)) }
+    ensures done { Does answer_of result system.old system.new (mbind_call request.now) }
+    ensures asked { Asks result (MayAllocate system.old.state (mbind_call request.now)) }
 {
     system.mbind(crew, request)?;
     Ok(Answer::Failed(0))
@@ -85,9 +80,8 @@ fn query<A: Allocator + Copy + Send + Sync>(
     system: &System<A>,
     question: &Question<A>,
 ) -> Result<Moved<A>, CallError>
-    ensures done { Does (λ moved. answers.Statuses moved.failed moved.statuses.items (map answer_shown moved.answers.items)) result system.now system.now
-        (calls.Query question.now.caller question.now.pid question.now.pages.items question.now.flags) }
-    ensures asked { Asks result (MayAllocate system.now.state (calls.Query question.now.caller question.now.pid question.now.pages.items question.now.flags)) }
+    ensures done { Does moved_shown result system.now system.now (query_call question.now) }
+    ensures asked { Asks result (MayAllocate system.now.state (query_call question.now)) }
 {
     Ok(Moved {
         failed: 0,

@@ -3,8 +3,8 @@
 ghost use Rattle.std.specs.Prelude.{◌≡◌, ℕ, ◌+◌, ◌++◌, ◌∷◌, ◌<◌, ◌≤◌, ◌^◌, All, Some, true, IfOk, OnErr, OnOk, length, map, string_bytes, slice_index, count_by, ◌==◌};
 ghost use Rattle.nm_types.specs.Layout.{node_count};
 ghost use Rattle.nm_types.specs.Map.{get, page_cmp};
-ghost use Rattle.nm_calls.specs.definitions.Maps.{stretches, stretch_text, set_text, policy_text, pages_of, most_users, area_text, lines_shown};
-ghost use Rattle.nm_calls.specs.views.Tally.{comma, told_on, nodes_text, tally_text};
+ghost use Rattle.nm_calls.specs.definitions.Maps.{stretches, stretch_text, set_text, policy_text, most_users, lines_shown};
+ghost use Rattle.nm_calls.specs.views.Tally.{comma, line_text, pages_of, told_on, nodes_text, tally_text};
 
 use crate::number_text::{push_address, push_number};
 use nm_areas::Area;
@@ -225,7 +225,7 @@ fn area_text<A: Allocator + Copy + Send + Sync>(
     area: &Area,
 ) -> Result<String<A>, AllocError>
     requires { area.now.first + area.now.pages < 2 ^ 64 }
-    ensures { IfOk result (λ line. string_bytes line ≡ area_text machine.now pid area.now) }
+    ensures { IfOk result (λ line. string_bytes line ≡ line_text machine.now pid area.now) }
 {
     let mut line = String::with_capacity(alloc, LINE_BYTES)?;
     push_address(&mut line, area.first)?;
@@ -245,7 +245,7 @@ pub(crate) fn areas_text<A: Allocator + Copy + Send + Sync>(
 ) -> Result<Vec<String<A>, A>, AllocError>
     requires { All (λ (area : Area). area.first + area.pages < 2 ^ 64) areas.now }
     ensures list { IfOk result
-        (λ lines. lines_shown lines.items ≡ map (area_text machine.now pid) areas.now) }
+        (λ lines. lines_shown lines.items ≡ map (line_text machine.now pid) areas.now) }
     ensures asked { OnErr result (0 < length areas.now) }
 {
     let mut lines = Vec::with_capacity(alloc, areas.len())?;

@@ -1,12 +1,11 @@
 //! A system: a machine and its limit on runs, and the calls that processes make.
 
-ghost use Rattle.std.specs.Prelude.{Err, IfOk, OnErr, [], length, map, true, ◌+◌, ◌<◌, ◌≡◌, ◌≤◌};
+ghost use Rattle.std.specs.Prelude.{Err, IfOk, OnErr, [], length, true, ◌+◌, ◌<◌, ◌≡◌, ◌≤◌};
 ghost use Rattle.nm_types.specs.State.{free_list};
 ghost use Rattle.nm_model.specs.definitions.PageTables.{entries_of};
 ghost use Rattle.nm_model.specs.definitions.Sound.{audited};
 ghost use Rattle.nm_model.specs.definitions.Sound.{IsSound};
-ghost use Rattle.nm_memory.specs.views.Accesses.{answer_shown};
-ghost use Rattle.nm_steps.specs.Calls.{Spawn, MapPages, Attach, Unmap, Exit, Pin, Unpin, ReadBytes, WriteBytes, MovePages, MigratePages, Mbind, Offline, Online, Query, FreeList, Pagemap, Vmstat, NumaMaps, default_limit};
+ghost use Rattle.nm_steps.specs.Calls.{Unmap, Exit, Pin, Unpin, ReadBytes, WriteBytes, Offline, Online, FreeList, Pagemap, Vmstat, NumaMaps, default_limit};
 ghost use Rattle.nm_calls.specs.definitions.Answers.{Done, NewSegment, TheBytes, Statuses, Failed, Frames, Entries, TheTotals, Lines};
 ghost use Rattle.nm_calls.specs.definitions.Entries.{entries_mapped, entries_shown};
 ghost use Rattle.nm_calls.specs.definitions.Maps.{lines_shown};
@@ -14,7 +13,8 @@ ghost use Rattle.nm_calls.specs.definitions.Memory.{MayAllocate};
 ghost use Rattle.nm_calls.specs.definitions.Systems.{new_system, system_with};
 ghost use Rattle.nm_calls.specs.definitions.Outcome.{outcome};
 ghost use Rattle.nm_calls.specs.definitions.Does.{Asks, Does, DoesOrRefuses};
-ghost use Rattle.nm_steps.specs.Views.{shown_during};
+ghost use Rattle.nm_calls.specs.views.Answers.{moved_shown};
+ghost use Rattle.nm_steps.specs.Views.{attach_call, map_call, mbind_call, migrate_call, move_call, query_call, spawn_call};
 
 use crate::answer::{Moved, PagemapEntry};
 use crate::batch::{check_targets, move_batch};
@@ -121,8 +121,7 @@ impl<A: Allocator + Copy + Send + Sync> System<A> {
     /// Errors, in order: EINVAL (pid 0 or one that is alive, a home that is not a node, an allowed set that is empty or
     /// has a node that the machine does not have); ENOMEM (1,024 processes are alive).
     pub fn spawn(&mut self, process: &NewProcess) -> Result<(), CallError>
-        ensures { Does (λ done. Done) result self.old self.new
-            (Spawn process.now.pid process.now.uid process.now.home process.now.allowed process.now.privileged) }
+        ensures { Does (λ done. Done) result self.old self.new (spawn_call process.now) }
     {
         let NewProcess {
             pid,
@@ -140,8 +139,7 @@ impl<A: Allocator + Copy + Send + Sync> System<A> {
     /// Errors, in order: ESRCH (no such process); EINVAL (an address that is not a multiple of 4,096, no page, an end
     /// past 2^47, an area in the way); ENOMEM (no segment number left).
     pub fn map(&mut self, area: &NewArea) -> Result<u32, CallError>
-        ensures { Does NewSegment result self.old self.new
-            (MapPages area.now.pid area.now.addr area.now.pages area.now.shared) }
+        ensures { Does NewSegment result self.old self.new (map_call area.now) }
     {
         let NewArea {
             pid,
@@ -157,8 +155,7 @@ impl<A: Allocator + Copy + Send + Sync> System<A> {
     /// Errors, in order: ESRCH (no such process); EINVAL (an address that is not a multiple of 4,096, no page, an end
     /// past 2^47, an area in the way; or a segment that is unknown, gone or private, or ends before the area would).
     pub fn attach(&mut self, area: &Attachment) -> Result<(), CallError>
-        ensures { Does (λ done. Done) result self.old self.new
-            (Attach area.now.pid area.now.addr area.now.segment area.now.offset area.now.pages) }
+        ensures { Does (λ done. Done) result self.old self.new (attach_call area.now) }
     {
         let Attachment {
             pid,
@@ -266,11 +263,8 @@ impl<A: Allocator + Copy + Send + Sync> System<A> {
         crew: &C,
         request: &MoveRequest<A>,
     ) -> Result<Moved<A>, CallError>
-        ensures done { Does
-            (λ moved. Statuses moved.failed moved.statuses.items
-            (map answer_shown moved.answers.items)) result self.old self.new
-            (MovePages request.now.caller request.now.pid request.now.batch.pages.items request.now.batch.nodes.items request.now.flags (shown_during request.now.during.items)) }
-        ensures asked { Asks result (MayAllocate self.old.state (MovePages request.now.caller request.now.pid request.now.batch.pages.items request.now.batch.nodes.items request.now.flags (shown_during request.now.during.items))) }
+        ensures done { Does moved_shown result self.old self.new (move_call request.now) }
+        ensures asked { Asks result (MayAllocate self.old.state (move_call request.now)) }
     {
         let permit = permit_of(&self.machine, request.caller, request.pid, request.flags)?;
         let batch = &request.batch;
@@ -297,8 +291,7 @@ impl<A: Allocator + Copy + Send + Sync> System<A> {
         crew: &C,
         request: &MigrateRequest,
     ) -> Result<usize, CallError>
-        ensures { Does Failed result self.old self.new
-            (MigratePages request.now.caller request.now.pid request.now.old request.now.new) }
+        ensures { Does Failed result self.old self.new (migrate_call request.now) }
     {
         let what = migration_of(&self.machine, request)?;
         let limit = self.run_limit;
@@ -337,9 +330,8 @@ impl<A: Allocator + Copy + Send + Sync> System<A> {
         crew: &C,
         request: &MbindRequest,
     ) -> Result<(), CallError>
-        ensures done { Does (λ done. Failed 0) result self.old self.new
-            (Mbind request.now.caller request.now.addr request.now.len request.now.mode request.now.nodes request.now.flags) }
-        ensures asked { Asks result (MayAllocate self.old.state (Mbind request.now.caller request.now.addr request.now.len request.now.mode request.now.nodes request.now.flags)) }
+        ensures done { Does (λ done. Failed 0) result self.old self.new (mbind_call request.now) }
+        ensures asked { Asks result (MayAllocate self.old.state (mbind_call request.now)) }
     {
         let (asked, binding) = ready(&self.machine, request)?;
         if request.len == 0 {
@@ -388,8 +380,8 @@ impl<A: Allocator + Copy + Send + Sync> System<A> {
     /// call without addresses does not allocate.
     pub fn query(&self, question: &Question<A>) -> Result<Vec<i32, A>, CallError>
         ensures done { Does (λ statuses. Statuses 0 statuses.items []) result self.now self.now
-            (Query question.now.caller question.now.pid question.now.pages.items question.now.flags) }
-        ensures asked { Asks result (MayAllocate self.now.state (Query question.now.caller question.now.pid question.now.pages.items question.now.flags)) }
+            (query_call question.now) }
+        ensures asked { Asks result (MayAllocate self.now.state (query_call question.now)) }
     {
         let Question {
             caller,

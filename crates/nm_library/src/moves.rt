@@ -3,7 +3,7 @@
 ghost use Rattle.std.specs.Prelude.{◌≡◌, ◌≢◌, ◌⊎◌, [], pos, length, IfOk};
 ghost use Rattle.nm_types.specs.Nodes.{members};
 ghost use Rattle.nm_steps.specs.Calls.{MovePages, MigratePages, Mbind, Query};
-ghost use Rattle.nm_steps.specs.Views.{shown_during};
+ghost use Rattle.nm_steps.specs.Views.{migrate_call, move_call};
 ghost use Rattle.nm_library.specs.Calls.{Completes, Looks, Migrates, Moves, MovesListed, OfSession, Queries};
 
 use crate::calls::{make_on, status_for};
@@ -77,7 +77,7 @@ fn move_pages(
     statuses: &mut [i32],
     failed: &mut usize,
 ) -> i32
-    ensures { Moves (MovePages request.now.caller request.now.pid request.now.batch.pages.items request.now.batch.nodes.items request.now.flags (shown_during request.now.during.items))
+    ensures { Moves (move_call request.now)
         statuses.old statuses.new failed.old failed.new result kept.old kept.new }
 {
     // (the kit's borrow checker looks for what a crew works on among the types of this function)
@@ -197,7 +197,7 @@ pub extern "C" fn numatrace_query(
 
 /// Moves pages from nodes to nodes, and writes how many failed.
 fn migrate(kept: &mut Kept, request: &MigrateRequest, failed: &mut usize) -> i32
-    ensures { Migrates (MigratePages request.now.caller request.now.pid request.now.old request.now.new)
+    ensures { Migrates (migrate_call request.now)
         failed.old failed.new result kept.old kept.new }
 {
     // (the kit's borrow checker looks for what a crew works on among the types of this function)

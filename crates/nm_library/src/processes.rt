@@ -3,6 +3,7 @@
 ghost use Rattle.std.specs.Prelude.{◌≡◌, pos};
 ghost use Rattle.nm_types.specs.Nodes.{members};
 ghost use Rattle.nm_steps.specs.Calls.{Spawn, Exit, MapPages, Attach, Unmap};
+ghost use Rattle.nm_steps.specs.Views.{map_call};
 ghost use Rattle.nm_library.specs.Calls.{Completes, Maps, OfSession};
 
 use crate::calls::{make_on, status_for};
@@ -47,7 +48,7 @@ pub extern "C" fn numatrace_exit(alloc: Global, session: &mut Handle, pid: u32) 
 
 /// Makes an area, and writes its segment's number.
 fn map(kept: &mut Kept, area: &NewArea, segment: &mut u32) -> i32
-    ensures { Maps (MapPages area.now.pid area.now.addr area.now.pages area.now.shared)
+    ensures { Maps (map_call area.now)
         segment.old segment.new result kept.old kept.new }
 {
     match kept.session.map(area) {

@@ -1,18 +1,19 @@
--- A trace that is played to its end leaves a sound system, and no move on the way changes a byte that a process reads.
-use Rattle.std.proofs.Common.{◌≡◌, ℕ, zero, suc, ◌+◌, List, [], ◌∷◌, take, sym, ap, subst, ◌∙◌, arith}
+-- Calls leave a sound system, with each frame in one place, and no move on the way changes a byte that a process reads.
+use Rattle.std.proofs.Common.{◌≡◌, ℕ, zero, suc, ◌+◌, List, [], ◌∷◌, take, ap, subst, ◌∙◌, arith}
 use Rattle.std.specs.Prelude.{Option, Some, slice_get, Result, Ok, length}
 use Rattle.std.specs.Io.KnownBytes.{Appends}
 use Rattle.nm_types.proofs.Cases.{some_is, none_some}
 use Rattle.nm_model.specs.definitions.Memory.{mem}
-use Rattle.nm_model.specs.definitions.Sound.{IsSound}
+use Rattle.nm_model.specs.definitions.Sound.{IsSound, audited}
 use Rattle.nm_laws.proofs.Soundness.New.{new_sound}
+use Rattle.nm_laws.proofs.Soundness.Sounded.{sound_is_audited}
 use Rattle.nm_steps.specs.Calls.{Call}
 use Rattle.nm_calls.specs.definitions.Outcome.{outcome}
 use Rattle.nm_calls.specs.definitions.Systems.{SystemState, system_with}
 use Rattle.nm_calls.proofs.CallLaws.BytesStay.{calls_keep_memory}
 use Rattle.nm_calls.proofs.CallLaws.StaysSound.{calls_stay_sound}
 use Rattle.nm_steps.specs.Faults.{Plan}
-use Rattle.nm_trace.specs.Headline.{KeepMemory, IsPlayed}
+use Rattle.nm_trace.specs.Headline.{KeepMemory, IsPlayed, StatesAreSound}
 use Rattle.nm_trace.specs.Played.{Plays}
 use Rattle.nm_trace.specs.Report.{report_from, state_after}
 use Rattle.nm_trace.specs.declared.playing.Summary.{Summary}
@@ -21,6 +22,9 @@ use Rattle.nm_steps.specs.declared.trace_error.TraceError.{TraceError}
 all_sound : (s : SystemState) (calls : List Call) → IsSound s.state → IsSound (state_after s calls).state
 all_sound s [] h = h
 all_sound s (call ∷ calls) h = all_sound (outcome s call).system calls (calls_stay_sound s call h)
+
+pub states_are_sound : StatesAreSound
+states_are_sound layout limit calls = all_sound (system_with layout limit) calls (new_sound layout)
 
 -- the state after one more call
 after_next : (s : SystemState) (calls : List Call) (k : ℕ) (call : Call) → slice_get calls k ≡ Some call → state_after s (take (k + 1) calls) ≡ (outcome (state_after s (take k calls)) call).system
@@ -45,6 +49,6 @@ played plan s t calls old new result summary start same done p =
       whole = q.0 ∙ ap length same;
       report = subst (Appends old new) (λ j. report_from 0 (start j) (same j)) q.2;
       state = state;
-      sound = subst (λ (u : SystemState). IsSound u.state) (sym state) (all_sound first plan.calls (new_sound plan.layout));
+      frames = ap (λ (u : SystemState). audited u.state) state ∙ sound_is_audited (state_after first plan.calls).state (states_are_sound plan.layout plan.run_limit plan.calls);
       memory = keep_memory first plan.calls (new_sound plan.layout);
     }

@@ -1,8 +1,9 @@
 -- The headline: what a run from a trace does.
-use Rattle.std.specs.Prelude.{◌≡◌, ℕ, ◌+◌, ◌<◌, false, List, [], ◌++◌, length, take, slice_get, Option, Some, Result, Ok, Err}
+use Rattle.std.specs.Prelude.{◌≡◌, ℕ, ◌+◌, ◌<◌, true, false, List, [], ◌++◌, length, take, slice_get, Option, Some, Result, Ok, Err}
 use Rattle.std.specs.Io.KnownBytes.{Appends}
+use Rattle.nm_types.specs.Layout.{Layout}
 use Rattle.nm_model.specs.definitions.Memory.{mem}
-use Rattle.nm_model.specs.definitions.Sound.{IsSound}
+use Rattle.nm_model.specs.definitions.Sound.{IsSound, audited}
 use Rattle.nm_steps.specs.Calls.{Call}
 use Rattle.nm_calls.specs.laws.Calls.{writes_or_maps, byte_after}
 use Rattle.nm_calls.specs.definitions.Outcome.{runs_of}
@@ -22,6 +23,10 @@ KeepMemory s calls =
     let before = state_after s (take k calls) in
     mem (state_after s (take (k + 1) calls)).state q at ≡ byte_after before call (runs_of before call) q at
 
+-- every state that calls lead to from a new machine is sound
+abbrev pub StatesAreSound : Type 0
+StatesAreSound = (layout : Layout) (limit : ℕ) (calls : List Call) → IsSound (state_after (system_with layout limit) calls).state
+
 -- a trace was played to its end on a new machine
 pub record IsPlayed (plan : Plan) (steps : ℕ) (system : SystemState) (old new : Option (List ℕ)) : Type 0 where
   -- each of its steps was made
@@ -30,8 +35,8 @@ pub record IsPlayed (plan : Plan) (steps : ℕ) (system : SystemState) (old new 
   pub report : Appends old new (report_of plan)
   -- the system is in the state of its calls, made one after another, each as one request after another
   pub state : system ≡ state_after (system_with plan.layout plan.run_limit) plan.calls
-  -- the machine is sound
-  pub sound : IsSound system.state
+  -- each frame of the machine is in exactly one place: its own node's free list, or one page's
+  pub frames : audited system.state ≡ true
   -- no move changed a byte that a process reads
   pub memory : KeepMemory (system_with plan.layout plan.run_limit) plan.calls
 

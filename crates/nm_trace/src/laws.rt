@@ -1,6 +1,7 @@
 //! Laws of reports. Each function does nothing, and its contract is the law.
 
 ghost use Rattle.nm_trace.specs.Laws.{ThreePagesReport};
+ghost use Rattle.nm_trace.specs.Headline.{StatesAreSound};
 ghost use Rattle.nm_trace.specs.Session.{SessionsReport, SessionsAreTraces};
 ghost use Rattle.nm_trace.specs.Flights.{AccessLineRows, ReadWhileItMoves};
 
@@ -26,4 +27,9 @@ pub fn read_while_it_moves()
 pub fn sessions_report()
     ensures fed { SessionsReport }
     ensures traces { SessionsAreTraces }
+{}
+
+/// Every state that calls lead to from a new machine is sound.
+pub fn states_are_sound()
+    ensures { StatesAreSound }
 {}

@@ -24,7 +24,7 @@ use Rattle.nm_steps.specs.Calls.{Call, Spawn, MapPages, Attach, Unmap, Exit, Pin
 use Rattle.nm_calls.specs.definitions.Mbind.{binding, policed}
 use Rattle.nm_calls.specs.definitions.Offline.{still_on}
 use Rattle.nm_calls.specs.definitions.Systems.{SystemState}
-use Rattle.nm_calls.specs.definitions.Outcome.{refused, start, started, runs_asked, accesses_asked, emptied, ended, unless}
+use Rattle.nm_calls.specs.definitions.Outcome.{refused, start, runs_asked, accesses_asked, emptied, ended, unless}
 use Rattle.nm_calls.specs.laws.Calls.{writes_or_maps, CallsKeepMemory, TrailKeepsMemory, WithoutAccessesNone}
 use Rattle.nm_calls.proofs.Trails.{trail_is_after_runs, runs_unless, state_unless}
 
@@ -105,14 +105,14 @@ module _ (y : SystemState) (q at : ℕ) where
   ended_kept Vmstat h k = refl
   ended_kept (NumaMaps pid) h k = refl
 
-  call_kept : (call : Call) (o : Option Errno) → IsSound y.state → writes_or_maps call ≡ false → mem (unless o y (ended y call (made_of call))).system.state q at ≡ runs_written y.state.areas q at (mem y.state q at) (accesses_asked call) 0 (runs_from 0 (state_unless o y.state (start y call)) (runs_unless o (runs_asked y call)) (accesses_asked call)).answers
+  call_kept : (call : Call) (o : Option Errno) → IsSound y.state → writes_or_maps call ≡ false → mem (unless o y (ended y call (made_of call))).system.state q at ≡ runs_written y.state.areas q at (mem y.state q at) (accesses_asked call) 0 (runs_from 0 (start y call) (runs_unless o (runs_asked y call)) (accesses_asked call)).answers
   unfolding Writes made_of
   call_kept call (Some e) h k = refl
   call_kept call None h k = ended_kept call h k ∙ runs_kept call (runs_asked y call) h k
 
-  way_kept : (call : Call) (n : ℕ) (o : Option Errno) (runs : List Stretch) → IsSound y.state → writes_or_maps call ≡ false → mem (runs_from 0 (state_unless o y.state (start y call)) (take n (runs_unless o runs)) (accesses_asked call)).state q at ≡ runs_written y.state.areas q at (mem y.state q at) (accesses_asked call) 0 (runs_from 0 (state_unless o y.state (start y call)) (take n (runs_unless o runs)) (accesses_asked call)).answers
+  way_kept : (call : Call) (n : ℕ) (o : Option Errno) (runs : List Stretch) → IsSound y.state → writes_or_maps call ≡ false → mem (runs_from 0 (state_unless o y.state (start y call)) (take n (runs_unless o runs)) (accesses_asked call)).state q at ≡ runs_written y.state.areas q at (mem y.state q at) (accesses_asked call) 0 (runs_from 0 (start y call) (take n (runs_unless o runs)) (accesses_asked call)).answers
   unfolding Writes
-  way_kept call n (Some e) runs h k = ap (λ rs. mem (runs_from 0 y.state rs (accesses_asked call)).state q at) (none_taken n) ∙ sym (ap (λ rs. runs_written y.state.areas q at (mem y.state q at) (accesses_asked call) 0 (runs_from 0 y.state rs (accesses_asked call)).answers) (none_taken n))
+  way_kept call n (Some e) runs h k = ap (λ rs. mem (runs_from 0 y.state rs (accesses_asked call)).state q at) (none_taken n) ∙ sym (ap (λ rs. runs_written y.state.areas q at (mem y.state q at) (accesses_asked call) 0 (runs_from 0 (start y call) rs (accesses_asked call)).answers) (none_taken n))
   way_kept call n None runs h k = runs_kept call (take n runs) h k
 
 pub calls_keep_memory : CallsKeepMemory
@@ -125,6 +125,6 @@ trail_keeps_memory y call n d q at h k few =
 
 pub without_accesses : WithoutAccessesNone
 without_accesses y call runs q at none =
-    let first = started y call in
+    let first = start y call in
     ap (λ accesses. runs_written y.state.areas q at (mem y.state q at) accesses 0 (runs_from 0 first runs accesses).answers) none
     ∙ none_written y.state.areas q at (mem y.state q at) 0 (runs_from 0 first runs []).answers

@@ -18,7 +18,7 @@ use Rattle.nm_types.specs.State.{State}
 use Rattle.nm_types.proofs.Cases.{some_none}
 use Rattle.nm_model.specs.definitions.Cut.{Stretch}
 use Rattle.nm_model.specs.definitions.Run.{accesses_of, runs_from}
-use Rattle.nm_model.specs.definitions.Effect.{pages_of, set_online}
+use Rattle.nm_model.specs.definitions.Effect.{list_refusal, pages_of, set_online}
 use Rattle.nm_model.specs.definitions.Run.{Ran, run}
 use Rattle.nm_model.specs.definitions.Sound.{IsSound}
 use Rattle.nm_model.specs.definitions.Touch.{Access, Read, Write}
@@ -30,7 +30,7 @@ use Rattle.nm_laws.proofs.Soundness.Ran.{run_sound}
 use Rattle.nm_laws.proofs.Soundness.Touched.{access_sound}
 use Rattle.nm_steps.specs.Calls.{Call, Spawn, MapPages, Attach, Unmap, Exit, Pin, Unpin, ReadBytes, WriteBytes, MovePages, MigratePages, Query, FreeList, Pagemap, Vmstat, NumaMaps, Mbind, Offline, Online}
 use Rattle.nm_calls.specs.definitions.Mbind.{binding}
-use Rattle.nm_calls.specs.definitions.Offline.{still_on, online_refusal}
+use Rattle.nm_calls.specs.definitions.Offline.{still_on}
 use Rattle.nm_calls.specs.definitions.Systems.{SystemState}
 use Rattle.nm_calls.specs.definitions.Outcome.{refused, start, runs_asked, accesses_asked, emptied, ended, unless}
 use Rattle.nm_calls.specs.laws.Calls.{CallsStaySound}
@@ -69,7 +69,7 @@ removed_sound s node h =
       below = recursion_from_All P (without_node s.online node) (All-filter (λ n. not (n == node)) P s.online (All-from_recursion P s.online h.online.below));
     }) h
 
-known_node : (s : State) (node : ℕ) → online_refusal s node ≡ None → node < node_count s.layout
+known_node : (s : State) (node : ℕ) → list_refusal s node ≡ None → node < node_count s.layout
 known_node s node h =
     elim (nat_le (node_count s.layout) node) as (λ b. nat_le (node_count s.layout) node ≡ b → node < node_count s.layout) [
       | true ↦ λ b. absurd (let none : Some Einval ≡ None = sym (ap (λ c. if c then Some Einval else None) b) ∙ h in some_none none)

@@ -23,11 +23,11 @@ use Rattle.nm_areas.specs.Lines.{line_of, lines_of}
 use Rattle.nm_model.specs.definitions.Sound.{IsSound, IsWhole}
 use Rattle.nm_types.specs.Layout.{node_count}
 use Rattle.nm_types.specs.Nodes.{up_from}
-use Rattle.nm_types.specs.State.{State}
+use Rattle.nm_types.specs.State.{State, Placed}
 use Rattle.nm_types.specs.declared.located.Located.{Located}
 use Rattle.nm_calls.specs.declared.maps.Tally.{Tally}
-use Rattle.nm_calls.specs.definitions.Maps.{told_from, node_text, most_users, pages_text}
-use Rattle.nm_calls.specs.views.Tally.{nodes_text, counts_text, tally_text}
+use Rattle.nm_calls.specs.definitions.Maps.{told_from, node_text, most_users, numa_maps, area_text, pages_text}
+use Rattle.nm_calls.specs.views.Tally.{line_text, nodes_text, counts_text, tally_text}
 
 -- how many pages are on a node
 abbrev pub count_on : List Located → ℕ → ℕ
@@ -132,3 +132,22 @@ wholes_end s (a ∷ areas) h = (h.0.1, wholes_end s areas h.1)
 
 pub lines_end : (s : State) (pid : ℕ) (lines : List Listed) → IsSound s → lines ≡ lines_of s.segments s.areas pid → All (λ (l : Listed). l.first + l.pages < 2 ^ 64) lines
 lines_end s pid lines sound e = subst (All (λ (l : Listed). l.first + l.pages < 2 ^ 64)) (sym e) (All-from_recursion _ _ (ends_low s.segments s.areas pid (wholes_end s s.areas sound.areas)))
+
+-- ---- the areas of a process
+
+text_is : (s : State) (segments : Map ℕ Segment) (pid : ℕ) (a : Placed) → (a.0.0 == pid) ≡ true → line_text s pid (line_of segments a) ≡ area_text s a
+text_is s segments pid a own = ap (λ (q : ℕ). area_text s ((q, a.0.1), a.1)) (sym (eqb-true a.0.0 pid own))
+
+texts_are : (s : State) (segments : Map ℕ Segment) (areas : Map (ℕ × ℕ) Area) (pid : ℕ)
+    → map (line_text s pid) (lines_of segments areas pid) ≡ map (area_text s) (filter (λ a. a.0.0 == pid) areas)
+texts_are s segments [] pid = refl
+texts_are s segments (a ∷ areas) pid =
+    let rest = texts_are s segments areas pid in
+    let own = filter (λ (b : Placed). b.0.0 == pid) areas in
+    elim (a.0.0 == pid) as (λ b. (a.0.0 == pid) ≡ b → map (line_text s pid) (map (line_of segments) (cond b (a ∷ own) own)) ≡ map (area_text s) (cond b (a ∷ own) own)) [
+      | true ↦ λ is. ap (λ t. t ∷ map (line_text s pid) (lines_of segments areas pid)) (text_is s segments pid a is) ∙ ap (λ ts. area_text s a ∷ ts) rest
+      | false ↦ λ is. rest
+    ] refl
+
+pub maps_are : (s : State) (pid : ℕ) (lines : List Listed) → lines ≡ lines_of s.segments s.areas pid → map (line_text s pid) lines ≡ numa_maps s pid
+maps_are s pid lines is = ap (map (line_text s pid)) is ∙ texts_are s s.segments s.areas pid

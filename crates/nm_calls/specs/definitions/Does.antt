@@ -5,7 +5,7 @@ use Rattle.nm_types.specs.declared.errno.Errno.{Errno}
 use Rattle.nm_types.specs.State.{State}
 use Rattle.nm_model.specs.definitions.Cut.{Stretch}
 use Rattle.nm_model.specs.definitions.Touch.{Access}
-use Rattle.nm_model.specs.definitions.Run.{runs_from, answer_of}
+use Rattle.nm_model.specs.definitions.Run.{failures, runs_from}
 use Rattle.nm_memory.specs.views.Accesses.{answer_shown}
 use Rattle.nm_calls.specs.declared.call_error.CallError.{CallError}
 use Rattle.nm_calls.specs.declared.call_error.CallError.TheVariants.{Refused, HostMemory}
@@ -40,7 +40,7 @@ DoesOrRefuses view (Err e) old new call = outcome old call ≡ record { answer =
 abbrev pub Moves : {A : Type 0} → Result (Moved A) CallError → State → State → List Stretch → List (ℕ × Access) → Type 0
 Moves (Ok moved) old new stretches during =
     let made = runs_from 0 old stretches during in
-    (moved.statuses.items ≡ made.statuses) × (moved.failed ≡ answer_of made)
+    (moved.statuses.items ≡ made.statuses) × (moved.failed ≡ failures made.statuses)
     × (map answer_shown moved.answers.items ≡ in_order (keys_of during) made.answers) × (new ≡ made.state)
 Moves (Err (Refused e)) old new stretches during = ⊥
 Moves (Err (HostMemory runs policy_set)) old new stretches during =

@@ -1,15 +1,13 @@
 -- A process's areas as text, as in numa(7).
 use Rattle.std.specs.Prelude.{ℕ, ◌+◌, ◌-◌, max, ◌==◌, nat_lt, List, [], ◌∷◌, ◌++◌, map, length, replicate, count_by, String, string_bytes, false, codes, decimal, if◌then◌else◌}
 use Rattle.std.specs.Fmt.{digits}
-use Rattle.std.specs.List.{flat_map, fold, join_with_byte}
+use Rattle.std.specs.List.{filter, flat_map, fold, join_with_byte}
 use Rattle.nm_types.specs.declared.area.Policy.{Policy}
 use Rattle.nm_types.specs.declared.area.Policy.TheVariants.{Default, Preferred, Bind, Interleave, Local}
 use Rattle.nm_types.specs.Layout.{node_count}
 use Rattle.nm_types.specs.Nodes.{up_from}
-use Rattle.nm_types.specs.State.{State}
+use Rattle.nm_types.specs.State.{State, Placed}
 use Rattle.nm_model.specs.definitions.Seen.{users}
-use Rattle.nm_areas.specs.declared.lines.Area.{Area}
-use Rattle.nm_areas.specs.Lines.{lines_of}
 use Rattle.nm_types.specs.declared.located.Located.{Located}
 use Rattle.nm_model.specs.definitions.Seen.{located_between}
 
@@ -44,10 +42,6 @@ policy_text Local = codes "local"
 abbrev pub address_text : ℕ → List ℕ
 address_text vpn = let ds = digits 16 false vpn in replicate (5 - length ds) 48 ++ ds ++ codes "000"
 
--- the pages that a process sees in an area
-abbrev pub pages_of : State → ℕ → Area → List Located
-pages_of s pid line = located_between s pid line.first (line.first + line.pages)
-
 -- the greatest number of processes that see any of these pages
 abbrev pub most_users : State → List Located → ℕ
 most_users s pages = fold (λ most p. max most (length (users s.processes p.page))) 0 pages
@@ -68,9 +62,10 @@ pages_text s (p ∷ ps) =
     ++ flat_map (node_text (p ∷ ps)) (up_from 0 (node_count s.layout)) ++ codes " kernelpagesize_kB=4"
 
 -- an area as text
-abbrev pub area_text : State → ℕ → Area → List ℕ
-area_text s pid line =
-    address_text line.first ++ codes " " ++ policy_text line.policy ++ pages_text s (pages_of s pid line)
+abbrev pub area_text : State → Placed → List ℕ
+area_text s a =
+    let pages = located_between s a.0.0 a.0.1 (a.0.1 + a.1.pages) in
+    address_text a.0.1 ++ codes " " ++ policy_text a.1.policy ++ pages_text s pages
 
 -- the bytes of lines
 abbrev pub lines_shown : {A : Type 0} → List (String A) → List (List ℕ)
@@ -78,4 +73,4 @@ lines_shown lines = map (λ line. string_bytes line) lines
 
 -- a process's areas as text, in address order
 abbrev pub numa_maps : State → ℕ → List (List ℕ)
-numa_maps s pid = map (area_text s pid) (lines_of s.segments s.areas pid)
+numa_maps s pid = map (area_text s) (filter (λ a. a.0.0 == pid) s.areas)

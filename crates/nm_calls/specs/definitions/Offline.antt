@@ -36,10 +36,6 @@ offline_runs limit s node =
 abbrev pub still_on : State → State → ℕ → Bool
 still_on old new node = is_in old.online node && list_any (is_on new node) (placed_on old node)
 
--- EINVAL: no such node
-abbrev pub online_refusal : State → ℕ → Option Errno
-online_refusal s node = first_error ((nat_le (node_count s.layout) node, Einval) ∷ [])
-
 -- a state with other nodes online
 abbrev pub with_online : List ℕ → State → State
 with_online online s = record s { online = online }

@@ -11,12 +11,11 @@ use Rattle.nm_model.specs.definitions.Touch as engine
 use Rattle.nm_model.specs.definitions.Effect.{set_online, spawn, map_new, attach, unmap, exit, pin, unpin}
 use Rattle.nm_model.specs.definitions.Effect.{spawn_refusal, map_refusal, attach_refusal, unmap_refusal, exit_refusal, pin_refusal, unpin_refusal, list_refusal, entries_refusal}
 use Rattle.nm_model.specs.definitions.Run.{Ran, run}
-use Rattle.nm_model.specs.definitions.Run.{accesses_of, runs_from, answer_of}
-use Rattle.nm_model.specs.definitions.PageTables.{entries_of}
+use Rattle.nm_model.specs.definitions.Run.{accesses_of, failures, runs_from}
 use Rattle.nm_model.specs.definitions.Status.{node_status}
 use Rattle.nm_steps.specs.Calls.{Call, Spawn, MapPages, Attach, Unmap, Exit, Pin, Unpin, ReadBytes, WriteBytes, MovePages, MigratePages, Query, FreeList, Pagemap, Vmstat, NumaMaps, Mbind, Offline, Online}
 use Rattle.nm_calls.specs.definitions.Answers.{Answer, Refusal, Done, Held, NewSegment, TheBytes, Statuses, Failed, Frames, Entries, TheTotals, Lines}
-use Rattle.nm_calls.specs.definitions.Entries.{entries_shown}
+use Rattle.nm_calls.specs.definitions.Entries.{pagemap}
 use Rattle.nm_calls.specs.definitions.Maps.{numa_maps}
 use Rattle.nm_calls.specs.definitions.Permission.{query_refusal, moves_all, owner_of}
 use Rattle.nm_types.specs.declared.errno.Errno.TheVariants.{Eio, Ebusy}
@@ -24,7 +23,7 @@ use Rattle.nm_calls.specs.definitions.Batch.{move_refusal}
 use Rattle.nm_calls.specs.definitions.Batch.{in_order}
 use Rattle.nm_calls.specs.definitions.Migrate.{migrate_refusal, migration}
 use Rattle.nm_calls.specs.definitions.Mbind.{mbind_refusal, policed, binding, mbind_runs, has_stray, tells_late}
-use Rattle.nm_calls.specs.definitions.Offline.{offline_refusal, offline_runs, still_on, online_refusal}
+use Rattle.nm_calls.specs.definitions.Offline.{offline_refusal, offline_runs, still_on}
 use Rattle.nm_calls.specs.definitions.Systems.{SystemState, in_state}
 
 -- why an access is refused, if it is
@@ -59,7 +58,7 @@ refused s (MigratePages caller pid old new) = migrate_refusal s caller pid old n
 refused s (Query caller pid pages flags) = query_refusal s caller pid flags
 refused s (Mbind caller addr len mode nodes flags) = mbind_refusal s caller addr len mode nodes flags
 refused s (Offline node) = offline_refusal s node
-refused s (Online node) = online_refusal s node
+refused s (Online node) = list_refusal s node
 refused s (FreeList node) = list_refusal s node
 refused s (Pagemap pid) = entries_refusal s pid
 refused s Vmstat = None
@@ -125,8 +124,8 @@ ended y (ReadBytes pid addr len) made =
 ended y (WriteBytes pid addr bytes) made =
     let access = write y.state pid addr bytes in leaves y (shown access.answer) access.state
 ended y (MovePages caller pid pages nodes flags during) made =
-    leaves y (Statuses (answer_of made) made.statuses (in_order (keys_of during) made.answers)) made.state
-ended y (MigratePages caller pid old new) made = leaves y (Failed (answer_of made)) made.state
+    leaves y (Statuses (failures made.statuses) made.statuses (in_order (keys_of during) made.answers)) made.state
+ended y (MigratePages caller pid old new) made = leaves y (Failed (failures made.statuses)) made.state
 ended y (Query caller pid pages flags) made =
     leaves y (Statuses 0 (statuses_of y.state (owner_of caller pid) pages) []) y.state
 ended y (Mbind caller addr len mode nodes flags) made =
@@ -135,7 +134,7 @@ ended y (Mbind caller addr len mode nodes flags) made =
 ended y (Offline node) made = emptied y node made.state (still_on y.state made.state node)
 ended y (Online node) made = leaves y Done (set_online y.state node true)
 ended y (FreeList node) made = leaves y (Frames (free_list y.state node)) y.state
-ended y (Pagemap pid) made = leaves y (Entries (entries_shown (entries_of y.state pid))) y.state
+ended y (Pagemap pid) made = leaves y (Entries (pagemap y.state pid)) y.state
 ended y Vmstat made = leaves y (TheTotals y.state.moved y.state.failed) y.state
 ended y (NumaMaps pid) made = leaves y (Lines (numa_maps y.state pid)) y.state
 

@@ -11,7 +11,7 @@ use Rattle.nm_calls.specs.definitions.Answers.{Answer, Refusal, Done, Failed}
 use Rattle.nm_calls.specs.definitions.Outcome.{refused, outcome, trail, after_runs}
 use Rattle.nm_calls.specs.examples.MbindRows.{MPOL_BIND, system_in, left_in, narrow}
 use Rattle.nm_calls.specs.definitions.Maps.{numa_maps}
-use Rattle.nm_calls.specs.definitions.Offline.{online_refusal}
+use Rattle.nm_model.specs.definitions.Effect.{list_refusal}
 
 -- the answer of a call
 abbrev pub answer : State → Call → Answer
@@ -46,7 +46,7 @@ filled_up = wrote (map_new first_offline 1 D 2 false) 1 D 0x64
 abbrev pub NothingIsTakenOffline : Type 0
 NothingIsTakenOffline =
     (frame_at filled_up 1 D ≡ Some 7) × ((write filled_up 1 E (0x65 ∷ [])).answer ≡ Refused Enomem)
-    × (answer filled_up (Offline 1) ≡ Refusal Ebusy) × (online_refusal filled_up 0 ≡ None)
+    × (answer filled_up (Offline 1) ≡ Refusal Ebusy) × (list_refusal filled_up 0 ≡ None)
     × (frame_at (wrote (set_online filled_up 0 true) 1 E 0x65) 1 E ≡ Some 3)
 
 -- a page with a pin keeps its node online, and the moves stay
@@ -101,7 +101,7 @@ SharedPageLeavesItsNode =
     × (map (λ pid. frame_at s pid 0x20000) (1 ∷ 2 ∷ []) ≡ Some 4 ∷ Some 4 ∷ [])
     × (map (λ pid. (read s pid 0x20000 1).answer) (1 ∷ 2 ∷ []) ≡ Bytes (0x61 ∷ []) ∷ Bytes (0x61 ∷ []) ∷ [])
     × (answer s (Offline 0) ≡ Done) × (after s (Offline 0) ≡ s)
-    × (refused s (Offline 9) ≡ Some Einval) × (online_refusal s 9 ≡ Some Einval)
+    × (refused s (Offline 9) ≡ Some Einval) × (list_refusal s 9 ≡ Some Einval)
 
 -- an offline node is left out of the new nodes, and of a policy's nodes
 abbrev pub OfflineNodesAreNotKept : Type 0

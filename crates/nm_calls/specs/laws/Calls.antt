@@ -14,7 +14,7 @@ use Rattle.nm_steps.specs.Calls.{Call, MapPages, Attach, Unmap, Exit, WriteBytes
 use Rattle.nm_calls.specs.definitions.Answers.{Refusal, Statuses}
 use Rattle.nm_calls.specs.definitions.Batch.{in_order, by_place}
 use Rattle.nm_calls.specs.definitions.Systems.{SystemState}
-use Rattle.nm_calls.specs.definitions.Outcome.{started, outcome, runs_of, accesses_asked, trail}
+use Rattle.nm_calls.specs.definitions.Outcome.{start, started, outcome, runs_of, accesses_asked, trail}
 use Rattle.nm_calls.specs.definitions.Mbind.{tells_late}
 use Rattle.nm_types.specs.declared.errno.Errno.TheVariants.{Eio, Ebusy}
 
@@ -69,7 +69,7 @@ writes_or_maps call = false
 -- as before the call
 abbrev pub byte_after : SystemState → Call → List Stretch → ℕ → ℕ → Option ℕ
 byte_after y call runs q at =
-    let made = runs_from 0 (started y call) runs (accesses_asked call) in
+    let made = runs_from 0 (start y call) runs (accesses_asked call) in
     runs_written y.state.areas q at (mem y.state q at) (accesses_asked call) 0 made.answers
 
 -- every other call changes no byte of any process except by writes in flight ...

@@ -1,12 +1,11 @@
 //! Calls on the system of a session, beside its steps: they have no lines, and are not counted.
 
-ghost use Rattle.std.specs.Prelude.{◌≡◌, ℕ, Bool, map};
-ghost use Rattle.nm_memory.specs.views.Accesses.{answer_shown};
-ghost use Rattle.nm_steps.specs.Calls.{MapPages, ReadBytes, WriteBytes, MovePages, MigratePages};
-ghost use Rattle.nm_steps.specs.Views.{call_of, shown_during};
-ghost use Rattle.nm_calls.specs.definitions.Answers.{Done, NewSegment, TheBytes, Statuses, Failed};
+ghost use Rattle.std.specs.Prelude.{◌≡◌, ℕ, Bool};
+ghost use Rattle.nm_steps.specs.Calls.{ReadBytes, WriteBytes};
+ghost use Rattle.nm_steps.specs.Views.{call_of, map_call, migrate_call, move_call};
+ghost use Rattle.nm_calls.specs.definitions.Answers.{Done, NewSegment, TheBytes, Failed};
 ghost use Rattle.nm_calls.specs.definitions.Does.{Does};
-ghost use Rattle.nm_calls.specs.views.Answers.{answer_of};
+ghost use Rattle.nm_calls.specs.views.Answers.{answer_of, moved_shown};
 
 use super::Session;
 use nm_calls::{
@@ -34,8 +33,7 @@ impl<A: Allocator + Copy + Send + Sync> Session<A> {
 
     /// Makes an area, as `System::map` does.
     pub fn map(&mut self, area: &NewArea) -> Result<u32, CallError>
-        ensures done { Does NewSegment result self.old.system self.new.system
-            (MapPages area.now.pid area.now.addr area.now.pages area.now.shared) }
+        ensures done { Does NewSegment result self.old.system self.new.system (map_call area.now) }
         ensures steps { self.new.steps ≡ self.old.steps }
     {
         self.system.map(area)
@@ -65,10 +63,8 @@ impl<A: Allocator + Copy + Send + Sync> Session<A> {
         crew: &C,
         request: &MoveRequest<A>,
     ) -> Result<Moved<A>, CallError>
-        ensures done { Does
-            (λ moved. Statuses moved.failed moved.statuses.items
-            (map answer_shown moved.answers.items)) result self.old.system self.new.system
-            (MovePages request.now.caller request.now.pid request.now.batch.pages.items request.now.batch.nodes.items request.now.flags (shown_during request.now.during.items)) }
+        ensures done { Does moved_shown result self.old.system self.new.system
+            (move_call request.now) }
         ensures steps { self.new.steps ≡ self.old.steps }
     {
         self.system.move_pages(crew, request)
@@ -81,7 +77,7 @@ impl<A: Allocator + Copy + Send + Sync> Session<A> {
         request: &MigrateRequest,
     ) -> Result<usize, CallError>
         ensures done { Does Failed result self.old.system self.new.system
-            (MigratePages request.now.caller request.now.pid request.now.old request.now.new) }
+            (migrate_call request.now) }
         ensures steps { self.new.steps ≡ self.old.steps }
     {
         self.system.migrate_pages(crew, request)

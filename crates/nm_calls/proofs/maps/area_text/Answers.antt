@@ -1,8 +1,8 @@
 use Rattle.std.proofs.Common.{◌++◌, ap, ◌∙◌, arith}
 use Rattle.std.specs.Prelude.{codes}
 use Rattle.nm_types.specs.Layout.{node_count}
-use Rattle.nm_calls.specs.definitions.Maps.{address_text, policy_text, pages_of}
-use Rattle.nm_calls.specs.views.Tally.{tally_text}
+use Rattle.nm_calls.specs.definitions.Maps.{address_text, policy_text}
+use Rattle.nm_calls.specs.views.Tally.{pages_of, tally_text}
 use Rattle.nm_calls.proofs.Lines.Tallies.{tally_tells}
 use Rattle.nm_calls.proofs.maps.area_text.Goals as goal
 

@@ -2,14 +2,15 @@ use Rattle.std.proofs.Common.{arith, ◌++◌, [], ◌∷◌, map, take, ap, sym
 use Rattle.std.proofs.lemmas.List.{map_more, map_push, take_all}
 use Rattle.std.proofs.lemmas.Result.{IfOk-from_err}
 use Rattle.std.specs.Prelude.{string_bytes}
-use Rattle.nm_calls.specs.definitions.Maps.{area_text, lines_shown}
+use Rattle.nm_calls.specs.definitions.Maps.{lines_shown}
+use Rattle.nm_calls.specs.views.Tally.{line_text}
 use Rattle.nm_calls.proofs.Batches.Results.{on_err}
 use Rattle.nm_calls.proofs.maps.areas_text.Goals as goal
 
 pub loop-area-preserved : goal.loop-area-preserved
 loop-area-preserved g c =
     let text = c.in_ok-area_text.field-0 in
-    let show = area_text c.args.machine.now c.args.pid in
+    let show = line_text c.args.machine.now c.args.pid in
     let so_far = take c.loop-area.area-index c.args.areas.now in
     ap lines_shown c.in_ok-push.ensures.items ∙ map_push string_bytes c.loop-area.lines.items text
     ∙ ap (λ l. l ++ string_bytes text ∷ []) c.loop-area.invariant
@@ -35,4 +36,4 @@ pub returns-in_err-push-clause-asked : goal.returns-in_err-push-clause-asked
 returns-in_err-push-clause-asked g c = on_err c.from_residual-in_err-push.result (omega (arith, c.loop-area-test.true))
 
 pub returns-clause-list : goal.returns-clause-list
-returns-clause-list g c = c.loop-area.invariant ∙ ap (map (area_text c.args.machine.now c.args.pid)) (take_all c.loop-area.area-index c.args.areas.now (omega (arith, c.loop-area-test.false)))
+returns-clause-list g c = c.loop-area.invariant ∙ ap (map (line_text c.args.machine.now c.args.pid)) (take_all c.loop-area.area-index c.args.areas.now (omega (arith, c.loop-area-test.false)))

@@ -1,4 +1,4 @@
-use Rattle.std.proofs.Common.{◌≡◌, ℕ, ◌<◌, true, false, not, List, length, map, ap, sym, subst, ◌∙◌}
+use Rattle.std.proofs.Common.{◌≡◌, ℕ, ◌<◌, true, false, not, List, length, ap, sym, subst, ◌∙◌}
 use Rattle.std.specs.Option.{option_map}
 use Rattle.std.specs.Ordering.{nat_cmp}
 use Rattle.nm_types.specs.Map.{get}
@@ -11,10 +11,10 @@ use Rattle.nm_spaces.specs.views.AddressSpaces.{AddressSpacesView}
 use Rattle.nm_steps.specs.Calls.{NumaMaps}
 use Rattle.nm_calls.specs.definitions.Answers.{Refusal, Lines}
 use Rattle.nm_calls.specs.definitions.Does.{Does}
-use Rattle.nm_calls.specs.definitions.Maps.{area_text, lines_shown}
+use Rattle.nm_calls.specs.definitions.Maps.{lines_shown}
 use Rattle.nm_calls.specs.definitions.Outcome.{outcome, refused, refused_at_once, ended}
 use Rattle.nm_calls.specs.definitions.Systems.{SystemState}
-use Rattle.nm_calls.proofs.Lines.Tallies.{lines_end}
+use Rattle.nm_calls.proofs.Lines.Tallies.{lines_end, maps_are}
 use Rattle.nm_calls.proofs.Outcomes.{answers, refuses, unlisted, out_at_once}
 use Rattle.nm_calls.proofs.system.System.numa_maps.Goals as goal
 
@@ -74,7 +74,7 @@ returns-clause-done g c =
     let info = c.info.ensures ∙ ap (λ (v : AddressSpacesView). option_map info_of (get nat_cmp v.processes c.args.pid)) c.spaces-spaces.ensures in
     let known = unlisted (get nat_cmp s.processes c.args.pid) c.info.result false info (c.is_none.ensures ∙ ap not c.if-is_none.false) in
     let lines = c.in_ok-areas.ensures.lines ∙ ap (λ (m : Mapped). lines_of m.segments m.areas c.args.pid) c.areas.ensures.areas ∙ ap (λ (y : AddressSpacesView). lines_of y.segments y.areas c.args.pid) c.spaces-spaces.ensures in
-    let text = c.in_ok-areas_text.ensures.list ∙ ap (map (area_text s c.args.pid)) (c.as_slice.ensures.value ∙ lines) in
+    let text = c.in_ok-areas_text.ensures.list ∙ maps_are s c.args.pid c.as_slice.result.now (c.as_slice.ensures.value ∙ lines) in
     subst (λ (z : SystemState). outcome z (NumaMaps c.args.pid) ≡ record { answer = Lines (lines_shown c.in_ok-areas_text.field-0.items); system = z }) c.self.view_is
     (answers y (NumaMaps c.args.pid) (record { answer = Lines (lines_shown c.in_ok-areas_text.field-0.items); system = y }) known (ap (λ (ls : List (List ℕ)). record { answer = Lines ls; system = y }) (sym text)))
 

@@ -6,6 +6,7 @@ use Rattle.nm_calls.specs.definitions.Does.{Does}
 use Rattle.nm_calls.specs.definitions.Entries.{entries_mapped, entries_shown}
 use Rattle.nm_calls.specs.definitions.Outcome.{outcome, refused, refused_at_once, ended}
 use Rattle.nm_calls.specs.definitions.Systems.{SystemState}
+use Rattle.nm_calls.proofs.PageLists.Pagemaps.{pagemap_shown}
 use Rattle.nm_calls.proofs.Outcomes.{answers, out_at_once, tells_error, machine_lacks}
 use Rattle.nm_calls.proofs.system.System.pagemap.Goals as goal
 
@@ -39,7 +40,7 @@ returns-clause-done g c =
     let y : SystemState = record { state = c.self.inside.machine; run_limit = c.self.inside.run_limit } in
     let shown = c.in_ok-mapped_of.ensures.list ∙ ap entries_shown (c.as_slice.ensures.value ∙ c.in_ok-entries.ensures.told.1) in
     subst (λ (z : SystemState). outcome z (Pagemap c.args.pid) ≡ record { answer = Entries (entries_mapped c.in_ok-mapped_of.field-0.items); system = z }) c.self.view_is
-    (answers y (Pagemap c.args.pid) _ c.in_ok-entries.ensures.told.0 (ap (λ es. record { answer = Entries es; system = y }) (sym shown)))
+    (answers y (Pagemap c.args.pid) _ c.in_ok-entries.ensures.told.0 (ap (λ es. record { answer = Entries es; system = y }) (sym (shown ∙ pagemap_shown y.state c.args.pid))))
 
 pub returns-clause-asked : goal.returns-clause-asked
 returns-clause-asked g c = λ runs policy_set is. absurd (cc)
