@@ -134,7 +134,8 @@ WritesReplies s lines left left_then old new reader failed fails =
 
 -- replies to lines end early: for lack of memory, with all replies to the lines before; or where the reader or the writer has
 -- failed
-abbrev pub EndsEarly : End → SessionState → Option (List ℕ) → Option (List ℕ) → Option (List ℕ) → Option (List ℕ) → Bool → Bool → Bool → Type 0
+abbrev pub EndsEarly : End → SessionState → Option (List ℕ) → Option (List ℕ) → Option (List ℕ) → Option (List ℕ) → Bool → Bool
+    → Bool → Type 0
 EndsEarly (BadTop fault) s left left_then old new reader failed fails = ⊥
 EndsEarly HostMemory s left left_then old new reader failed fails =
     (lines : List (List ℕ)) × ReadsBeyond left left_then lines × AllByRecursion HasByte lines

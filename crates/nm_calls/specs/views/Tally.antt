@@ -5,20 +5,20 @@ use Rattle.nm_types.specs.Nodes.{up_from}
 use Rattle.nm_calls.specs.declared.maps.Tally.{Tally}
 use Rattle.nm_types.specs.State.{State, Placed}
 use Rattle.nm_types.specs.declared.located.Located.{Located}
-use Rattle.nm_areas.specs.declared.lines.Line.{Line}
+use Rattle.nm_areas.specs.declared.lines.Area.{Area as Listed}
 use Rattle.nm_model.specs.definitions.Seen.{located_between}
 use Rattle.nm_calls.specs.definitions.Maps.{area_text, told_from}
 
 -- an area of a process, from how the areas are listed
-abbrev pub placed_of : ℕ → Line → Placed
+abbrev pub placed_of : ℕ → Listed → Placed
 placed_of pid line = ((pid, line.first), record { pages = line.pages; policy = line.policy; page = line.page })
 
 -- the pages that the process sees in it
-abbrev pub pages_of : State → ℕ → Line → List Located
+abbrev pub pages_of : State → ℕ → Listed → List Located
 pages_of s pid line = located_between s pid line.first (line.first + line.pages)
 
 -- the same as text
-abbrev pub line_text : State → ℕ → Line → List ℕ
+abbrev pub line_text : State → ℕ → Listed → List ℕ
 line_text s pid line = area_text s (placed_of pid line)
 
 -- a comma, if it is wanted

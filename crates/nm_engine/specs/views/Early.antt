@@ -31,7 +31,8 @@ module _ {A : Type 0} where
     pub len : vec_len left ≡ length accesses
 
   -- a run of these moves to a node is prepared: first its frames are taken, and then the accesses are touched
-  pub record Prepares (old : MidRun) (target : ℕ) (moves : List Taken) (accesses : List Access) (new : MidRun) (dues : Vec (Left A) A) : Type 0 where
+  pub record Prepares (old : MidRun) (target : ℕ) (moves : List Taken) (accesses : List Access) (new : MidRun)
+      (dues : Vec (Left A) A) : Type 0 where
     pub between : MidRun
     pub frames : TakesFrames old target moves between
     pub touches : TouchesEach between (map (λ t. t.page) moves) accesses new dues

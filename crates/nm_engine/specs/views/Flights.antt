@@ -137,5 +137,6 @@ module _ {A : Type 0} where
 abbrev pub AnswersSo : (A : Type 0) → Flight → PendingAccess → Flight → AccessAnswer → Type 0
 AnswersSo A x due y answer =
     (m : RunMachine) (a : Access) (jobs : List (CopyJob A)) → AreOutIn x jobs → IsMoment m x jobs →
-    in_flight (state_of m) (map (λ t. t.page) x.moves) a ≡ record { state = after_copy (state_of m) due; answer = answer_after_copy (state_of m) due } →
+    in_flight (state_of m) (map (λ t. t.page) x.moves) a
+    ≡ record { state = after_copy (state_of m) due; answer = answer_after_copy (state_of m) due } →
     IsMoment (accessed m a) y jobs × ((accessed m a).answers ≡ m.answers ++ answer ∷ [])

@@ -63,7 +63,8 @@ noted_by t y frame = noted t.pid t.vpn t.page (seen_by y t) (get page_cmp y.plac
 
 module _ {T : Type 0} where
   -- whatever has been counted, a touch has this effect on address spaces and frames
-  abbrev pub TouchesBoth : Result T MachineError → ResolvedAddress → AddressSpacesView → FramesView → AddressSpacesView → FramesView → List ℕ → Effect → Type 0
+  abbrev pub TouchesBoth : Result T MachineError → ResolvedAddress → AddressSpacesView → FramesView → AddressSpacesView → FramesView
+      → List ℕ → Effect → Type 0
   TouchesBoth result t y k z w online effect =
       (moved failed : ℕ) (p : Process) (a : Placed) → IsSiteOf y.processes y.areas t p a →
       let s = shown_by y k online moved failed in
