@@ -215,7 +215,7 @@ impl<A: Allocator + Copy + Send + Sync> Machine<A> {
             (λ flown. ran_by self.new flown ≡ run_asked self.old (asked_by requests.now accesses.now)) }
         ensures failed { IfOk result (λ flown. flown.failed ≡ failures flown.statuses.items) }
 
-        // Its own events, whose jobs the crew has done
+        // Events that lead to it, with jobs that the crew has done
         ensures events { IfOk result
             (λ flown. (jobs : Vec (CopyJob _) _) × C.has_done crew.now jobs
             × GoesByEvents self.old (asked_by requests.now accesses.now) (map pair_of jobs.items) (ran_by self.new flown)) }
