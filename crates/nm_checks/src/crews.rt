@@ -33,7 +33,7 @@ impl<'a, R: Threads + Wait> Gated<'a, R> {
 }
 
 impl<'a, R: Threads + Wait> Crew<Vec<CopyJob<Global>>> for Gated<'a, R> {
-    ghost has_done = { λ crew jobs. Unit {0} };
+    ghost has_done = { λ crew jobs X answer. Unit {0} };
 
     fn access(&self, number: usize) {
         self.gate.access(number);
@@ -62,7 +62,7 @@ impl<'a, R: Threads + Wait> Looks<Global, AddressSpaces<Global>> for Gated<'a, R
 }
 
 impl<'a, 'h, R: Threads + Wait> Crew<Vec<CopyJob<Heap<'h>>, Heap<'h>>> for Gated<'a, R> {
-    ghost has_done = { λ crew jobs. Unit {0} };
+    ghost has_done = { λ crew jobs X answer. Unit {0} };
 
     fn copy_while<T, W: FnOnce() -> T>(
         &self,

@@ -12,7 +12,7 @@ use std::alloc::{AllocError, Allocator};
 pub struct Alone;
 
 impl<J: Jobs> Crew<J> for Alone {
-    ghost has_done = { λ crew jobs. Unit {0} };
+    ghost has_done = { λ crew jobs X answer. Unit {0} };
 
     fn copy_while<T, W: FnOnce() -> T>(&self, mut jobs: J, work: W) -> (J, T) {
         let answer = work();

@@ -4,8 +4,9 @@ use crate::jobs::Jobs;
 
 /// Those who do jobs of one type: the caller, and threads if the crew has any.
 pub trait Crew<J: Jobs> {
-    /// What holds of a crew and of jobs that it has done. Whoever takes any crew learns it from `copy_while` alone.
-    ghost has_done: { Self → J → Type 0 };
+    /// What holds of a crew, of jobs that it has done, and of what `work` returned meanwhile. Whoever takes any crew
+    /// learns it from `copy_while` alone.
+    ghost has_done: { Self → J → (X : Type 0) → X → Type 0 };
 
     /// The caller has come to the access in flight with this number, counted from 0 in each run. The access is made once
     /// this returns.
@@ -17,6 +18,6 @@ pub trait Crew<J: Jobs> {
         requires jobs { J.may_be_done jobs }
         requires work { W.pre work }
         ensures jobs { J.are_done jobs result.0 }
-        ensures done { has_done self.now result.0 }
+        ensures done { has_done self.now result.0 T result.1 }
         ensures work { W.post work result.1 };
 }

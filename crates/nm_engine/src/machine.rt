@@ -1,6 +1,6 @@
 //! The machine.
 
-ghost use Rattle.std.specs.Prelude.{◌≡◌, ◌<◌, ◌≤◌, ◌+◌, ◌/◌, map, length, Some, Err, true, IfOk, OnErr};
+ghost use Rattle.std.specs.Prelude.{◌≡◌, ◌<◌, ◌≤◌, ◌+◌, ◌/◌, length, Some, Err, true, IfOk, OnErr};
 ghost use Rattle.std.specs.Result.{result_err};
 ghost use Rattle.nm_types.specs.declared.page.Page.{Page};
 ghost use Rattle.nm_types.specs.declared.sight.Sight.TheVariants.{Sees};
@@ -11,7 +11,9 @@ ghost use Rattle.nm_model.specs.definitions.Touch.{Bytes, Done, read, write, sit
 ghost use Rattle.nm_model.specs.definitions.Run.{total_after, with_counts, failures, HasOneAll};
 ghost use Rattle.std.specs.declared.vec.Vec.{Vec};
 ghost use Rattle.nm_frames.specs.declared.job.CopyJob.{CopyJob};
-ghost use Rattle.nm_engine.specs.views.Runs.{asked_by, pair_of, ran_by};
+ghost use Rattle.nm_memory.specs.declared.answers.AccessAnswer.{AccessAnswer as Given};
+ghost use Rattle.nm_engine.specs.views.Flights.{Flight};
+ghost use Rattle.nm_engine.specs.views.Runs.{asked_by, ran_by};
 ghost use Rattle.nm_model.specs.definitions.Effect.{new_machine};
 ghost use Rattle.nm_model.specs.definitions.Seen.{sight_at};
 ghost use Rattle.nm_model.specs.definitions.Sound.{IsSound};
@@ -215,10 +217,11 @@ impl<A: Allocator + Copy + Send + Sync> Machine<A> {
             (λ flown. ran_by self.new flown ≡ run_asked self.old (asked_by requests.now accesses.now)) }
         ensures failed { IfOk result (λ flown. flown.failed ≡ failures flown.statuses.items) }
 
-        // Events that lead to it, with jobs that the crew has done
+        // Events that lead to it: jobs that the crew has done, while these answers were given and entries were held
         ensures events { IfOk result
-            (λ flown. (jobs : Vec (CopyJob _) _) × C.has_done crew.now jobs
-            × GoesByEvents self.old (asked_by requests.now accesses.now) (map pair_of jobs.items) (ran_by self.new flown)) }
+            (λ flown. (x : Flight) × (jobs : Vec (CopyJob _) _)
+            × C.has_done crew.now jobs (Flight × Vec (Given _) _) (x, flown.answers)
+            × GoesByEvents self.old (asked_by requests.now accesses.now) x jobs.items (ran_by self.new flown)) }
 
         // Whatever order the events of such a run take
         ensures orders { IfOk result

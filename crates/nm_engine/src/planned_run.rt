@@ -1,6 +1,6 @@
 //! Runs that are planned, made on a machine.
 
-ghost use Rattle.std.specs.Prelude.{◌≡◌, ◌<◌, ◌≤◌, ◌+◌, [], map, length, vec_capacity, IfOk, OnErr};
+ghost use Rattle.std.specs.Prelude.{◌≡◌, ◌<◌, ◌≤◌, ◌+◌, [], length, vec_capacity, IfOk, OnErr};
 ghost use denote.Param.Send.{Frees, IsSend, IsSync};
 ghost use Rattle.nm_types.specs.Layout.{node_count};
 ghost use Rattle.nm_laws.specs.Moves.{IsPlanOf};
@@ -8,7 +8,9 @@ ghost use Rattle.std.specs.declared.vec.Vec.{Vec};
 ghost use Rattle.nm_frames.specs.declared.job.CopyJob.{CopyJob as Job};
 ghost use Rattle.nm_model.specs.definitions.Run.{failures, HasOneAll};
 ghost use Rattle.nm_engine.specs.definitions.Orders.{GoesByEvents, run_asked};
-ghost use Rattle.nm_engine.specs.views.Runs.{asked_by, pair_of, ran_by};
+ghost use Rattle.nm_memory.specs.declared.answers.AccessAnswer.{AccessAnswer as Given};
+ghost use Rattle.nm_engine.specs.views.Flights.{Flight};
+ghost use Rattle.nm_engine.specs.views.Runs.{asked_by, ran_by};
 
 use crate::answers::RunAnswer;
 use crate::machine::Machine;
@@ -52,8 +54,9 @@ where
         ≡ run_asked machine (asked_by planned.entry.requests.now planned.entry.accesses.now)) }
     ensures failed { IfOk result.1 (λ flown. flown.failed ≡ failures flown.statuses.items) }
     ensures events { IfOk result.1
-        (λ flown. (jobs : Vec (Job _) _) × C.has_done planned.entry.crew.now jobs
-        × GoesByEvents machine (asked_by planned.entry.requests.now planned.entry.accesses.now) (map pair_of jobs.items)
+        (λ flown. (x : Flight) × (jobs : Vec (Job _) _)
+        × C.has_done planned.entry.crew.now jobs (Flight × Vec (Given _) _) (x, flown.answers)
+        × GoesByEvents machine (asked_by planned.entry.requests.now planned.entry.accesses.now) x jobs.items
         (ran_by result.0 flown)) }
 
     // Without memory

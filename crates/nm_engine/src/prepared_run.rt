@@ -1,17 +1,12 @@
 //! Runs that are prepared, and how they begin.
 
-ghost use Rattle.std.specs.Prelude.{◌≡◌, ◌≤◌, [], ℕ, Some, map, length, slice_get, option_map};
+ghost use Rattle.std.specs.Prelude.{◌≡◌, ◌≤◌, [], ℕ, Some, map, length, slice_get};
 ghost use Rattle.nm_frames.specs.declared.job.CopyJob.{CopyJob as Job};
 ghost use Rattle.nm_laws.specs.Laws.{with_moves};
 ghost use Rattle.nm_model.specs.definitions.BeforeCopy.{PendingAccess as Pending, with_fronts, frames_taken, IsPending};
-ghost use Rattle.nm_model.specs.definitions.Events.{held_by, laid_for};
-ghost use Rattle.nm_model.specs.definitions.Frames.{Store};
-ghost use Rattle.nm_model.specs.definitions.PageTables.{entry_at};
 ghost use Rattle.nm_spaces.specs.definitions.Moves.{all_moved};
-ghost use Rattle.nm_spaces.specs.views.Held.{entry_here};
 ghost use Rattle.nm_memory.specs.definitions.AfterCopy.{CanDo};
-ghost use Rattle.nm_engine.specs.views.Flights.{AreOutIn, BeginsSo, IsReadyFor, state_meanwhile};
-ghost use Rattle.nm_engine.specs.views.Runs.{pair_of};
+ghost use Rattle.nm_engine.specs.views.Flights.{AreOutIn, BeginsSo, HoldsMovingPages, IsReadyFor, pair_of, state_meanwhile};
 ghost use Rattle.nm_engine.specs.views.Spaces.{spaces_of};
 
 mod prepare;
@@ -92,10 +87,7 @@ impl<A: Allocator + Copy + Send + Sync> PreparedRun<A> {
         requires few { length moves.now ≤ self.room }
 
         // The run
-        ensures entries { (store : Store) (pid v : ℕ) →
-            entry_at result.0.tables pid v
-            ≡ option_map (held_by (map (laid_for store) moves.now))
-            (entry_here (spaces_of self.state) pid v) }
+        ensures entries { HoldsMovingPages result.0 }
         ensures spaces { result.0.spaces ≡ all_moved (spaces_of self.state) moves.now }
         ensures moves { result.0.moves ≡ moves.now }
         ensures state { (target : ℕ) →

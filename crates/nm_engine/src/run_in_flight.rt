@@ -8,7 +8,9 @@ ghost use Rattle.nm_model.specs.definitions.BeforeCopy.{all_after_copy};
 ghost use Rattle.nm_model.specs.definitions.Run.{failures, frames_left, with_all_free, with_counts};
 ghost use Rattle.nm_memory.specs.definitions.AfterCopy.{CanDo, all_stored_after_copy, answer_from_store, frame_at, store_after_copy};
 ghost use Rattle.nm_memory.specs.views.Accesses.{answer_shown, pending_shown, HasRoom};
-ghost use Rattle.nm_engine.specs.views.Flights.{AnswersEach, AnswersSo, AreOutIn, CanAnswer, EndsAs, FliesSo, state_meanwhile, with_store};
+ghost use Rattle.std.specs.declared.vec.Vec.{Vec};
+ghost use Rattle.nm_memory.specs.declared.answers.AccessAnswer.{AccessAnswer as Given};
+ghost use Rattle.nm_engine.specs.views.Flights.{Flight, AnswersEach, AnswersSo, AreOutIn, CanAnswer, EndsAs, FliesSo, state_meanwhile, with_store};
 
 use crate::machine::{Machine, Totals};
 use crate::run_crew::RunCrew;
@@ -131,7 +133,7 @@ impl<'m, A: Allocator + Copy + Send + Sync> RunInFlight<'m, A> {
             (all_stored_after_copy self.entry.spaces.place self.entry.frames.frames
             (map pending_shown dues.entry.items)).store }
         ensures jobs { result.1.items ≡ map copied jobs.items }
-        ensures done { C.has_done crew.now result.1 }
+        ensures done { C.has_done crew.now result.1 (Flight × Vec (Given _) _) (result.0, result.2) }
         ensures out { AreOutIn result.0 result.1.items }
         ensures state { state_meanwhile result.0 result.1.items
             ≡ (all_after_copy (state_meanwhile self.entry jobs.items) (map pending_shown dues.entry.items)).state }

@@ -11,6 +11,7 @@ pub mod Held
 pub mod Jobs
 pub mod Meeting
 pub mod Midway
+pub mod Moving
 pub mod Orders
 pub mod Progress
 pub mod Reading

@@ -45,7 +45,7 @@ impl<'a, R: Threads + Wait> Hired<'a, R> {
 }
 
 impl<'a, R: Threads + Wait> Crew<Vec<CopyJob<Global>>> for Hired<'a, R> {
-    ghost has_done = { λ crew jobs. Unit {0} };
+    ghost has_done = { λ crew jobs X answer. Unit {0} };
 
     fn copy_while<T, W: FnOnce() -> T>(
         &self,
@@ -73,7 +73,7 @@ impl<'a, R: Threads + Wait> Looks<Global, AddressSpaces<Global>> for Hired<'a, R
 type Heap<'h> = &'h Refusing<Global>;
 
 impl<'a, 'h, R: Threads + Wait> Crew<Vec<CopyJob<Heap<'h>>, Heap<'h>>> for Hired<'a, R> {
-    ghost has_done = { λ crew jobs. Unit {0} };
+    ghost has_done = { λ crew jobs X answer. Unit {0} };
 
     fn copy_while<T, W: FnOnce() -> T>(
         &self,

@@ -34,7 +34,7 @@ use Rattle.nm_memory.specs.definitions.AfterCopy.{CanDo, all_stored_after_copy, 
 use Rattle.nm_engine.specs.views.Flights.{Flight, AreOutIn, IsMoment, state_meanwhile, with_store}
 use Rattle.nm_engine.proofs.InFlight.Flights.{answers_then, state_then}
 
-abbrev pages_of : List Taken → List Page
+abbrev pub pages_of : List Taken → List Page
 pages_of moves = map (λ t. t.page) moves
 
 -- the frames that pages leave are the first ends of their jobs

@@ -1,37 +1,93 @@
--- A run by its definition is one by events of the run machine.
-use Rattle.std.proofs.Common.{◌≡◌, ℕ, List, map, sym, subst, ap, ◌∙◌}
+-- The engine's run goes by events of the run machine.
+use Rattle.std.proofs.Common.{◌≡◌, ℕ, List, [], ◌∷◌, true, cond, map, refl, sym, subst, ap, ◌∙◌}
+use Rattle.std.specs.Prelude.{Bool, false, Option, Some, None, ◌&&◌}
+use Rattle.std.specs.Option.{option_map}
+use Rattle.std.specs.Ordering.{nat_cmp}
+use Rattle.nm_types.specs.Map.{get}
 use Rattle.nm_types.specs.State.{State}
 use Rattle.nm_types.specs.declared.taken.Taken.{Taken}
+use Rattle.nm_frames.specs.declared.job.CopyJob.{CopyJob}
 use Rattle.nm_model.specs.definitions.Decide.{Planned}
+use Rattle.nm_model.specs.definitions.Events.{after, begun, is_moving, is_ready}
 use Rattle.nm_model.specs.definitions.Run.{HasOneAll, Ran, each_request, run}
+use Rattle.nm_model.specs.definitions.RunMachine.{RunMachine, state_of}
+use Rattle.nm_model.specs.definitions.Seen.{sight_at, sight_in}
 use Rattle.nm_model.specs.definitions.Sound.{IsSound}
+use Rattle.nm_model.specs.definitions.Touch.{all_in_flight}
 use Rattle.nm_laws.specs.Interleavings.{IsRun}
+use Rattle.nm_laws.specs.Laws.{with_moves}
+use Rattle.nm_laws.specs.Midway.{IsMidway, entry_meanwhile}
 use Rattle.nm_laws.specs.Moves.{IsPlanOf}
 use Rattle.nm_laws.proofs.InFlight.Beginning.{begun_is}
-use Rattle.nm_laws.proofs.InFlight.Orders.{every_order_is_the_run}
+use Rattle.nm_laws.proofs.InFlight.Entries.{entry_is}
+use Rattle.nm_laws.proofs.InFlight.Orders.{before_end, every_order_is_the_run, flies}
 use Rattle.nm_laws.proofs.InFlight.Progress.{every_run_can_end}
 use Rattle.nm_laws.proofs.InFlight.Reading.{every_sound_state_is_read}
 use Rattle.nm_engine.specs.definitions.Orders.{GoesByEvents, RunAsked, run_asked}
+use Rattle.nm_engine.specs.views.Flights.{EndsAs, Flight, HoldsMovingPages, IsMoment, pair_of, state_meanwhile}
+use Rattle.nm_engine.proofs.InFlight.Moments.{pages_of}
 use Rattle.nm_engine.proofs.Runs.OneByOne.{one_all}
 
--- a machine at rest in the state before begins the run, whose jobs are the moves of its plan, and can end it
-pub goes_by_events : (s : State) (asked : RunAsked) (p : Planned) (moves : List Taken) (pairs : List (ℕ × ℕ)) (ran : Ran) → IsSound s → HasOneAll asked.wanted → IsPlanOf s asked.target asked.wanted p → moves ≡ p.taken
-    → pairs ≡ map (λ t. (t.from, t.to)) moves → ran ≡ run_asked s asked → GoesByEvents s asked pairs ran
-goes_by_events s asked p moves pairs ran sound alike plan taken jobs made =
-    let read = every_sound_state_is_read s sound in
-    let all = one_all asked.wanted alike in
-    let here : IsSound _ = subst IsSound (sym read.2) sound in
-    let end = every_run_can_end read.0 asked.target asked.wanted all.0 asked.accesses read.1 here all.1 in
-    let first = begun_is read.0 asked.target asked.wanted all.0 read.1 here all.1 in
-    let pair : List Taken → List (ℕ × ℕ) = map (λ t. (t.from, t.to)) in
-    record {
-      first = read.0;
-      events = end.0;
-      last = end.1;
-      start = read.2;
-      unfolds = end.2;
-      accesses = end.4;
-      jobs = first.ends ∙ ap (λ (x : State). pair (each_request x asked.target asked.wanted).taken) read.2 ∙ ap pair (plan.agrees.taken ∙ sym taken) ∙ sym jobs;
-      over = end.3;
-      ends = subst (IsRun end.1) ((λ i. run (read.2 i) asked.target asked.wanted (end.4 i)) ∙ sym made) (every_order_is_the_run read.0 asked.target asked.wanted end.0 end.1 end.2 end.3);
-    }
+-- what comes after an event that is allowed
+goes_on : (b : Bool) (o : Option RunMachine) (n : RunMachine) → cond b o None ≡ Some n → o ≡ Some n
+goes_on true o n h = h
+goes_on false o n h = cc
+
+module _ {A : Type 0} where
+  -- a machine at rest in the state before begins the run of the plan, comes to where the engine's run is while its jobs are
+  -- done, and ends as that does
+  pub goes_by_events : (s : State) (asked : RunAsked) (p : Planned) (moves : List Taken) (x : Flight) (jobs : List (CopyJob A)) (ran : Ran)
+      → IsSound s → HasOneAll asked.wanted → IsPlanOf s asked.target asked.wanted p → moves ≡ p.taken → x.moves ≡ moves → HoldsMovingPages x
+      → state_meanwhile x jobs ≡ (all_in_flight (with_moves s asked.target moves) (pages_of moves) asked.accesses).state
+      → map pair_of jobs ≡ map (λ t. (t.from, t.to)) moves → EndsAs x jobs ran.statuses ran.state → ran ≡ run_asked s asked → GoesByEvents s asked x jobs ran
+  goes_by_events s asked p moves x jobs ran sound alike plan taken same held shows pairs finish made =
+      let t = asked.target in
+      let ws = asked.wanted in
+      let read = every_sound_state_is_read s sound in
+      let m = read.0 in
+      let all = one_all ws alike in
+      let here : IsSound (state_of m) = subst IsSound (sym read.2) sound in
+      let end = every_run_can_end m t ws all.0 asked.accesses read.1 here all.1 in
+      let first = begun_is m t ws all.0 read.1 here all.1 in
+      let k = begun m t ws in
+      let leads = goes_on (is_ready m.phase) (after k end.0) end.1 end.2.leads in
+      let moved = pages_of (each_request (state_of m) t ws).taken in
+      let last = before_end end.0 k end.1 moved first.midway leads end.3 in
+      let flown = flies last.till k last.now moved first.midway last.leads last.moving in
+      let taken_is : (each_request (state_of m) t ws).taken ≡ moves = ap (λ (z : State). (each_request z t ws).taken) read.2 ∙ plan.agrees.taken ∙ sym taken in
+      let begins : state_of k ≡ with_moves s t moves = first.state ∙ ap (λ (z : State). (each_request z t ws).state) read.2 ∙ plan.agrees.state ∙ ap (with_moves s t) (sym taken) in
+      let accesses = last.accesses ∙ end.4 in
+      let midway : IsMidway last.now (pages_of moves) = subst (λ (ts : List Taken). IsMidway last.now (pages_of ts)) taken_is flown.midway in
+      let state : state_of last.now ≡ state_meanwhile x jobs = flown.state ∙ (λ i. (all_in_flight (begins i) (pages_of (taken_is i)) (accesses i)).state) ∙ sym shows in
+      let pair : List Taken → List (ℕ × ℕ) = map (λ t. (t.from, t.to)) in
+      let ends = flown.ends ∙ first.ends ∙ ap pair taken_is in
+      let moment : IsMoment last.now x jobs = record {
+        midway = subst (λ (ts : List Taken). IsMidway last.now (pages_of ts)) (sym same) midway;
+        state = state;
+        entries = λ pid v.
+            entry_is last.now (pages_of moves) midway pid v
+            ∙ ap (λ (z : State). option_map (entry_meanwhile z.place (pages_of moves)) (sight_at z pid v)) state
+            ∙ ap (λ (ts : List Taken). option_map (entry_meanwhile x.spaces.place (pages_of ts)) (sight_in (get nat_cmp x.spaces.processes pid) v)) (sym same)
+            ∙ sym (held pid v);
+        ends = ends ∙ ap pair (sym same);
+      } in
+      let law : IsRun end.1 ran = subst (IsRun end.1) ((λ i. run (read.2 i) t ws (end.4 i)) ∙ sym made) (every_order_is_the_run m t ws end.0 end.1 end.2 end.3) in
+      let over = subst (λ (n : RunMachine). IsRun n ran) (sym last.over) law in
+      record {
+        first = m;
+        events = last.till;
+        now = last.now;
+        start = read.2;
+        unfolds = record {
+          rest = end.2.rest;
+          sound = end.2.sound;
+          all = end.2.all;
+          alike = end.2.alike;
+          leads = ap (λ b. cond b (after k last.till) None) (ap is_ready read.1.ready) ∙ last.leads;
+        };
+        accesses = accesses;
+        moment = moment;
+        pairs = ends ∙ sym pairs;
+        over = λ i. is_moving (last.moving i) && last.given i;
+        ends = record { state = finish last.now moment last.given over.statuses; statuses = over.statuses; answers = over.answers; settled = over.settled };
+      }

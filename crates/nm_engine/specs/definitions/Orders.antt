@@ -1,13 +1,15 @@
 -- What a run of the engine says of the events of the run machine.
-use Rattle.std.specs.Prelude.{◌≡◌, ℕ, List, map}
+use Rattle.std.specs.Prelude.{◌≡◌, ℕ, List, map, true}
 use Rattle.nm_types.specs.State.{State}
 use Rattle.nm_types.specs.declared.request.Wanted.{Wanted}
-use Rattle.nm_model.specs.definitions.Events.{Event, accesses_in, begun}
+use Rattle.nm_frames.specs.declared.job.CopyJob.{CopyJob}
+use Rattle.nm_model.specs.definitions.Events.{Event, End, accesses_in, effect, is_allowed}
 use Rattle.nm_model.specs.definitions.Run.{Ran, run}
 use Rattle.nm_model.specs.definitions.RunMachine.{RunMachine, Ended, state_of}
 use Rattle.nm_model.specs.definitions.Touch.{Access}
 use Rattle.nm_laws.specs.Interleavings.{Unfolds, IsRun}
 use Rattle.nm_laws.specs.Midway.{ends_of}
+use Rattle.nm_engine.specs.views.Flights.{Flight, IsMoment, pair_of}
 
 -- what a run is asked for: the node that pages go to, the requests, and the accesses made meanwhile
 pub record RunAsked : Type 0 where
@@ -26,15 +28,18 @@ EndsSo s asked ran =
     (m : RunMachine) (events : List Event) (n : RunMachine) →
     state_of m ≡ s → Unfolds m asked.target asked.wanted events n → accesses_in events ≡ asked.accesses → n.phase ≡ Ended → IsRun n ran
 
--- events that the run machine allows, from the beginning of such a run at rest in this state to its end, with these
--- accesses: they lay a job from frame to frame for each of these pairs, and the run ends so
-pub record GoesByEvents (s : State) (asked : RunAsked) (pairs : List (ℕ × ℕ)) (ran : Ran) : Type 0 where
-  pub first : RunMachine
-  pub events : List Event
-  pub last : RunMachine
-  pub start : state_of first ≡ s
-  pub unfolds : Unfolds first asked.target asked.wanted events last
-  pub accesses : accesses_in events ≡ asked.accesses
-  pub jobs : map ends_of (begun first asked.target asked.wanted).jobs ≡ pairs
-  pub over : last.phase ≡ Ended
-  pub ends : IsRun last ran
+module _ {A : Type 0} where
+  -- events that the run machine allows, from the beginning of such a run at rest in this state, with these accesses; then
+  -- its end is allowed, and the run ends so. Before its end the machine has the entries and the bytes of this run of the
+  -- engine, and jobs between the same frames as these
+  pub record GoesByEvents (s : State) (asked : RunAsked) (x : Flight) (jobs : List (CopyJob A)) (ran : Ran) : Type 0 where
+    pub first : RunMachine
+    pub events : List Event
+    pub now : RunMachine
+    pub start : state_of first ≡ s
+    pub unfolds : Unfolds first asked.target asked.wanted events now
+    pub accesses : accesses_in events ≡ asked.accesses
+    pub moment : IsMoment now x jobs
+    pub pairs : map ends_of now.jobs ≡ map pair_of jobs
+    pub over : is_allowed now End ≡ true
+    pub ends : IsRun (effect now End) ran

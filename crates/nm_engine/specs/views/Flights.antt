@@ -2,7 +2,9 @@
 use Rattle.std.specs.Prelude.{◌≡◌, ℕ, ◌<◌, ◌≤◌, ◌++◌, ℤ, Bool, true, List, [], ◌∷◌, Some, map, vec_len, vec_capacity}
 use Rattle.std.specs.List.{AllByRecursion, list_all}
 use Rattle.std.specs.declared.vec.Vec.{Vec}
-use Rattle.nm_types.specs.Map.{Map}
+use Rattle.std.specs.Option.{option_map}
+use Rattle.std.specs.Ordering.{nat_cmp}
+use Rattle.nm_types.specs.Map.{Map, get}
 use Rattle.nm_types.specs.declared.entry.Entry.TheVariants.{Held}
 use Rattle.nm_types.specs.declared.request.Wanted.{Wanted}
 use Rattle.nm_types.specs.declared.taken.Taken.{Taken}
@@ -19,11 +21,12 @@ use Rattle.nm_model.specs.definitions.Frames.{Store}
 use Rattle.nm_model.specs.definitions.PageTables.{Task, entry_at}
 use Rattle.nm_model.specs.definitions.Run.{frames_left}
 use Rattle.nm_model.specs.definitions.RunMachine.{RunMachine, Moving, state_of}
+use Rattle.nm_model.specs.definitions.Seen.{sight_in}
 use Rattle.nm_model.specs.definitions.Sound.{IsSound}
 use Rattle.nm_model.specs.definitions.Touch.{Access, AccessAnswer, all_in_flight, in_flight}
 use Rattle.nm_laws.specs.Interleavings.{IsAtRest}
 use Rattle.nm_laws.specs.Laws.{moves_all}
-use Rattle.nm_laws.specs.Midway.{IsMidway, ends_of}
+use Rattle.nm_laws.specs.Midway.{IsMidway, ends_of, entry_meanwhile}
 use Rattle.nm_laws.specs.Moves.{CanMove, IsPlanOf}
 use Rattle.nm_memory.specs.declared.answers.AccessAnswer.{AccessAnswer as Given}
 use Rattle.nm_memory.specs.declared.pending_access.PendingAccess.{PendingAccess as Left}
@@ -74,7 +77,18 @@ pub record IsUnderWay (x : Flight) : Type 0 where
   pub below : AllByRecursion (λ t. t.to < x.spaces.frames) x.moves
   pub left : x.frames.vacated ≡ frames_left x.moves
 
+-- each entry is that for what its process sees: held, if the page is on its way, whoever maps it
+abbrev pub HoldsMovingPages : Flight → Type 0
+HoldsMovingPages x =
+    (pid v : ℕ) →
+    entry_at x.tables pid v
+    ≡ option_map (entry_meanwhile x.spaces.place (map (λ t. t.page) x.moves)) (sight_in (get nat_cmp x.spaces.processes pid) v)
+
 module _ {A : Type 0} where
+  -- the frame that a job copies, and the one that it copies to
+  abbrev pub pair_of : CopyJob A → ℕ × ℕ
+  pair_of job = (job.source.0, job.target.0)
+
   -- the frames once the bytes in these jobs are copied and home again
   abbrev pub frames_then : Flight → List (CopyJob A) → FramesView
   frames_then x jobs = let k = x.frames in record k { frames = refilled k.frames (map copied jobs) }

@@ -1,9 +1,8 @@
 -- What a run is asked for and gives, as contracts see the values of the code.
-use Rattle.std.specs.Prelude.{◌≡◌, ℕ, List, [], ◌∷◌, map}
+use Rattle.std.specs.Prelude.{List, [], ◌∷◌, map}
 use Rattle.std.specs.Borrow.{Bor}
 use Rattle.nm_types.specs.State.{State}
 use Rattle.nm_types.specs.declared.access.Access.{Access as Asked}
-use Rattle.nm_frames.specs.declared.job.CopyJob.{CopyJob}
 use Rattle.nm_runs.specs.declared.Run.{Run}
 use Rattle.nm_model.specs.definitions.Run.{Ran}
 use Rattle.nm_model.specs.definitions.Touch.{Access}
@@ -24,7 +23,3 @@ module _ {A : Type 0} where
   -- a run that was made: the state after it, and its answer
   abbrev pub ran_by : State → RunAnswer A → Ran
   ran_by after flown = record { state = after; statuses = flown.statuses.items; answers = map answer_shown flown.answers.items ∷ [] }
-
-  -- the frame that a job copies, and the one that it copies to
-  abbrev pub pair_of : CopyJob A → ℕ × ℕ
-  pair_of job = (job.source.0, job.target.0)

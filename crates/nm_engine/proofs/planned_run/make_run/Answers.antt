@@ -16,11 +16,11 @@ use Rattle.nm_model.specs.definitions.BeforeCopy.{PendingAccess, all_after_copy,
 use Rattle.nm_model.specs.definitions.Decide.{Planned}
 use Rattle.nm_model.specs.definitions.Run.{failures, frames_left, run, with_all_free, with_counts}
 use Rattle.nm_model.specs.definitions.Sound.{IsSound}
-use Rattle.nm_model.specs.definitions.Touch.{Access, AllAnswered}
+use Rattle.nm_model.specs.definitions.Touch.{Access, AllAnswered, all_in_flight}
 use Rattle.nm_memory.specs.views.Accesses.{answer_shown, pending_shown}
-use Rattle.nm_engine.specs.views.Flights.{Flight, IsReadyFor, state_meanwhile}
+use Rattle.nm_engine.specs.views.Flights.{EndsAs, Flight, HoldsMovingPages, IsReadyFor, pair_of, state_meanwhile}
 use Rattle.nm_engine.specs.views.MidRun.{MidRun}
-use Rattle.nm_engine.specs.views.Runs.{accesses_shown, asked_by, pair_of}
+use Rattle.nm_engine.specs.views.Runs.{accesses_shown, asked_by}
 use Rattle.nm_engine.proofs.Early.{early_state, early_dues, early_left, early_room}
 use Rattle.nm_engine.proofs.Runs.ByEvents.{goes_by_events}
 use Rattle.nm_engine.proofs.InFlight.Flights.{copied_twice}
@@ -111,6 +111,13 @@ finish-machine-requires-clause-done g c κs within =
 pub returns-in-Ok-clause-failed : goal.returns-in-Ok-clause-failed
 returns-in-Ok-clause-failed g c = c.finish-machine.ensures.failed ∙ ap failures (c.statuses.ensures ∙ sym c.into_statuses.ensures)
 
+-- what is left to do for accesses is done where the pages have moved
+done_then : (r : State) (t : ℕ) (moves : List Taken) (accesses : List Access) (begun prepared : State) (dues : List PendingAccess) → begun ≡ with_moves (with_fronts prepared t (frames_taken moves)) t moves
+    → prepared ≡ (touched_all r t moves accesses).state → dues ≡ (touched_all r t moves accesses).dues
+    → all_after_copy begun dues ≡ all_after_copy (with_moves (given_back r t moves accesses) t moves) (touched_all r t moves accesses).dues
+done_then r t moves accesses begun prepared dues begins touched told =
+    ap (λ (x : State). all_after_copy x dues) begins ∙ (λ i. all_after_copy (with_moves (with_fronts (touched i) t (frames_taken moves)) t moves) (told i))
+
 pub returns-in-Ok-clause-run : goal.returns-in-Ok-clause-run
 returns-in-Ok-clause-run g c =
     let r = c.of-run.result.state in
@@ -129,9 +136,7 @@ returns-in-Ok-clause-run g c =
     let now = state_meanwhile flown c.copy_beside-run.result.1.items in
     let during = all_after_copy (with_moves (given_back r t moves accesses) t moves) early.dues in
     let begun = c.begin-run.ensures.state t (ready_for c.prepare.new.self r c.args.machine t moves accesses at c.requires.target left touched ready.1.back ready.1.can) in
-    let made : all_after_copy (state_meanwhile c.begin-run.result.0 c.begin-run.result.1.items) dues ≡ during =
-    ap (λ (x : State). all_after_copy x dues) begun
-    ∙ (λ i. all_after_copy (with_moves (with_fronts (touched i) t (frames_taken moves)) t moves) (told i)) in
+    let made = done_then r t moves accesses (state_meanwhile c.begin-run.result.0 c.begin-run.result.1.items) c.prepare.new.self.state dues begun touched told in
     let state =
     c.finish-machine.ensures.state
     ∙ ap (λ n. with_counts (with_all_free now (frames_left flown.moves)) n (failures c.statuses.result.now)) (sym (length-map flown.moves (λ (t : Taken). t.from)))
@@ -148,12 +153,29 @@ returns-in-Ok-clause-run g c =
 
 pub returns-in-Ok-clause-events : goal.returns-in-Ok-clause-events
 returns-in-Ok-clause-events g c =
+    let r = c.of-run.result.state in
+    let t = c.args.planned.requests.now.target in
+    let ws = c.args.planned.requests.now.wanted.items in
     let moves : List Taken = c.moves-moves.result.now in
-    let sound = subst IsSound c.of-run.ensures.state c.in-Ok.ensures.sound in
-    let pairs : map pair_of c.copy_beside-run.result.1.items ≡ _ = ap (map pair_of) c.copy_beside-run.ensures.jobs ∙ still_pairs c.begin-run.result.1.items ∙ c.begin-run.ensures.pairs in (
+    let accesses : List Access = accesses_shown {A = g.row.A.Denot} c.args.planned.accesses.now in
+    let at = c.of-run.ensures.state in
+    let ready = planned_phases r t moves accesses c.args.machine ws c.args.planned.plan at c.requires.plan c.moves-moves.ensures c.in-Ok.ensures.sound c.requires.target in
+    let touched = early_state c.of-run.result t moves accesses c.prepare.new.self c.in-Ok.dues c.in-Ok.ensures.prepared in
+    let told = early_dues c.of-run.result t moves accesses c.prepare.new.self c.in-Ok.dues c.in-Ok.ensures.prepared in
+    let left = early_left c.of-run.result t moves accesses c.prepare.new.self c.in-Ok.dues c.in-Ok.ensures.prepared in
+    let begun = c.begin-run.ensures.state t (ready_for c.prepare.new.self r c.args.machine t moves accesses at c.requires.target left touched ready.1.back ready.1.can) in
+    let made = done_then r t moves accesses (state_meanwhile c.begin-run.result.0 c.begin-run.result.1.items) c.prepare.new.self.state (map pending_shown c.in-Ok.dues.items) begun touched told in
+    let x = c.copy_beside-run.result.0 in
+    let jobs = c.copy_beside-run.result.1.items in
+    let run = c.copy_beside-run.ensures.run in
+    let pairs : map pair_of jobs ≡ _ = ap (map pair_of) c.copy_beside-run.ensures.jobs ∙ still_pairs c.begin-run.result.1.items ∙ c.begin-run.ensures.pairs in
+    let shows = c.copy_beside-run.ensures.state ∙ ap (λ (d : AllAnswered). d.state) (made ∙ sym ready.1.flight) ∙ ap (λ (s : State). (all_in_flight (with_moves s t moves) (pages_of moves) accesses).state) at in
+    let ended = subst (λ zs. EndsAs x jobs zs c.finish-machine.result.0) (c.statuses.ensures ∙ sym c.into_statuses.ensures) c.finish-machine.ensures.event in (
+      x,
       c.copy_beside-run.result.1,
       c.copy_beside-run.ensures.done,
-      goes_by_events c.args.machine (asked_by c.args.planned.requests.now c.args.planned.accesses.now) c.args.planned.plan moves _ _ sound c.requires.alike c.requires.plan c.moves-moves.ensures pairs (returns-in-Ok-clause-run g c),
+      goes_by_events c.args.machine (asked_by c.args.planned.requests.now c.args.planned.accesses.now) c.args.planned.plan moves x jobs _ (subst IsSound at c.in-Ok.ensures.sound) c.requires.alike c.requires.plan c.moves-moves.ensures
+          (ap (λ (y : Flight). y.moves) run ∙ c.begin-run.ensures.moves) (subst HoldsMovingPages (sym run) c.begin-run.ensures.entries) shows pairs ended (returns-in-Ok-clause-run g c),
     )
 
 -- memory that is asked for moves, or for accesses, is asked for none where nothing is requested

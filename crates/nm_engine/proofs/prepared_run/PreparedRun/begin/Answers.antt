@@ -1,5 +1,5 @@
 use Rattle.std.proofs.Common.{◌≡◌, ℕ, ◌+◌, ◌<◌, List, [], ◌∷◌, map, refl, sym, ap, subst, ◌∙◌, arith}
-use Rattle.std.specs.Prelude.{option_map, slice_get}
+use Rattle.std.specs.Prelude.{Option, Some, None, option_map, slice_get}
 use Rattle.std.specs.List.{AllByRecursion}
 use Rattle.std.specs.Ordering.{nat_cmp}
 use Rattle.nm_types.specs.Map.{get}
@@ -7,9 +7,14 @@ use Rattle.nm_types.specs.State.{State}
 use Rattle.nm_frames.specs.Job.{copied}
 use Rattle.nm_frames.specs.Populated.{IsPopulated}
 use Rattle.nm_laws.specs.Laws.{with_moves}
+use Rattle.nm_laws.specs.Midway.{entry_meanwhile}
+use Rattle.nm_laws.specs.Moves.{CanMove}
+use Rattle.nm_laws.proofs.InFlight.Moving.{entry_moving, moves_decided}
 use Rattle.nm_model.specs.definitions.BeforeCopy.{with_fronts, frames_taken}
 use Rattle.nm_model.specs.definitions.Events.{held_by, laid_for}
+use Rattle.nm_types.specs.declared.sight.Sight.{Sight}
 use Rattle.nm_model.specs.definitions.Frames.{Store}
+use Rattle.nm_model.specs.definitions.PageTables.{entry_of}
 use Rattle.nm_model.specs.definitions.Run.{frames_left}
 use Rattle.nm_model.specs.definitions.Sound.{IsSound}
 use Rattle.nm_types.specs.declared.taken.Taken.{Taken}
@@ -24,14 +29,14 @@ use Rattle.nm_memory.specs.views.Copies.{CanCopy, HasBoth, emptied, jobs_of, ref
 use Rattle.nm_memory.specs.views.Frames.{FramesView}
 use Rattle.nm_memory.proofs.Copies.Copied.{tickets_from}
 use Rattle.nm_memory.proofs.Copies.Populated.{after_populated}
+use Rattle.nm_engine.specs.views.Flights.{pair_of}
 use Rattle.nm_engine.specs.views.MidRun.{MidRun, IsKept}
-use Rattle.nm_engine.specs.views.Runs.{pair_of}
 use Rattle.nm_engine.specs.views.Shown.{shown_by}
 use Rattle.nm_engine.specs.views.Spaces.{spaces_of}
 use Rattle.nm_engine.proofs.InFlight.AllAtOnce.{prepared, lefts_populated, both_whole, remap, can_copy, can_meanwhile, finished_shows, finished_kept}
 use Rattle.nm_engine.proofs.InFlight.Apart.{copies_apart}
 use Rattle.nm_engine.proofs.InFlight.Flights.{once_home, home_is, can_home, whole_then}
-use Rattle.nm_engine.proofs.InFlight.Moments.{begins}
+use Rattle.nm_engine.proofs.InFlight.Moments.{begins, pages_of}
 use Rattle.nm_engine.proofs.prepared_run.PreparedRun.begin.Goals as goal
 
 pub vacate_each-requires-clause-populated : goal.vacate_each-requires-clause-populated
@@ -99,11 +104,6 @@ invariant_of-run g c =
       left = ap (λ (v : FramesView). v.vacated) (c.take_out-frames.ensures.frames ∙ ap (λ (v : FramesView). record v { frames = emptied v.frames moves; room = c.take_out-frames.result.0.room }) c.vacate_each.ensures.vacated);
     }
 
-pub returns-clause-entries : goal.returns-clause-entries
-returns-clause-entries g c store pid v =
-    c.hold.ensures.entries store pid v
-    ∙ ap (λ (x : MidRun). option_map (held_by (map (laid_for store) c.args.moves.now)) (entry_here (spaces_of x.state) pid v)) c.self.view_is
-
 pub returns-clause-spaces : goal.returns-clause-spaces
 returns-clause-spaces g c =
     let y = c.self.inside.spaces in
@@ -126,6 +126,27 @@ returns-clause-state g c target ready =
     (λ j. shown_by (c.hold.ensures.spaces j) (is j) i.online i.totals.moved i.totals.failed)
     ∙ finished_shows i.spaces i.frames i.online i.totals.moved i.totals.failed target moves [] h then refl
     ∙ ap (λ (x : MidRun). with_moves (with_fronts x.state target (frames_taken moves)) target moves) c.self.view_is
+
+-- what jobs make of each entry
+by_jobs : (store : Store) (s t : State) (target : ℕ) (moves : List Taken) (o : Option Sight) → IsSound s → CanMove s target moves → t ≡ with_moves s target moves
+    → option_map (held_by (map (laid_for store) moves)) (option_map (entry_of s.place) o) ≡ option_map (entry_meanwhile t.place (pages_of moves)) o
+by_jobs store s t target moves None sound can is = refl
+by_jobs store s t target moves (Some sight) sound can is =
+    ap Some (entry_moving store s target (record { state = with_moves s target moves; statuses = []; taken = moves }) (moves_decided moves s [] target store sound can) sight
+    ∙ ap (λ (z : State). entry_meanwhile z.place (pages_of moves) sight) (sym is))
+
+pub returns-clause-entries : goal.returns-clause-entries
+returns-clause-entries g c pid v =
+    let moves = c.args.moves.now in
+    let r = c.requires.ready in
+    let z = with_fronts c.args.self.state r.0 (frames_taken moves) in
+    let shows = returns-clause-state g c r.0 r.1 in
+    let d = moves_decided moves z [] r.0 [] r.1.sound r.1.can in
+    let sees : c.args.self.state.processes ≡ (with_moves z r.0 moves).processes = sym (ap (λ (s : State). s.processes) d.state) in
+    c.hold.ensures.entries [] pid v
+    ∙ ap (λ (x : MidRun). option_map (held_by (map (laid_for []) moves)) (entry_here (spaces_of x.state) pid v)) c.self.view_is
+    ∙ ap (λ ps. option_map (held_by (map (laid_for []) moves)) (option_map (entry_of c.args.self.state.place) (sight_in (get nat_cmp ps pid) v))) (sees ∙ sym (ap (λ (s : State). s.processes) shows))
+    ∙ by_jobs [] z _ r.0 moves _ r.1.sound r.1.can shows
 
 pub returns-clause-out : goal.returns-clause-out
 returns-clause-out g c =
@@ -190,6 +211,8 @@ pub returns-clause-event : goal.returns-clause-event
 returns-clause-event g c m target wanted all p rest alike ready at plan taken =
     let moves = c.args.moves.now in
     begins {A = g.row.A.Denot} m _ c.take_out-frames.result.1.items target wanted all p
-    (λ store pid v. returns-clause-entries g c store pid v ∙ ap (λ (s : State). option_map (held_by (map (laid_for store) moves)) (entry_here (spaces_of s) pid v)) (sym at))
+    (λ store pid v.
+        c.hold.ensures.entries store pid v ∙ ap (λ (x : MidRun). option_map (held_by (map (laid_for store) moves)) (entry_here (spaces_of x.state) pid v)) c.self.view_is
+        ∙ ap (λ (s : State). option_map (held_by (map (laid_for store) moves)) (entry_here (spaces_of s) pid v)) (sym at))
     rest (subst IsSound (sym at) ready.sound) alike plan taken
     (returns-clause-state g c target ready ∙ ap (λ (s : State). with_moves s target moves) (sym at))
