@@ -12,17 +12,15 @@ use Rattle.nm_laws.proofs.InFlight.Orders.{every_order_is_the_run}
 use Rattle.nm_laws.proofs.InFlight.Progress.{every_run_can_end}
 use Rattle.nm_laws.proofs.InFlight.Reading.{every_sound_state_is_read}
 use Rattle.nm_engine.specs.definitions.Orders.{GoesByEvents, RunAsked, run_asked}
-use Rattle.nm_engine.proofs.Runs.OneByOne.{one_all}
 
 -- a machine at rest in the state before begins the run, whose jobs are the moves of its plan, and can end it
 pub goes_by_events : (s : State) (asked : RunAsked) (p : Planned) (moves : List Taken) (pairs : List (ℕ × ℕ)) (ran : Ran) → IsSound s → HasOneAll asked.wanted → IsPlanOf s asked.target asked.wanted p → moves ≡ p.taken
     → pairs ≡ map (λ t. (t.from, t.to)) moves → ran ≡ run_asked s asked → GoesByEvents s asked pairs ran
 goes_by_events s asked p moves pairs ran sound alike plan taken jobs made =
     let read = every_sound_state_is_read s sound in
-    let all = one_all asked.wanted alike in
     let here : IsSound _ = subst IsSound (sym read.2) sound in
-    let end = every_run_can_end read.0 asked.target asked.wanted all.0 asked.accesses read.1 here all.1 in
-    let first = begun_is read.0 asked.target asked.wanted all.0 read.1 here all.1 in
+    let end = every_run_can_end read.0 asked.target asked.wanted asked.accesses read.1 here alike in
+    let first = begun_is read.0 asked.target asked.wanted read.1 here alike in
     let pair : List Taken → List (ℕ × ℕ) = map (λ t. (t.from, t.to)) in
     record {
       first = read.0;
