@@ -1,3 +1,2 @@
-pub mod AlikeRequests
 pub mod ByEvents
 pub mod OneByOne

@@ -191,9 +191,9 @@ impl<A: Allocator + Copy + Send + Sync> Machine<A> {
     /// target's number if the page is there already; -13 (EACCES) if another process sees the page and the request does
     /// not ask for all; -16 (EBUSY) if the page has a pin; -12 (ENOMEM) if the target has no free frame. A page that
     /// moves takes the front of the target's free list. The frames that pages leave become free when the run ends, in
-    /// the order of the moves. The totals count the moves, and the requests with -16 or -12. The requests must all be
-    /// by address, with one `all`, or all by page: their classes at the run's start are then those that they have one
-    /// after another. An error means that the host is out of memory, and that nothing has changed.
+    /// the order of the moves. The totals count the moves, and the requests with -16 or -12. All requests must move
+    /// pages that other processes see, as those by page do, or none: their classes at the run's start are then those
+    /// that they have one after another. An error means that the host is out of memory, and that nothing has changed.
     ///
     /// While the pages are copied, processes make accesses, one after another. Each is answered as it would be outside
     /// a run, except that an access to a page that moves in this run is held, as it has to wait in the kernel's

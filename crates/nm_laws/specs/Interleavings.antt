@@ -1,6 +1,5 @@
 -- What holds for every interleaving of a run's events.
-use Rattle.std.specs.Prelude.{◌≡◌, ◌↔◌, ℕ, ◌<◌, Bool, List, [], ◌∷◌, map, length, Some, IsTrue}
-use Rattle.std.specs.List.{AllByRecursion}
+use Rattle.std.specs.Prelude.{◌≡◌, ◌↔◌, ℕ, ◌<◌, List, [], ◌∷◌, map, length, Some, IsTrue}
 use Rattle.std.specs.Option.{option_map}
 use Rattle.nm_types.specs.declared.page.Page.{Page}
 use Rattle.nm_types.specs.Layout.{frame_count}
@@ -10,10 +9,9 @@ use Rattle.nm_model.specs.definitions.Frames.{IsHome}
 use Rattle.nm_types.specs.declared.request.Wanted.{Wanted}
 use Rattle.nm_model.specs.definitions.PageTables.{entry_at, sight_of, entry_of}
 use Rattle.nm_model.specs.definitions.Touch.{Access, Held, site_of_access, is_held, in_flight}
-use Rattle.nm_model.specs.definitions.Run.{Ran, each_request, run}
+use Rattle.nm_model.specs.definitions.Run.{Ran, HasOneAll, each_request, run}
 use Rattle.nm_model.specs.definitions.Seen.{sight_at}
 use Rattle.nm_model.specs.definitions.Sound.{IsSound}
-use Rattle.nm_laws.specs.Laws.{moves_all}
 use Rattle.nm_laws.specs.Midway.{entry_meanwhile}
 use Rattle.nm_model.specs.definitions.RunMachine.{RunMachine, Ready, Moving, Ended, state_of}
 use Rattle.nm_model.specs.definitions.Events.{Event, Begin, after, accesses_in, hands}
@@ -35,19 +33,18 @@ pub record IsAtRest (m : RunMachine) : Type 0 where
 abbrev pub EverySoundStateIsRead : Type 0
 EverySoundStateIsRead = (s : State) → IsSound s → (m : RunMachine) × IsAtRest m × (state_of m ≡ s)
 
--- a run of requests that all move pages which other processes see, or none do, and events from its beginning on
+-- a run of requests with one `all`, and events from its beginning on
 pub record Unfolds (m : RunMachine) (target : ℕ) (wanted : List Wanted) (events : List Event) (n : RunMachine) : Type 0 where
   pub rest : IsAtRest m
   pub sound : IsSound (state_of m)
-  pub all : Bool
-  pub alike : AllByRecursion (λ w. moves_all w ≡ all) wanted
+  pub alike : HasOneAll wanted
   pub leads : after m (Begin target wanted ∷ events) ≡ Some n
 
 -- whatever accesses are made meanwhile, a run can end
 abbrev pub EveryRunCanEnd : Type 0
 EveryRunCanEnd =
-    (m : RunMachine) (target : ℕ) (wanted : List Wanted) (all : Bool) (accesses : List Access) →
-    IsAtRest m → IsSound (state_of m) → AllByRecursion (λ w. moves_all w ≡ all) wanted →
+    (m : RunMachine) (target : ℕ) (wanted : List Wanted) (accesses : List Access) →
+    IsAtRest m → IsSound (state_of m) → HasOneAll wanted →
     (events : List Event) × (n : RunMachine) × Unfolds m target wanted events n × (n.phase ≡ Ended) × (accesses_in events ≡ accesses)
 
 -- the run that a machine is in

@@ -1,7 +1,7 @@
 -- What holds for every state, run and request.
 use Rattle.std.specs.Prelude.{◌≡◌, ◌≤◌, ℕ, ◌+◌, ◌-◌, ◌/◌, ◌%◌, nat_le, nat_lt, Bool, true, false, ◌&&◌, List, [], ◌∷◌, map, length}
 use Rattle.std.specs.Prelude.{drop, slice_index, slice_set, Option, Some, None, if◌then◌else◌}
-use Rattle.std.specs.List.{AllByRecursion, fold}
+use Rattle.std.specs.List.{fold}
 use Rattle.std.specs.List.Sorted.{IsStrictlySortedBy}
 use Rattle.std.specs.Map.{keys_of}
 use Rattle.std.specs.Ordering.{nat_cmp}
@@ -12,7 +12,6 @@ use Rattle.nm_types.specs.declared.area.Area.{Area}
 use Rattle.nm_types.specs.declared.area.Policy.{Policy}
 use Rattle.nm_types.specs.State.{State, page_at, free_list}
 use Rattle.nm_types.specs.declared.request.Wanted.{Wanted}
-use Rattle.nm_types.specs.declared.request.Wanted.TheVariants.{At as Spot, Whole}
 use Rattle.nm_types.specs.declared.seen.Seen.TheVariants.{At}
 use Rattle.nm_model.specs.definitions.Seen.{look}
 use Rattle.nm_model.specs.definitions.Cut.{Request, Stretch}
@@ -21,7 +20,7 @@ use Rattle.nm_types.specs.declared.taken.Taken.{Taken}
 use Rattle.nm_model.specs.definitions.Decide.{Decisions, decide}
 use Rattle.nm_model.specs.definitions.Memory.{mem}
 use Rattle.nm_model.specs.definitions.Touch.{Access, Write, AccessAnswer, Done, read, write, access}
-use Rattle.nm_model.specs.definitions.Run.{Progress, each_request, with_all_free, run, accesses_of, runs_from, batch}
+use Rattle.nm_model.specs.definitions.Run.{Progress, HasOneAll, each_request, with_all_free, run, accesses_of, runs_from, batch}
 use Rattle.nm_model.specs.definitions.Sound.{audited, OwnsItsFree, IsSoundMidRun, IsSound}
 use Rattle.nm_model.specs.definitions.Effect.{new_machine, spawn, map_new, attach, pin, unpin, unmap, exit}
 use Rattle.nm_model.specs.definitions.Effect.{spawn_refusal, map_refusal, attach_refusal, pin_refusal, set_policy}
@@ -56,8 +55,8 @@ FreeingKeepsMemory =
 -- nor does a batch without accesses in flight, run after run
 abbrev pub BatchKeepsMemory : Type 0
 BatchKeepsMemory =
-    (s : State) (requests : List Request) (pid address : ℕ) →
-    mem (batch s requests []).state pid address ≡ mem s pid address
+    (limit : ℕ) (s : State) (requests : List Request) (pid address : ℕ) →
+    mem (batch limit s requests []).state pid address ≡ mem s pid address
 
 -- nor does a read, though it may take a frame
 abbrev pub ReadingKeepsMemory : Type 0
@@ -129,11 +128,6 @@ PolicyKeepsMemory =
     let t = set_policy s pid address len policy in
     (page_at t.areas q v ≡ page_at s.areas q v) × (mem t q at ≡ mem s q at)
 
--- whether a request moves a page even if other processes see it
-abbrev pub moves_all : Wanted → Bool
-moves_all (Spot pid v all) = all
-moves_all (Whole page) = true
-
 -- a page takes the front frame of the target
 abbrev pub with_move : ℕ → State → Taken → State
 with_move target s t =
@@ -152,9 +146,8 @@ pub record Agrees (s : State) (target : ℕ) (p : Progress) (d : Decisions) : Ty
 -- classing all requests of a run at its start and then deciding them is the same as deciding one after another
 abbrev pub PlanIsOneByOne : Type 0
 PlanIsOneByOne =
-    (s : State) (target : ℕ) (all : Bool) (ws : List Wanted) →
-    IsStrictlySortedBy nat_cmp (keys_of s.processes) → OwnsItsFree s.layout s.free target →
-    AllByRecursion (λ w. moves_all w ≡ all) ws →
+    (s : State) (target : ℕ) (ws : List Wanted) →
+    IsStrictlySortedBy nat_cmp (keys_of s.processes) → OwnsItsFree s.layout s.free target → HasOneAll ws →
     Agrees s target (each_request s target ws) (decide (map (status_or_move s target) ws) [] (free_list s target) target)
 
 -- reads and writes keep a machine sound, also during a run that has left these frames
@@ -170,8 +163,8 @@ RunIsSound =
 -- so does a batch
 abbrev pub BatchIsSound : Type 0
 BatchIsSound =
-    (s : State) (requests : List Request) (accesses : List (ℕ × Access)) →
-    IsSound s → IsSound (batch s requests accesses).state
+    (limit : ℕ) (s : State) (requests : List Request) (accesses : List (ℕ × Access)) →
+    IsSound s → IsSound (batch limit s requests accesses).state
 
 -- a new machine is sound
 abbrev pub NewIsSound : Type 0

@@ -4,7 +4,7 @@ ghost use Rattle.nm_model.specs.examples.Interleaved.{StartIsRead, BothOrdersEnd
 ghost use Rattle.nm_model.specs.examples.Starts.{StartsAreSound};
 ghost use Rattle.nm_model.specs.examples.Moving.{ThreePagesMove, MovedPageReads, EmptyBatchDoesNothing, OnePageTwiceMovesOnce, ShortageStopsTwoOfFour, LaterRunTakesFrameOfEarlier, EarlierRunFindsNone, PageGoesAndComesHome};
 ghost use Rattle.nm_model.specs.examples.Sharing.{TwoAddressesAreOneProcess, SharedPageStays, SharedPageIsOnTarget, SharedPageMovesForBoth};
-ghost use Rattle.nm_model.specs.examples.Unmapping.{OnlyTheMovingPageIsHeld, EachHasItsStatus, PinnedPageKeepsItsArea, UnmappedPagesAreFree, LastAreaFreesThePage};
+ghost use Rattle.nm_model.specs.examples.Unmapping.{OnlyTheMovingPageIsHeld, OnlyTheRunsOwnPagesAreHeld, EachHasItsStatus, PinnedPageKeepsItsArea, UnmappedPagesAreFree, LastAreaFreesThePage};
 ghost use Rattle.nm_model.specs.examples.Setting.{MiddlePageIsSplitOff, NewPagesFollowThePolicy, LengthsRoundUp, AreasAreNotMerged, OthersKeepTheirAreas, RangesAreRefused};
 ghost use Rattle.nm_model.specs.examples.Deciding.{NodesAreOrderedByDistance, PolicyOrdersTheNodes, PlanResolvesRepeats, PlanWithoutFrames, PlanWithoutRequests};
 
@@ -33,9 +33,10 @@ pub fn sharing_counts_processes()
     ensures shared_page_moves_for_both { SharedPageMovesForBoth }
 {}
 
-/// A worked example of reads and writes while a page moves.
+/// Worked examples of reads and writes while pages move.
 pub fn moving_pages_are_held()
-    ensures { OnlyTheMovingPageIsHeld }
+    ensures only_the_moving_page_is_held { OnlyTheMovingPageIsHeld }
+    ensures only_the_runs_own_pages_are_held { OnlyTheRunsOwnPagesAreHeld }
 {}
 
 /// Worked examples of pins, of unmapping areas and of processes that exit.

@@ -30,7 +30,7 @@ pub fn looks_suffice()
 {}
 
 /// Classing the requests of a run at its start and then deciding them gives the same as deciding one after another, if
-/// they are all by address, and may all move pages that other processes see or none may, or are all by page.
+/// all of them move pages that other processes see, as those by page do, or none does.
 pub fn plan_is_one_by_one()
     ensures { PlanIsOneByOne }
 {}

@@ -37,6 +37,10 @@ D = 0x13000
 abbrev pub E : ℕ
 E = 0x14000
 
+-- how many requests a run has at most: no example has more
+abbrev pub limit : ℕ
+limit = 4
+
 -- node 0 with frames 0 to 3, and node 1 with frames 4 to 7
 abbrev pub two_nodes : Layout
 two_nodes = record { sizes = 4 ∷ 4 ∷ []; distances = (10 ∷ 20 ∷ []) ∷ (20 ∷ 10 ∷ []) ∷ [] }
@@ -110,7 +114,7 @@ to addresses target = requests false addresses target
 abbrev pub on_two_of_three : State
 on_two_of_three =
     let one = spawn (new_machine three_nodes) 1 100 0 (0 ∷ 1 ∷ 2 ∷ []) false in
-    (batch (wrote (wrote (map_new one 1 A 2 false) 1 A 0x61) 1 B 0x62) (to (B ∷ []) 1) []).state
+    (batch limit (wrote (wrote (map_new one 1 A 2 false) 1 A 0x61) 1 B 0x62) (to (B ∷ []) 1) []).state
 
 -- the frame of the page that a process sees at an address
 abbrev pub frame_at : State → ℕ → ℕ → Option ℕ

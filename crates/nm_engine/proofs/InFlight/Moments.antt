@@ -1,8 +1,8 @@
 -- The run machine while pages are on their way: what its events make of it is what the engine's run shows.
-use Rattle.std.proofs.Common.{◌≡◌, ℕ, ℤ, Bool, List, [], ◌∷◌, ◌++◌, true, map, length, refl, sym, ap, subst, ◌∙◌}
+use Rattle.std.proofs.Common.{◌≡◌, ℕ, ℤ, List, [], ◌∷◌, ◌++◌, true, map, length, refl, sym, ap, subst, ◌∙◌}
 use Rattle.std.specs.Prelude.{Option, Some}
 use Rattle.std.specs.Option.{option_map}
-use Rattle.std.specs.List.{AllByRecursion, list_all}
+use Rattle.std.specs.List.{list_all}
 use Rattle.std.proofs.lemmas.List.{length-map}
 use Rattle.nm_types.specs.State.{State}
 use Rattle.nm_types.specs.declared.entry.Entry.{Entry}
@@ -16,13 +16,13 @@ use Rattle.nm_model.specs.definitions.Decide.{Planned}
 use Rattle.nm_model.specs.definitions.Events.{Event, accesses_in, after, begun, ended, held_by, is_given, laid_for}
 use Rattle.nm_model.specs.definitions.Frames.{Store}
 use Rattle.nm_model.specs.definitions.PageTables.{entry_at, entry_of}
-use Rattle.nm_model.specs.definitions.Run.{each_request, failures, frames_left, with_all_free, with_counts}
+use Rattle.nm_model.specs.definitions.Run.{HasOneAll, each_request, failures, frames_left, with_all_free, with_counts}
 use Rattle.nm_model.specs.definitions.RunMachine.{RunMachine, Job, Moving, state_of}
 use Rattle.nm_model.specs.definitions.Seen.{sight_at}
 use Rattle.nm_model.specs.definitions.Sound.{IsSound}
 use Rattle.nm_model.specs.definitions.Touch.{Access, AccessAnswer, AllAnswered, Answered, all_in_flight, in_flight}
 use Rattle.nm_laws.specs.Interleavings.{IsAtRest}
-use Rattle.nm_laws.specs.Laws.{moves_all, with_moves}
+use Rattle.nm_laws.specs.Laws.{with_moves}
 use Rattle.nm_laws.specs.Moves.{IsPlanOf}
 use Rattle.nm_laws.proofs.InFlight.Accessing.{accessed_is}
 use Rattle.nm_laws.proofs.InFlight.Beginning.{begun_is}
@@ -48,12 +48,12 @@ left_first (t ∷ moves) = ap (λ fs. t.from ∷ fs) (left_first moves)
 
 module _ {A : Type 0} (m : RunMachine) (x : Flight) (jobs : List (CopyJob A)) where
   -- a run begins: its plan's moves are those that are on their way
-  pub begins : (target : ℕ) (wanted : List Wanted) (all : Bool) (p : Planned)
+  pub begins : (target : ℕ) (wanted : List Wanted) (p : Planned)
       → ((store : Store) (pid v : ℕ) → entry_at x.tables pid v ≡ option_map (held_by (map (laid_for store) x.moves)) (option_map (entry_of (state_of m).place) (sight_at (state_of m) pid v)))
-      → IsAtRest m → IsSound (state_of m) → AllByRecursion (λ w. moves_all w ≡ all) wanted → IsPlanOf (state_of m) target wanted p → p.taken ≡ x.moves
+      → IsAtRest m → IsSound (state_of m) → HasOneAll wanted → IsPlanOf (state_of m) target wanted p → p.taken ≡ x.moves
       → state_meanwhile x jobs ≡ with_moves (state_of m) target x.moves → IsMoment (begun m target wanted) x jobs
-  begins target wanted all p entered rest sound alike plan taken shows =
-      let b = begun_is m target wanted all rest sound alike in
+  begins target wanted p entered rest sound alike plan taken shows =
+      let b = begun_is m target wanted rest sound alike in
       let moves : (each_request (state_of m) target wanted).taken ≡ x.moves = plan.agrees.taken ∙ taken in
       record {
         midway = subst (λ (ts : List Taken). IsMidway (begun m target wanted) (pages_of ts)) moves b.midway;

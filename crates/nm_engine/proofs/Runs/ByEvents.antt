@@ -26,7 +26,6 @@ use Rattle.nm_laws.proofs.InFlight.Reading.{every_sound_state_is_read}
 use Rattle.nm_engine.specs.definitions.Orders.{GoesByEvents, RunAsked, run_asked}
 use Rattle.nm_engine.specs.views.Flights.{EndsAs, Flight, HoldsMovingPages, IsMoment, pair_of, state_meanwhile}
 use Rattle.nm_engine.proofs.InFlight.Moments.{pages_of}
-use Rattle.nm_engine.proofs.Runs.OneByOne.{one_all}
 
 -- what comes after an event that is allowed
 goes_on : (b : Bool) (o : Option RunMachine) (n : RunMachine) → cond b o None ≡ Some n → o ≡ Some n
@@ -45,10 +44,9 @@ module _ {A : Type 0} where
       let ws = asked.wanted in
       let read = every_sound_state_is_read s sound in
       let m = read.0 in
-      let all = one_all ws alike in
       let here : IsSound (state_of m) = subst IsSound (sym read.2) sound in
-      let end = every_run_can_end m t ws all.0 asked.accesses read.1 here all.1 in
-      let first = begun_is m t ws all.0 read.1 here all.1 in
+      let end = every_run_can_end m t ws asked.accesses read.1 here alike in
+      let first = begun_is m t ws read.1 here alike in
       let k = begun m t ws in
       let leads = goes_on (is_ready m.phase) (after k end.0) end.1 end.2.leads in
       let moved = pages_of (each_request (state_of m) t ws).taken in
@@ -81,7 +79,6 @@ module _ {A : Type 0} where
         unfolds = record {
           rest = end.2.rest;
           sound = end.2.sound;
-          all = end.2.all;
           alike = end.2.alike;
           leads = ap (λ b. cond b (after k last.till) None) (ap is_ready read.1.ready) ∙ last.leads;
         };

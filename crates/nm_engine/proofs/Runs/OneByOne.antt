@@ -1,8 +1,8 @@
 -- A run by its plan is a run one after another.
-use Rattle.std.proofs.Common.{◌≡◌, ◌≢◌, ℕ, zero, suc, ◌<◌, ◌≤◌, Bool, true, false, List, [], ◌∷◌, ◌++◌, map, length, take, drop, refl, sym, ap, subst, ◌∙◌, arith, ⊎_elim}
+use Rattle.std.proofs.Common.{◌≡◌, ◌≢◌, ℕ, zero, suc, ◌<◌, ◌≤◌, Bool, true, false, List, [], ◌∷◌, ◌++◌, map, length, take, drop, refl, sym, ap, subst, ◌∙◌, arith}
 use Rattle.std.specs.Prelude.{Option, Some, None, IfSome, slice_get, slice_set, if◌then◌else◌, pos}
 use Rattle.std.specs.Option.{option_map}
-use Rattle.std.specs.List.{AllByRecursion, sum_by}
+use Rattle.std.specs.List.{sum_by}
 use Rattle.std.specs.List.Sorted.{IsStrictlySortedBy}
 use Rattle.std.specs.Map.{keys_of, values_of}
 use Rattle.std.specs.Ordering.{nat_cmp}
@@ -21,9 +21,9 @@ use Rattle.nm_runs.specs.Shown.{class_of_place, class_shown, HasFrameBelow, Show
 use Rattle.nm_model.specs.definitions.Status.{page_status, status_or_move}
 use Rattle.nm_types.specs.declared.taken.Taken.{Taken}
 use Rattle.nm_model.specs.definitions.Decide.{Choice, Decisions, has_moved, take_front, decide, shortage, Planned, planned}
-use Rattle.nm_model.specs.definitions.Run.{moved_page, decision, each_request, IsByAddress, IsByPage, HasOneAll}
+use Rattle.nm_model.specs.definitions.Run.{moved_page, decision, each_request, HasOneAll}
 use Rattle.nm_model.specs.definitions.Sound.{times, FramesAreOnce, OwnsItsFree}
-use Rattle.nm_laws.specs.Laws.{Agrees, moves_all, with_move}
+use Rattle.nm_laws.specs.Laws.{Agrees, with_move}
 use Rattle.nm_laws.specs.Moves.{CanMove, IsPlanOf}
 use Rattle.nm_laws.proofs.Soundness.Once.{counted_place}
 use Rattle.nm_laws.proofs.Soundness.Counted.{counted_below}
@@ -139,26 +139,11 @@ planned_is s target n classes front ws by at enough =
     ∙ ap (told classes) (few_suffice classes target [] (free_list s target) n enough)
     ∙ ap (λ (cs : List Class). planned cs (free_list s target) target) by
 
--- a run has one `all`
-by_address : (all : Bool) (ws : List Wanted) → AllByRecursion (IsByAddress all) ws → AllByRecursion (λ w. moves_all w ≡ all) ws
-by_address all [] h = tt
-by_address all (Spot pid v b ∷ ws) h = (h.0, by_address all ws h.1)
-by_address all (Whole p ∷ ws) h = absurd h.0
-
-by_page : (ws : List Wanted) → AllByRecursion IsByPage ws → AllByRecursion (λ w. moves_all w ≡ true) ws
-by_page [] h = tt
-by_page (Spot pid v b ∷ ws) h = absurd h.0
-by_page (Whole p ∷ ws) h = (refl, by_page ws h.1)
-
-pub one_all : (ws : List Wanted) → HasOneAll ws → (all : Bool) × AllByRecursion (λ w. moves_all w ≡ all) ws
-one_all ws h = ⊎_elim (λ a. (a.0, by_address a.0 ws a.1)) (λ p. (true, by_page ws p)) h
-
 -- the plan for requests says what becomes of them one after another
 pub is_plan_of : (s : State) (target : ℕ) (ws : List Wanted) (p : Planned) → IsStrictlySortedBy nat_cmp (keys_of s.processes) → OwnsItsFree s.layout s.free target → HasOneAll ws
     → p ≡ planned (map (status_or_move s target) ws) (free_list s target) target → IsPlanOf s target ws p
 is_plan_of s target ws p order own alike is =
-    let all = one_all ws alike in
-    let agrees = plan_agrees s target all.0 ws order own all.1 in
+    let agrees = plan_agrees s target ws order own alike in
     let both : Planned → Decisions = λ q. record { statuses = q.statuses; taken = q.taken } in
     record {
       planned = is;

@@ -1,5 +1,5 @@
 -- A run whose pages are on their way, with the whole machine.
-use Rattle.std.specs.Prelude.{◌≡◌, ℕ, ◌<◌, ◌≤◌, ◌++◌, ℤ, Bool, true, List, [], ◌∷◌, Some, map, vec_len, vec_capacity}
+use Rattle.std.specs.Prelude.{◌≡◌, ℕ, ◌<◌, ◌≤◌, ◌++◌, ℤ, true, List, [], ◌∷◌, Some, map, vec_len, vec_capacity}
 use Rattle.std.specs.List.{AllByRecursion, list_all}
 use Rattle.std.specs.declared.vec.Vec.{Vec}
 use Rattle.std.specs.Option.{option_map}
@@ -19,13 +19,12 @@ use Rattle.nm_model.specs.definitions.Decide.{Planned}
 use Rattle.nm_model.specs.definitions.Events.{Event, accesses_in, after, begun, ended, is_given}
 use Rattle.nm_model.specs.definitions.Frames.{Store}
 use Rattle.nm_model.specs.definitions.PageTables.{Task, entry_at}
-use Rattle.nm_model.specs.definitions.Run.{frames_left}
+use Rattle.nm_model.specs.definitions.Run.{HasOneAll, frames_left}
 use Rattle.nm_model.specs.definitions.RunMachine.{RunMachine, Moving, state_of}
 use Rattle.nm_model.specs.definitions.Seen.{sight_in}
 use Rattle.nm_model.specs.definitions.Sound.{IsSound}
 use Rattle.nm_model.specs.definitions.Touch.{Access, AccessAnswer, all_in_flight, in_flight}
 use Rattle.nm_laws.specs.Interleavings.{IsAtRest}
-use Rattle.nm_laws.specs.Laws.{moves_all}
 use Rattle.nm_laws.specs.Midway.{IsMidway, ends_of, entry_meanwhile}
 use Rattle.nm_laws.specs.Moves.{CanMove, IsPlanOf}
 use Rattle.nm_memory.specs.declared.answers.AccessAnswer.{AccessAnswer as Given}
@@ -128,8 +127,8 @@ module _ {A : Type 0} where
   -- a run machine that begins the run of a plan with these moves is then at this moment
   abbrev pub BeginsSo : MidRun → List Taken → Flight → List (CopyJob A) → Type 0
   BeginsSo prepared moves x jobs =
-      (m : RunMachine) (target : ℕ) (wanted : List Wanted) (all : Bool) (p : Planned) →
-      IsAtRest m → AllByRecursion (λ w. moves_all w ≡ all) wanted → IsReadyFor prepared target moves →
+      (m : RunMachine) (target : ℕ) (wanted : List Wanted) (p : Planned) →
+      IsAtRest m → HasOneAll wanted → IsReadyFor prepared target moves →
       state_of m ≡ with_fronts prepared.state target (frames_taken moves) →
       IsPlanOf (state_of m) target wanted p → p.taken ≡ moves → IsMoment (begun m target wanted) x jobs
 

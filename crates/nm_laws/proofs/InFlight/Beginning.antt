@@ -19,9 +19,8 @@ use Rattle.nm_types.specs.declared.request.Wanted.{Wanted}
 use Rattle.nm_types.specs.declared.taken.Taken.{Taken}
 use Rattle.nm_model.specs.definitions.PageTables.{entry_at, process_of, sight_of, entry_of}
 use Rattle.nm_model.specs.definitions.Seen.{sight_at}
-use Rattle.nm_model.specs.definitions.Run.{Progress, each_request, frames_left}
+use Rattle.nm_model.specs.definitions.Run.{Progress, HasOneAll, each_request, frames_left}
 use Rattle.nm_model.specs.definitions.Sound.{times, IsSound, IsSoundMidRun}
-use Rattle.nm_laws.specs.Laws.{moves_all}
 use Rattle.nm_laws.proofs.Seen.Shown.{sight_shown}
 use Rattle.nm_laws.proofs.Soundness.Frames.{here, times_cons}
 use Rattle.nm_types.proofs.Maps.{page_cmp_total, exact_page, agree}
@@ -319,9 +318,9 @@ module _ (m : RunMachine) (target : ℕ) (wanted : List Wanted) (rest : IsAtRest
         layout = refl;
       }
 
-pub begun_is : (m : RunMachine) (target : ℕ) (wanted : List Wanted) (all : Bool) → IsAtRest m → IsSound (state_of m) → AllByRecursion (λ w. moves_all w ≡ all) wanted → Begun m (begun m target wanted) (each_request (state_of m) target wanted)
-begun_is m target wanted all rest sound alike =
-    let agrees = plan_agrees (state_of m) target all wanted sound.order.processes (sound.frames.own target) alike in
+pub begun_is : (m : RunMachine) (target : ℕ) (wanted : List Wanted) → IsAtRest m → IsSound (state_of m) → HasOneAll wanted → Begun m (begun m target wanted) (each_request (state_of m) target wanted)
+begun_is m target wanted rest sound alike =
+    let agrees = plan_agrees (state_of m) target wanted sound.order.processes (sound.frames.own target) alike in
     let d = plan m target wanted in
     subst (λ taken. Begun m (laid m target wanted rest sound taken d.statuses) (each_request (state_of m) target wanted)) agrees.taken
     (laid_begins m target wanted rest sound d.statuses (sym agrees.statuses))

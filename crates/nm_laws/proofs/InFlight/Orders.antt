@@ -112,7 +112,7 @@ finish (End ∷ events) m n moved h leads end =
 
 pub every_order_is_the_run : EveryOrderIsTheRun
 every_order_is_the_run m target wanted events n h end =
-    let first = begun_is m target wanted h.all h.rest h.sound h.alike in
+    let first = begun_is m target wanted h.rest h.sound h.alike in
     let k = begun m target wanted in
     let p = each_request (state_of m) target wanted in
     let pages = map (λ t. t.page) p.taken in
@@ -142,7 +142,7 @@ once_after (End ∷ events) m n moved h leads f below =
 
 pub every_buffer_is_in_one_hand : EveryBufferIsInOneHand
 every_buffer_is_in_one_hand m target wanted events n h f below =
-    let first = begun_is m target wanted h.all h.rest h.sound h.alike in
+    let first = begun_is m target wanted h.rest h.sound h.alike in
     once_after events (begun m target wanted) n (map (λ t. t.page) (each_request (state_of m) target wanted).taken) first.midway (allowed _ _ n h.leads).1 f (subst (λ g. f < frame_count g) (sym first.layout) below)
 
 -- what a run that is under way, and does not end, makes of a machine
@@ -204,7 +204,7 @@ flies (End ∷ events) m n moved h leads on =
 
 pub every_entry_of_a_moving_page_is_held : EveryEntryOfAMovingPageIsHeld
 every_entry_of_a_moving_page_is_held m target wanted events n h on =
-    let first = begun_is m target wanted h.all h.rest h.sound h.alike in
+    let first = begun_is m target wanted h.rest h.sound h.alike in
     let moved = map (λ t. t.page) (each_request (state_of m) target wanted).taken in
     entry_is n moved (flies events (begun m target wanted) n moved first.midway (allowed _ _ n h.leads).1 on).midway
 

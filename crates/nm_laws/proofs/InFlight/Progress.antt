@@ -130,9 +130,9 @@ accesses_are (a ∷ accesses) ys h = ap (λ xs. a ∷ xs) (accesses_are accesses
 
 pub every_run_can_end : EveryRunCanEnd
 unfolding AreGiven
-every_run_can_end m target wanted all accesses rest sound alike =
+every_run_can_end m target wanted accesses rest sound alike =
     let k = begun m target wanted in
-    let first = begun_is m target wanted all rest sound alike in
+    let first = begun_is m target wanted rest sound alike in
     let touched = touch_all accesses k (map (λ t. t.page) (each_request (state_of m) target wanted).taken) first.midway in
     let n = touched.0 in
     let jobs : List Job = map (laid_for m.buf) (plan m target wanted).taken in
@@ -143,7 +143,7 @@ every_run_can_end m target wanted all accesses rest sound alike =
     ∙ ap (λ js. after (record n { jobs = js }) (copying 0 jobs)) touched.1.jobs ∙ last.1 in (
       events,
       last.0,
-      record { rest = rest; sound = sound; all = all; alike = alike; leads = one_more (is_ready m.phase) (after k events) (ap is_ready rest.ready) ∙ leads },
+      record { rest = rest; sound = sound; alike = alike; leads = one_more (is_ready m.phase) (after k events) (ap is_ready rest.ready) ∙ leads },
       last.2,
       accesses_are accesses (copying 0 jobs) (no_access 0 jobs),
     )

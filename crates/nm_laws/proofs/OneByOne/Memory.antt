@@ -9,7 +9,7 @@ use Rattle.nm_types.specs.declared.request.Class.{Class}
 use Rattle.nm_types.specs.declared.request.Class.TheVariants.{Status, Move}
 use Rattle.nm_types.specs.declared.request.Wanted.{Wanted}
 use Rattle.nm_model.specs.definitions.Status.{status_or_move}
-use Rattle.nm_model.specs.definitions.Cut.{Request, Stretch, cut}
+use Rattle.nm_model.specs.definitions.Cut.{Request, Stretch, cut_within}
 use Rattle.nm_model.specs.definitions.Memory.{mem, byte_of}
 use Rattle.nm_model.specs.definitions.Run.{moved_page, decision, one_request, each_request, with_free, with_all_free, frames_left, run, runs_from, batch}
 use Rattle.nm_types.proofs.Maps.{page_cmp_total, exact_page, equal, get-set}
@@ -56,5 +56,5 @@ pub runs_keep : (k : ℕ) (s : State) (rs : List Stretch) (pid address : ℕ) �
 runs_keep k s [] pid address = refl
 runs_keep k s (r ∷ rs) pid address = runs_keep (k + 1) (run s r.target r.wanted []).state rs pid address ∙ run_keeps s r.target r.wanted pid address
 
-pub batch_keeps : (s : State) (requests : List Request) (pid address : ℕ) → mem (batch s requests []).state pid address ≡ mem s pid address
-batch_keeps s requests pid address = runs_keep 0 s (cut requests) pid address
+pub batch_keeps : (limit : ℕ) (s : State) (requests : List Request) (pid address : ℕ) → mem (batch limit s requests []).state pid address ≡ mem s pid address
+batch_keeps limit s requests pid address = runs_keep 0 s (cut_within limit requests) pid address

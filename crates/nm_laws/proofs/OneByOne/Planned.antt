@@ -21,9 +21,9 @@ use Rattle.nm_model.specs.definitions.Seen.{sight_at, users, is_pinned, look_at_
 use Rattle.nm_model.specs.definitions.Status.{code, status_or_move, class_of_look, class_of}
 use Rattle.nm_types.specs.declared.taken.Taken.{Taken}
 use Rattle.nm_model.specs.definitions.Decide.{Choice, Decisions, has_moved, take_front, choose, decide}
-use Rattle.nm_model.specs.definitions.Run.{Decision, Progress, moved_page, decision, each_request}
+use Rattle.nm_model.specs.definitions.Run.{Decision, Progress, moved_page, decision, each_request, moves_all, HasOneAll}
 use Rattle.nm_model.specs.definitions.Sound.{OwnsItsFree}
-use Rattle.nm_laws.specs.Laws.{Agrees, moves_all, with_moves}
+use Rattle.nm_laws.specs.Laws.{Agrees, with_moves}
 use Rattle.nm_types.proofs.Maps.{page_cmp_total, exact_page, equal, get-set}
 use Rattle.nm_types.proofs.Members.{or_swap}
 use Rattle.nm_laws.proofs.OneByOne.Looks.{looks_suffice}
@@ -244,7 +244,7 @@ agree s target all (w ∷ ws) order h = λ m f moved i.
     step s target all ws (agree s target all ws order h.1) m f moved i (status_or_move s target w) (status_or_move (midway s m f) target w) becomes
     (subst (IsItsClass s target all) (looks_suffice s target w order) (its_class s target all w h.0))
 
-pub plan_agrees : (s : State) (target : ℕ) (all : Bool) (ws : List Wanted) → IsStrictlySortedBy nat_cmp (keys_of s.processes) → OwnsItsFree s.layout s.free target → AllByRecursion (λ w. moves_all w ≡ all) ws
+pub plan_agrees : (s : State) (target : ℕ) (ws : List Wanted) → IsStrictlySortedBy nat_cmp (keys_of s.processes) → OwnsItsFree s.layout s.free target → HasOneAll ws
     → Agrees s target (each_request s target ws) (decide (map (status_or_move s target) ws) [] (free_list s target) target)
-plan_agrees s target all ws order own h =
-    agree s target all ws order h s.place s.free [] (record { places = λ q. refl; classes = λ q e. absurd (no_true e); own = own })
+plan_agrees s target ws order own h =
+    agree s target h.0 ws order h.1 s.place s.free [] (record { places = λ q. refl; classes = λ q e. absurd (no_true e); own = own })

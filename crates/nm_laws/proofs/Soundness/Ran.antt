@@ -4,7 +4,7 @@ use Rattle.std.specs.Prelude.{if◌then◌else◌}
 use Rattle.nm_types.specs.declared.page.Page.{Page}
 use Rattle.nm_types.specs.State.{State}
 use Rattle.nm_types.specs.declared.request.Wanted.{Wanted}
-use Rattle.nm_model.specs.definitions.Cut.{Request, Stretch, cut}
+use Rattle.nm_model.specs.definitions.Cut.{Request, Stretch, cut_within}
 use Rattle.nm_model.specs.definitions.Touch.{Access, Held, access, site_of_access, is_held, in_flight, all_in_flight}
 use Rattle.nm_model.specs.definitions.Run.{each_request, with_all_free, frames_left, failures, run, accesses_of, runs_from, batch}
 use Rattle.nm_model.specs.definitions.Sound.{IsSoundMidRun, IsSound}
@@ -34,5 +34,5 @@ runs_sound : (k : ℕ) (s : State) (rs : List Stretch) (accesses : List (ℕ × 
 runs_sound k s [] accesses h = h
 runs_sound k s (r ∷ rs) accesses h = runs_sound (k + 1) (run s r.target r.wanted (accesses_of k accesses)).state rs accesses (run_sound s r.target r.wanted (accesses_of k accesses) h)
 
-pub batch_sound : (s : State) (requests : List Request) (accesses : List (ℕ × Access)) → IsSound s → IsSound (batch s requests accesses).state
-batch_sound s requests accesses h = runs_sound 0 s (cut requests) accesses h
+pub batch_sound : (limit : ℕ) (s : State) (requests : List Request) (accesses : List (ℕ × Access)) → IsSound s → IsSound (batch limit s requests accesses).state
+batch_sound limit s requests accesses h = runs_sound 0 s (cut_within limit requests) accesses h

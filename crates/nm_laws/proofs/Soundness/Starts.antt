@@ -4,7 +4,7 @@ use Rattle.nm_types.specs.State.{State}
 use Rattle.nm_model.specs.definitions.Touch.{Read, Write}
 use Rattle.nm_model.specs.definitions.Effect.{new_machine, map_new}
 use Rattle.nm_model.specs.definitions.Sound.{IsSound}
-use Rattle.nm_model.specs.examples.{A, B, C, D, E, two_nodes, three_nodes, one_process, with_second, wrote, three_pages, two_addresses, six_pages, seven_pages, shared_page, attached_by_two, four_of_five, to, on_two_of_three}
+use Rattle.nm_model.specs.examples.{A, B, C, D, E, limit, two_nodes, three_nodes, one_process, with_second, wrote, three_pages, two_addresses, six_pages, seven_pages, shared_page, attached_by_two, four_of_five, to, on_two_of_three}
 use Rattle.nm_model.specs.examples.Unmapping.{one_of_each}
 use Rattle.nm_model.specs.examples.Starts.{StartsAreSound}
 use Rattle.nm_laws.proofs.Soundness.New.{new_sound}
@@ -52,7 +52,7 @@ four_of_five_sound = four_written (map_new one_process 1 A 5 false) (map_sound o
 on_two_of_three_sound : IsSound on_two_of_three
 on_two_of_three_sound =
     let one = spawn_sound (new_machine three_nodes) 1 100 0 (0 ∷ 1 ∷ 2 ∷ []) false (new_sound three_nodes) refl in
-    batch_sound _ (to (B ∷ []) 1) [] (wrote_sound _ 1 B 0x62 (wrote_sound _ 1 A 0x61 (map_sound _ 1 A 2 false one refl)))
+    batch_sound limit _ (to (B ∷ []) 1) [] (wrote_sound _ 1 B 0x62 (wrote_sound _ 1 A 0x61 (map_sound _ 1 A 2 false one refl)))
 
 one_of_each_sound : IsSound one_of_each
 one_of_each_sound = pin_sound _ 1 C (wrote_sound _ 1 C 0x61 (access_sound _ [] (Read 1 A 1) (map_sound one_process 1 A 3 false one_sound refl))) refl

@@ -1,5 +1,5 @@
 -- Runs and batches: one request after another.
-use Rattle.std.specs.Prelude.{◌≡◌, ◌⊎◌, Bool, ℕ, ◌+◌, ◌-◌, ◌^◌, min, ℤ, pos, ◌||◌, List, [], ◌∷◌, ◌++◌, map, length, count_by, slice_set}
+use Rattle.std.specs.Prelude.{◌≡◌, Bool, true, ℕ, ◌+◌, ◌-◌, ◌^◌, min, ℤ, pos, ◌||◌, List, [], ◌∷◌, ◌++◌, map, length, count_by, slice_set}
 use Rattle.std.specs.List.{fold, AllByRecursion, filter}
 use Rattle.std.specs.Ordering.{int_eq}
 use Rattle.nm_types.specs.declared.errno.Errno.TheVariants.{Enomem, Ebusy}
@@ -15,7 +15,7 @@ use Rattle.nm_model.specs.definitions.Status.{code, status_or_move}
 use Rattle.nm_types.specs.declared.taken.Taken.{Taken}
 use Rattle.nm_model.specs.definitions.Touch.{Access, AccessAnswer, all_in_flight}
 use Rattle.std.specs.Prelude.{◌==◌}
-use Rattle.nm_model.specs.definitions.Cut.{Request, Stretch, cut}
+use Rattle.nm_model.specs.definitions.Cut.{Request, Stretch, cut_within}
 
 -- the state after a request, its status, and its move if there is one
 pub record Decision : Type 0 where
@@ -79,19 +79,14 @@ total_after total n = min (total + n) (2 ^ 64 - 1)
 abbrev pub with_counts : State → ℕ → ℕ → State
 with_counts s moved failed = record s { moved = total_after s.moved moved; failed = total_after s.failed failed }
 
--- a request by address with this `all`: whether it moves a page that other processes also see
-abbrev pub IsByAddress : Bool → Wanted → Type 0
-IsByAddress all (Spot pid v b) = b ≡ all
-IsByAddress all (Whole page) = ⊥
+-- whether a request moves a page even if other processes see it
+abbrev pub moves_all : Wanted → Bool
+moves_all (Spot pid v all) = all
+moves_all (Whole page) = true
 
--- a request by page
-abbrev pub IsByPage : Wanted → Type 0
-IsByPage (Spot pid v all) = ⊥
-IsByPage (Whole page) = Unit {0}
-
--- all requests of a run are by address with one `all`, or all are by page
+-- requests with one `all`: all of them move pages that other processes see, as requests by page do, or none does
 abbrev pub HasOneAll : List Wanted → Type 0
-HasOneAll ws = ((all : Bool) × AllByRecursion (IsByAddress all) ws) ⊎ AllByRecursion IsByPage ws
+HasOneAll ws = (all : Bool) × AllByRecursion (λ w. moves_all w ≡ all) ws
 
 -- the state after a run or a batch, the statuses and the answers
 pub record Ran : Type 0 where
@@ -121,9 +116,9 @@ runs_from k s (r ∷ rs) accesses =
     let rest = runs_from (k + 1) now.state rs accesses in
     record { state = rest.state; statuses = now.statuses ++ rest.statuses; answers = now.answers ++ rest.answers }
 
--- a batch, with accesses by the number of their run
-abbrev pub batch : State → List Request → List (ℕ × Access) → Ran
-batch s requests accesses = runs_from 0 s (cut requests) accesses
+-- a batch under a limit: its runs one after another, with accesses by the number of their run
+abbrev pub batch : ℕ → State → List Request → List (ℕ × Access) → Ran
+batch limit s requests accesses = runs_from 0 s (cut_within limit requests) accesses
 
 -- the answer of a batch
 abbrev pub answer_of : Ran → ℕ

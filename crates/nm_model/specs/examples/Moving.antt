@@ -2,11 +2,11 @@
 use Rattle.std.specs.Prelude.{◌≡◌, pos, negsuc, [], ◌∷◌, ◌++◌, map, Some}
 use Rattle.nm_model.specs.definitions.Touch.{read, Bytes}
 use Rattle.nm_model.specs.definitions.Run.{Ran, batch}
-use Rattle.nm_model.specs.examples.{A, B, C, D, E, three_pages, six_pages, seven_pages, to, frame_at, told}
+use Rattle.nm_model.specs.examples.{A, B, C, D, E, limit, three_pages, six_pages, seven_pages, to, frame_at, told}
 
 -- three pages go to the other node ...
 abbrev pub three_moved : Ran
-three_moved = batch three_pages (to (A ∷ B ∷ C ∷ []) 1) []
+three_moved = batch limit three_pages (to (A ∷ B ∷ C ∷ []) 1) []
 
 -- their old frames are free at the end, in the order of the moves
 abbrev pub ThreePagesMove : Type 0
@@ -27,11 +27,11 @@ MovedPageReads = (read three_moved.state 1 B 2).answer ≡ Bytes (0x62 ∷ 0x00 
 
 -- a batch without requests has no runs
 abbrev pub EmptyBatchDoesNothing : Type 0
-EmptyBatchDoesNothing = batch three_pages [] [] ≡ record { state = three_pages; statuses = []; answers = [] }
+EmptyBatchDoesNothing = batch limit three_pages [] [] ≡ record { state = three_pages; statuses = []; answers = [] }
 
 -- requests for two addresses of one page: it moves once
 abbrev pub one_page_twice : Ran
-one_page_twice = batch three_pages (to (A ∷ 0x10fff ∷ []) 1) []
+one_page_twice = batch limit three_pages (to (A ∷ 0x10fff ∷ []) 1) []
 
 -- both requests have the status of the move
 abbrev pub OnePageTwiceMovesOnce : Type 0
@@ -48,7 +48,7 @@ OnePageTwiceMovesOnce =
 
 -- two frames are free for four pages; the frames left become free only after the run
 abbrev pub shortage_of_frames : Ran
-shortage_of_frames = batch six_pages (to (A ∷ B ∷ C ∷ D ∷ []) 1) []
+shortage_of_frames = batch limit six_pages (to (A ∷ B ∷ C ∷ D ∷ []) 1) []
 
 -- two pages move, and two stay for lack of a frame
 abbrev pub ShortageStopsTwoOfFour : Type 0
@@ -65,7 +65,7 @@ ShortageStopsTwoOfFour =
 
 -- one page goes to a node, and another comes back into its frame
 abbrev pub there_and_back : Ran
-there_and_back = batch seven_pages (to (A ∷ []) 1 ++ to (E ∷ []) 0) []
+there_and_back = batch limit seven_pages (to (A ∷ []) 1 ++ to (E ∷ []) 0) []
 
 -- the second run takes the frame that the first left
 abbrev pub LaterRunTakesFrameOfEarlier : Type 0
@@ -76,7 +76,7 @@ LaterRunTakesFrameOfEarlier =
 
 -- in the other order the first run finds no free frame
 abbrev pub back_and_there : Ran
-back_and_there = batch seven_pages (to (E ∷ []) 0 ++ to (A ∷ []) 1) []
+back_and_there = batch limit seven_pages (to (E ∷ []) 0 ++ to (A ∷ []) 1) []
 
 -- the frame that the second run leaves comes too late for the first
 abbrev pub EarlierRunFindsNone : Type 0
@@ -87,7 +87,7 @@ EarlierRunFindsNone =
 
 -- one page goes to a node and, in the next run of the batch, home again
 abbrev pub home_again : Ran
-home_again = batch three_pages (to (A ∷ []) 1 ++ to (A ∷ []) 0) []
+home_again = batch limit three_pages (to (A ∷ []) 1 ++ to (A ∷ []) 0) []
 
 -- it comes back to a different frame
 abbrev pub PageGoesAndComesHome : Type 0

@@ -3,11 +3,11 @@ use Rattle.std.specs.Prelude.{◌≡◌, pos, negsuc, true, [], ◌∷◌, map, 
 use Rattle.nm_model.specs.definitions.Seen.{users}
 use Rattle.nm_model.specs.definitions.Touch.{read, Bytes}
 use Rattle.nm_model.specs.definitions.Run.{Ran, batch}
-use Rattle.nm_model.specs.examples.{two_addresses, seen_by_two, requests, to, frame_at, told}
+use Rattle.nm_model.specs.examples.{limit, two_addresses, seen_by_two, requests, to, frame_at, told}
 
 -- two addresses of one process are not sharing
 abbrev pub both_addresses : Ran
-both_addresses = batch two_addresses (to (0x20000 ∷ 0x30000 ∷ []) 1) []
+both_addresses = batch limit two_addresses (to (0x20000 ∷ 0x30000 ∷ []) 1) []
 
 -- the page moves once, and both addresses show it in its new frame
 abbrev pub TwoAddressesAreOneProcess : Type 0
@@ -27,7 +27,7 @@ TwoAddressesAreOneProcess =
 abbrev pub SharedPageStays : Type 0
 SharedPageStays =
     (users seen_by_two.processes (record { segment = 0; index = 0 }) ≡ 1 ∷ 2 ∷ [])
-    × (told (batch seen_by_two (to (0x20000 ∷ []) 1) [])
+    × (told (batch limit seen_by_two (to (0x20000 ∷ []) 1) [])
     ≡ record {
       answer = 0;
       statuses = negsuc 12 ∷ [];
@@ -38,11 +38,11 @@ SharedPageStays =
 
 -- ... unless it is on the target already
 abbrev pub SharedPageIsOnTarget : Type 0
-SharedPageIsOnTarget = (batch seen_by_two (to (0x20000 ∷ []) 0) []).statuses ≡ pos 0 ∷ []
+SharedPageIsOnTarget = (batch limit seen_by_two (to (0x20000 ∷ []) 0) []).statuses ≡ pos 0 ∷ []
 
 -- with MPOL_MF_MOVE_ALL it moves for both
 abbrev pub moved_for_both : Ran
-moved_for_both = batch seen_by_two (requests true (0x20000 ∷ []) 1) []
+moved_for_both = batch limit seen_by_two (requests true (0x20000 ∷ []) 1) []
 
 -- both see it in its new frame, with its byte
 abbrev pub SharedPageMovesForBoth : Type 0

@@ -7,13 +7,13 @@ use Rattle.nm_model.specs.definitions.Touch.{read, Read, Write, Bytes, Done, Hel
 use Rattle.nm_model.specs.definitions.Run.{Ran, batch}
 use Rattle.nm_model.specs.definitions.Effect.{pin, unpin, unmap, exit, map_new}
 use Rattle.nm_model.specs.definitions.Effect.{pin_refusal, unpin_refusal, unmap_refusal, exit_refusal}
-use Rattle.nm_model.specs.examples.{A, B, C, D, E, three_pages, attached_by_two, four_of_five, to, frame_at, told, one_process, wrote}
+use Rattle.nm_model.specs.examples.{A, B, C, D, E, limit, three_pages, attached_by_two, four_of_five, to, frame_at, told, one_process, wrote}
 
 -- while a page moves, a read of it is held, and other pages are read and written; the frame that it leaves is not free
 -- yet
 abbrev pub while_one_moves : Ran
 while_one_moves =
-    batch four_of_five (to (A ∷ []) 1) ((0, Read 1 A 1) ∷ (0, Read 1 B 1) ∷ (0, Write 1 E (0x65 ∷ [])) ∷ [])
+    batch limit four_of_five (to (A ∷ []) 1) ((0, Read 1 A 1) ∷ (0, Read 1 B 1) ∷ (0, Write 1 E (0x65 ∷ [])) ∷ [])
 
 -- the new page takes the frame after the one that the move took
 abbrev pub OnlyTheMovingPageIsHeld : Type 0
@@ -24,6 +24,15 @@ OnlyTheMovingPageIsHeld =
     × (map (frame_at while_one_moves.state 1) (A ∷ B ∷ C ∷ D ∷ E ∷ [])
     ≡ Some 4 ∷ Some 1 ∷ Some 2 ∷ Some 3 ∷ Some 5 ∷ [])
 
+-- an access waits for the pages of its own run alone: under a limit of 1 two pages move in two runs, and the first is
+-- read while the second moves
+abbrev pub OnlyTheRunsOwnPagesAreHeld : Type 0
+OnlyTheRunsOwnPagesAreHeld =
+    ((batch limit four_of_five (to (A ∷ B ∷ []) 1) ((0, Read 1 A 1) ∷ (0, Read 1 B 1) ∷ [])).answers
+    ≡ (Held ∷ Held ∷ []) ∷ [])
+    × ((batch 1 four_of_five (to (A ∷ B ∷ []) 1) ((1, Read 1 A 1) ∷ (1, Read 1 B 1) ∷ [])).answers
+    ≡ [] ∷ (Bytes (0x61 ∷ []) ∷ Held ∷ []) ∷ [])
+
 -- of three private pages the first was read, the second not touched, and the third written and pinned
 abbrev pub one_of_each : State
 one_of_each = pin (wrote (read (map_new one_process 1 A 3 false) 1 A 1).state 1 C 0x61) 1 C
@@ -31,7 +40,7 @@ one_of_each = pin (wrote (read (map_new one_process 1 A 3 false) 1 A 1).state 1 
 -- no area, the page of zeros, nothing yet, and a pin; but a pinned page may be on the target already
 abbrev pub EachHasItsStatus : Type 0
 EachHasItsStatus =
-    (told (batch one_of_each (to (0x50000 ∷ A ∷ B ∷ C ∷ []) 1) [])
+    (told (batch limit one_of_each (to (0x50000 ∷ A ∷ B ∷ C ∷ []) 1) [])
     ≡ record {
       answer = 1;
       statuses = code Efault ∷ code Efault ∷ code Enoent ∷ code Ebusy ∷ [];
@@ -39,7 +48,7 @@ EachHasItsStatus =
       moved = 0;
       failed = 1;
     })
-    × ((batch one_of_each (to (C ∷ []) 0) []).statuses ≡ pos 0 ∷ [])
+    × ((batch limit one_of_each (to (C ∷ []) 0) []).statuses ≡ pos 0 ∷ [])
     × (map code (Efault ∷ Enoent ∷ Ebusy ∷ []) ≡ negsuc 13 ∷ negsuc 1 ∷ negsuc 15 ∷ [])
 
 -- three pages, the second of which has a pin

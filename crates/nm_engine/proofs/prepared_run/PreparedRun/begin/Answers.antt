@@ -208,9 +208,9 @@ returns-clause-due g c d pending =
     (subst (λ (x : FramesView). CanDo (all_moved i.spaces moves).place x.frames d) (sym gone) can.0)
 
 pub returns-clause-event : goal.returns-clause-event
-returns-clause-event g c m target wanted all p rest alike ready at plan taken =
+returns-clause-event g c m target wanted p rest alike ready at plan taken =
     let moves = c.args.moves.now in
-    begins {A = g.row.A.Denot} m _ c.take_out-frames.result.1.items target wanted all p
+    begins {A = g.row.A.Denot} m _ c.take_out-frames.result.1.items target wanted p
     (λ store pid v.
         c.hold.ensures.entries store pid v ∙ ap (λ (x : MidRun). option_map (held_by (map (laid_for store) moves)) (entry_here (spaces_of x.state) pid v)) c.self.view_is
         ∙ ap (λ (s : State). option_map (held_by (map (laid_for store) moves)) (entry_here (spaces_of s) pid v)) (sym at))
