@@ -1,3 +1,4 @@
 pub mod Job
 pub mod Populated
+pub mod Stores
 pub mod Zeros

@@ -4,19 +4,19 @@ use Rattle.std.specs.List.{AllByRecursion}
 use Rattle.nm_frames.specs.declared.job.CopyJob.{CopyJob}
 use Rattle.nm_frames.specs.Populated.{IsPopulated}
 use Rattle.nm_memory.specs.declared.frames.FrameParts.{FrameParts}
-use Rattle.nm_memory.specs.views.Frames.{FramesView, HasAllFrames, HasAllPlaces}
+use Rattle.nm_memory.specs.views.Frames.{FramesView, HasAllFrames, HasAllPlaces, in_memory}
 
 module _ {A : Type 0} where
   -- parts as contracts see them
   abbrev pub shown : FrameParts A → ℕ → FramesView
-  shown p room = record { layout = p.geometry; frames = p.frames; free = p.nodes.lists; vacated = p.vacated.items; room = room }
+  shown p room = record { layout = p.geometry; frames = in_memory p.frames; free = p.nodes.lists; vacated = p.vacated.items; room = room }
 
   -- with a list of jobs
   abbrev pub shown_with : FrameParts A → Vec (CopyJob A) A → FramesView
   shown_with p jobs = shown p (min (vec_capacity p.vacated) (vec_capacity jobs))
 
   abbrev pub AreFrames : FrameParts A → Vec (CopyJob A) A → Type 0
-  AreFrames p jobs = (p.nodes.sizes ≡ p.geometry.sizes) × HasAllFrames (shown_with p jobs) × (jobs.items ≡ []) × AllByRecursion (IsPopulated p.frames) p.vacated.items
+  AreFrames p jobs = (p.nodes.sizes ≡ p.geometry.sizes) × HasAllFrames (shown_with p jobs) × (jobs.items ≡ []) × AllByRecursion (IsPopulated (in_memory p.frames)) p.vacated.items
 
   pub seen : {p q : FrameParts A} {v : FramesView} (jobs : Vec (CopyJob A) A) → p ≡ q → shown_with q jobs ≡ v → shown_with p jobs ≡ v
   seen {p = p} {q = q} {v = v} jobs is e = subst (λ (x : FrameParts A). shown_with x jobs ≡ v) (sym is) e

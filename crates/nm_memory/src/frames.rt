@@ -13,7 +13,7 @@ ghost use Rattle.nm_model.specs.definitions.Run.{frames_left};
 ghost use Rattle.nm_model.specs.definitions.Frames.{IsHome, bytes_of, overwrite};
 ghost use Rattle.nm_model.specs.definitions.Sound.{is_audited, numbered};
 ghost use Rattle.nm_model.specs.definitions.Frames.{all_frames};
-ghost use Rattle.nm_memory.specs.views.Frames.{HasAllFrames, KeepsBytes, free_on, pool_of, all_freed, CanFree, CanReturn, with_freed};
+ghost use Rattle.nm_memory.specs.views.Frames.{HasAllFrames, KeepsBytes, free_on, pool_of, all_freed, CanFree, CanReturn, with_freed, in_memory};
 ghost use Rattle.nm_frames.specs.Populated.{IsPopulated};
 ghost use Rattle.nm_model.specs.definitions.Memory.{stretch_of};
 
@@ -53,13 +53,13 @@ impl<A: Allocator + Copy> Model for Frames<A> {
     ghost use Rattle.std.specs.Prelude.{◌≡◌, [], min, vec_capacity};
     ghost use Rattle.std.specs.List.{AllByRecursion};
     ghost use Rattle.nm_frames.specs.Populated.{IsPopulated};
-    ghost use Rattle.nm_memory.specs.views.Frames.{FramesView, HasAllFrames};
+    ghost use Rattle.nm_memory.specs.views.Frames.{FramesView, HasAllFrames, in_memory};
 
     ghost Value = { FramesView };
 
     ghost view = { λ s. record {
       layout = s.parts.value.geometry;
-      frames = s.parts.value.frames;
+      frames = in_memory s.parts.value.frames;
       free = s.parts.value.nodes.lists;
       vacated = s.parts.value.vacated.items;
       room = min (vec_capacity s.parts.value.vacated) (vec_capacity s.jobs);
@@ -67,11 +67,11 @@ impl<A: Allocator + Copy> Model for Frames<A> {
 
     ghost invariant = { λ s. (s.parts.value.nodes.sizes ≡ s.parts.value.geometry.sizes) × HasAllFrames (record {
       layout = s.parts.value.geometry;
-      frames = s.parts.value.frames;
+      frames = in_memory s.parts.value.frames;
       free = s.parts.value.nodes.lists;
       vacated = s.parts.value.vacated.items;
       room = min (vec_capacity s.parts.value.vacated) (vec_capacity s.jobs);
-    }) × (s.jobs.items ≡ []) × AllByRecursion (IsPopulated s.parts.value.frames) s.parts.value.vacated.items };
+    }) × (s.jobs.items ≡ []) × AllByRecursion (IsPopulated (in_memory s.parts.value.frames)) s.parts.value.vacated.items };
 }
 
 impl<A: Allocator + Copy> Frames<A> {
@@ -83,7 +83,7 @@ impl<A: Allocator + Copy> Frames<A> {
         ensures vacated { IfOk result (λ s. s.vacated ≡ []) }
         ensures shelf { IfOk result (λ s. HasAllFrames s) }
     {
-        let frames = FrameStore::new(alloc, geometry.frame_count())?;
+        let frames = FrameStore::without_buffers(alloc, geometry.frame_count())?;
         let nodes = NodePool::new(alloc, &geometry)?;
         let parts = Box::new(
             alloc,
@@ -417,13 +417,13 @@ fn populate<A: Allocator + Copy>(
     alloc: A,
     frame: FrameId,
 ) -> Result<(), AllocError>
-    requires frame { frame < length frames.old }
-    requires home { (f : ℕ) → f < length frames.old → IsHome frames.old f }
-    ensures kept { KeepsBytes frames.old frames.new }
-    ensures populated { OnOk result (IsPopulated frames.new frame) }
-    ensures absent { OnErr result (IsPopulated frames.old frame → ⊥) }
+    requires frame { frame < length (in_memory frames.old) }
+    requires home { (f : ℕ) → f < length (in_memory frames.old) → IsHome (in_memory frames.old) f }
+    ensures kept { KeepsBytes (in_memory frames.old) (in_memory frames.new) }
+    ensures populated { OnOk result (IsPopulated (in_memory frames.new) frame) }
+    ensures absent { OnErr result (IsPopulated (in_memory frames.old) frame → ⊥) }
 {
-    if !frames.is_populated(frame) {
+    if !frames.has_buffer(frame) {
         frames.populate(alloc, frame)?;
         populate_behind(frames, alloc, frame);
     }
@@ -433,8 +433,8 @@ fn populate<A: Allocator + Copy>(
 /// Gives the frames behind a frame their bytes in memory, as many as are populated together, unless the host is out of
 /// memory.
 fn populate_behind<A: Allocator + Copy>(frames: &mut FrameStore<A>, alloc: A, frame: FrameId)
-    requires { (f : ℕ) → f < length frames.old → IsHome frames.old f }
-    ensures { KeepsBytes frames.old frames.new }
+    requires { (f : ℕ) → f < length (in_memory frames.old) → IsHome (in_memory frames.old) f }
+    ensures { KeepsBytes (in_memory frames.old) (in_memory frames.new) }
 {
     for step in 1..POPULATED_TOGETHER {
         let next = FrameId::new(frame.number().saturating_add(step));
@@ -454,13 +454,13 @@ fn populate_each<A: Allocator + Copy>(
     alloc: A,
     moves: &[Taken],
 ) -> Result<(), AllocError>
-    requires frames { AllByRecursion (λ frame. frame < length frames.old) (frames_taken moves.now) }
-    requires home { (f : ℕ) → f < length frames.old → IsHome frames.old f }
-    ensures kept { KeepsBytes frames.old frames.new }
-    ensures populated { OnOk result (AllByRecursion (IsPopulated frames.new) (frames_taken moves.now)) }
+    requires frames { AllByRecursion (λ frame. frame < length (in_memory frames.old)) (frames_taken moves.now) }
+    requires home { (f : ℕ) → f < length (in_memory frames.old) → IsHome (in_memory frames.old) f }
+    ensures kept { KeepsBytes (in_memory frames.old) (in_memory frames.new) }
+    ensures populated { OnOk result (AllByRecursion (IsPopulated (in_memory frames.new)) (frames_taken moves.now)) }
     ensures asked { OnErr result (0 < length moves.now) }
     ensures absent { OnErr result
-        (AllByRecursion (IsPopulated frames.old) (frames_taken moves.now) → ⊥) }
+        (AllByRecursion (IsPopulated (in_memory frames.old)) (frames_taken moves.now) → ⊥) }
 {
     for taken in moves {
         populate(frames, alloc, taken.to)?;
@@ -554,10 +554,10 @@ fn copy_bytes<A: Allocator + Copy>(
     len: usize,
     bytes: &mut Vec<u8, A>,
 )
-    requires frame { IsHome frames.now frame }
+    requires frame { IsHome (in_memory frames.now) frame }
     requires inside { at + len ≤ 4096 }
     requires room { vec_len bytes.old + len ≤ vec_capacity bytes.old }
-    ensures { bytes.new.items ≡ bytes.old.items ++ stretch_of (bytes_of frames.now frame) at len }
+    ensures { bytes.new.items ≡ bytes.old.items ++ stretch_of (bytes_of (in_memory frames.now) frame) at len }
 {
     for k in at..at + len {
         bytes.push_reserved(frames.byte(frame, k));

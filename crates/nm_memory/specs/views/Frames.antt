@@ -1,21 +1,30 @@
 -- The frames of a machine: the pages in them, the free ones, and their bytes.
-use Rattle.std.specs.Prelude.{◌≡◌, ℕ, ◌<◌, false, sum, List, [], ◌∷◌, ◌++◌, length, slice_index_or}
-use Rattle.std.specs.List.{fold}
+use Rattle.std.specs.Prelude.{◌≡◌, ℕ, ◌<◌, Bool, false, if◌then◌else◌, Option, option_map, sum, List, [], ◌∷◌, ◌++◌, length, map, slice_index_or}
+use Rattle.std.specs.List.{fold, zip}
 use Rattle.nm_types.specs.Layout.{Layout, node_count, frame_count, owner}
 use Rattle.nm_types.specs.Nodes.{is_in}
 use Rattle.nm_model.specs.definitions.Frames.{Store, IsHome, Pool, bytes_of, list_of, appended}
 use Rattle.nm_frames.specs.Populated.{IsPopulated}
+use Rattle.nm_frames.specs.Stores.{StoreView}
 
 -- frames without their pages
 pub record FramesView : Type 0 where
   pub layout : Layout
-  -- the bytes of each frame
+  -- the bytes of each frame that are in memory: none before its first use
   pub frames : Store
   -- each node's free frames, front first
   pub free : List (List ℕ)
   -- the frames that a run's pages have left, and how many there is room for
   pub vacated : List ℕ
   pub room : ℕ
+
+-- the bytes of a frame that are in memory: none while it has no buffer
+abbrev pub bytes_in_memory : Option (List ℕ) × Bool → Option (List ℕ)
+bytes_in_memory (bytes, has_buffer) = if has_buffer then bytes else option_map (λ _. []) bytes
+
+-- the bytes of all frames of a store that are in memory
+abbrev pub in_memory : StoreView → Store
+in_memory store = map bytes_in_memory (zip store.bytes store.buffers)
 
 -- each node has a list, and each frame a buffer, and all buffers are home
 pub record HasAllFrames (k : FramesView) : Type 0 where

@@ -7,7 +7,7 @@ ghost use Rattle.nm_frames.specs.Populated.{IsPopulated};
 ghost use Rattle.nm_model.specs.definitions.Frames.{IsHome, bytes_of, overwrite};
 ghost use Rattle.nm_model.specs.definitions.Memory.{stretch_of};
 ghost use Rattle.nm_memory.specs.views.Copies.{CanCopy, HasBoth, emptied, jobs_of, refilled, CanRefill};
-ghost use Rattle.nm_memory.specs.views.Frames.{HasAllPlaces};
+ghost use Rattle.nm_memory.specs.views.Frames.{HasAllPlaces, in_memory};
 
 use crate::frames::{FrameParts, Frames, copy_bytes};
 use nm_frames::{CopyJob, FrameStore};
@@ -25,13 +25,13 @@ pub struct FramesInFlight<A: Allocator + Copy> {
 
 impl<A: Allocator + Copy> Model for FramesInFlight<A> {
     ghost use Rattle.std.specs.Prelude.{◌≡◌, vec_capacity};
-    ghost use Rattle.nm_memory.specs.views.Frames.{FramesView, HasAllPlaces};
+    ghost use Rattle.nm_memory.specs.views.Frames.{FramesView, HasAllPlaces, in_memory};
 
     ghost Value = { FramesView };
 
     ghost view = { λ s. record {
       layout = s.parts.value.geometry;
-      frames = s.parts.value.frames;
+      frames = in_memory s.parts.value.frames;
       free = s.parts.value.nodes.lists;
       vacated = s.parts.value.vacated.items;
       room = vec_capacity s.parts.value.vacated;
@@ -39,7 +39,7 @@ impl<A: Allocator + Copy> Model for FramesInFlight<A> {
 
     ghost invariant = { λ s. (s.parts.value.nodes.sizes ≡ s.parts.value.geometry.sizes) × HasAllPlaces (record {
       layout = s.parts.value.geometry;
-      frames = s.parts.value.frames;
+      frames = in_memory s.parts.value.frames;
       free = s.parts.value.nodes.lists;
       vacated = s.parts.value.vacated.items;
       room = vec_capacity s.parts.value.vacated;
@@ -105,12 +105,12 @@ pub(super) fn take_out_each<A: Allocator + Copy>(
     moves: &[Taken],
     jobs: &mut Vec<CopyJob<A>, A>,
 )
-    requires can { CanCopy frames.old moves.now }
-    requires populated { AllByRecursion (HasBoth frames.old) moves.now }
+    requires can { CanCopy (in_memory frames.old) moves.now }
+    requires populated { AllByRecursion (HasBoth (in_memory frames.old)) moves.now }
     requires room { vec_len jobs.old + length moves.now ≤ vec_capacity jobs.old }
-    ensures frames { frames.new ≡ emptied frames.old moves.now }
+    ensures frames { in_memory frames.new ≡ emptied (in_memory frames.old) moves.now }
     ensures jobs { jobs.new.items
-        ≡ jobs.old.items ++ jobs_of (vec_len jobs.old) frames.old moves.now }
+        ≡ jobs.old.items ++ jobs_of (vec_len jobs.old) (in_memory frames.old) moves.now }
     ensures room { vec_capacity jobs.new ≡ vec_capacity jobs.old }
 {
     for taken in moves {
@@ -127,8 +127,8 @@ pub(super) fn take_out_each<A: Allocator + Copy>(
 
 /// Puts the bytes of both frames of each job back home, and empties the list.
 fn put_back_each<A: Allocator + Copy>(frames: &mut FrameStore<A>, jobs: &mut Vec<CopyJob<A>, A>)
-    requires { CanRefill frames.old jobs.old.items }
-    ensures frames { frames.new ≡ refilled frames.old jobs.old.items }
+    requires { CanRefill (in_memory frames.old) jobs.old.items }
+    ensures frames { in_memory frames.new ≡ refilled (in_memory frames.old) jobs.old.items }
     ensures empty { jobs.new.items ≡ [] }
     ensures room { vec_capacity jobs.new ≡ vec_capacity jobs.old }
 {

@@ -1,5 +1,5 @@
-use Rattle.std.proofs.Common.{◌≡◌, [], Some, replicate}
+use Rattle.std.proofs.Common.{◌≡◌, true, Some, replicate}
 use Rattle.nm_frames.proofs.store.FrameStore.new.Given as goal
 
 abbrev pub invariant-loop : goal.invariant-loop
-invariant-loop g l = l.store.items ≡ replicate l.counter (Some [])
+invariant-loop g l = l.slots.items ≡ replicate l.counter (record { bytes = Some (replicate 4096 0); has_buffer = true })

@@ -1,12 +1,9 @@
-use Rattle.std.proofs.Common.{◌∙◌, eq-eqb, sym}
-use Rattle.std.specs.Prelude.{Result, Ok, Err, OnErr}
-use Rattle.nm_types.proofs.Cases.{true_false}
+use Rattle.std.specs.Prelude.{true}
+use Rattle.std.proofs.Common.{ap, ◌∙◌, slice_set}
+use Rattle.nm_frames.proofs.Stores.{buffer_set}
 use Rattle.nm_frames.proofs.store.FrameStore.populate.Goals as goal
 
--- what holds anyway holds after an error
-on_err : {T E P : Type 0} (r : Result T E) → P → OnErr r P
-on_err (Ok x) p = tt
-on_err (Err e) p = p
-
-pub returns-in_err-zeros-clause-absent : goal.returns-in_err-zeros-clause-absent
-returns-in_err-zeros-clause-absent g c = on_err c.from_residual.result (λ full. true_false (sym (eq-eqb _ _ full) ∙ sym c.is_populated.ensures ∙ c.if-is_populated.false))
+pub returns-clause-ok : goal.returns-clause-ok
+returns-clause-ok g c =
+    buffer_set c.self.inside.frames.items c.index.result c.index_mut.result.now c.fill.new.self c.args.self.now c.index_mut.ensures.value c.fill.ensures c.self.view_is
+    ∙ ap (λ k. record (c.args.self.now) { buffers = slice_set c.args.self.now.buffers k true }) c.index.ensures

@@ -2,7 +2,7 @@ use Rattle.std.proofs.Common.{◌≡◌, ℕ, List, [], min, length, vec_capacit
 use Rattle.std.specs.List.{AllByRecursion}
 use Rattle.nm_frames.specs.Populated.{IsPopulated}
 use Rattle.nm_model.specs.definitions.Frames.{Pool}
-use Rattle.nm_memory.specs.views.Frames.{FramesView, CanFree, pool_of, with_freed, all_freed}
+use Rattle.nm_memory.specs.views.Frames.{FramesView, CanFree, pool_of, with_freed, all_freed, in_memory}
 use Rattle.nm_memory.proofs.FreeLists.Freed.{lists_stay, sizes_stay}
 use Rattle.nm_memory.proofs.Boxed.{seen, held}
 use Rattle.nm_memory.proofs.frames.Frames.free_vacated.Goals as goal
@@ -18,7 +18,7 @@ invariant_of-self g c =
         home = own.1.home;
       },
       own.2,
-      subst (AllByRecursion (IsPopulated c.deref_mut-parts.result.now.frames)) (sym c.clear.ensures.items) tt,
+      subst (AllByRecursion (IsPopulated (in_memory c.deref_mut-parts.result.now.frames))) (sym c.clear.ensures.items) tt,
     )
 
 pub free_frames-requires : goal.free_frames-requires
@@ -34,7 +34,7 @@ returns-clause-freed g c =
     let own = held c.self.inside.jobs c.deref_mut-parts.ensures.value c.self.invariant in
     let shown = seen c.self.inside.jobs c.deref_mut-parts.ensures.value c.self.view_is in
     let k = c.deref_mut-parts.result.now in
-    let fields : Pool → List ℕ → ℕ → FramesView = λ p vacated room. record { layout = k.geometry; frames = k.frames; free = p.lists; vacated = vacated; room = min room (vec_capacity c.self.inside.jobs) } in
+    let fields : Pool → List ℕ → ℕ → FramesView = λ p vacated room. record { layout = k.geometry; frames = in_memory k.frames; free = p.lists; vacated = vacated; room = min room (vec_capacity c.self.inside.jobs) } in
     let freed : c.free_frames.new.nodes ≡ with_freed k.nodes k.vacated.items = c.free_frames.ensures ∙ ap (λ frames. with_freed k.nodes frames) c.as_slice.ensures.value in
     let sized = ap (λ (sizes : List ℕ). with_freed (record { sizes = sizes; lists = k.nodes.lists }) k.vacated.items) own.0 in
     let after : Pool = with_freed (record { sizes = k.geometry.sizes; lists = k.nodes.lists }) k.vacated.items in

@@ -3,7 +3,7 @@ use Rattle.std.specs.List.{AllByRecursion}
 use Rattle.nm_frames.specs.Populated.{IsPopulated}
 use Rattle.nm_model.specs.definitions.Frames.{Pool}
 use Rattle.nm_model.specs.definitions.BeforeCopy.{frames_taken}
-use Rattle.nm_memory.specs.views.Frames.{FramesView, HasAllFrames, CanReturn, pool_of}
+use Rattle.nm_memory.specs.views.Frames.{FramesView, HasAllFrames, CanReturn, pool_of, in_memory}
 use Rattle.nm_memory.proofs.Shelves.{seen_node, list_set}
 use Rattle.nm_memory.proofs.Boxed.{seen, held}
 use Rattle.nm_memory.proofs.frames.Frames.give_back.Goals as goal
@@ -27,7 +27,7 @@ invariant_of-self g c =
       ap (λ (p : Pool). p.sizes) c.return_tos.ensures ∙ own.0,
       list_set _ c.deref_mut-parts.result.now.nodes c.return_tos.new.nodes c.args.node _ _ _ c.return_tos.ensures own.1.lists own.1,
       own.2,
-      subst (AllByRecursion (IsPopulated c.deref_mut-parts.result.now.frames)) (sym c.clear.ensures.items) tt,
+      subst (AllByRecursion (IsPopulated (in_memory c.deref_mut-parts.result.now.frames))) (sym c.clear.ensures.items) tt,
     )
 
 pub returns-clause-shelf : goal.returns-clause-shelf

@@ -3,7 +3,7 @@ use Rattle.std.specs.Prelude.{OnErr}
 use Rattle.std.specs.List.{AllByRecursion}
 use Rattle.nm_frames.specs.Populated.{IsPopulated}
 use Rattle.nm_model.specs.definitions.BeforeCopy.{frames_taken}
-use Rattle.nm_memory.specs.views.Frames.{FramesView, KeepsBytes}
+use Rattle.nm_memory.specs.views.Frames.{FramesView, KeepsBytes, in_memory}
 use Rattle.nm_memory.proofs.Shelves.{all_below, every_home, store_kept}
 use Rattle.nm_memory.proofs.Copies.Populated.{keeps_all}
 use Rattle.nm_memory.proofs.Boxed.{seen, held}
@@ -22,16 +22,16 @@ pub invariant_of-self : goal.invariant_of-self
 invariant_of-self g c =
     let own = held c.self.inside.jobs c.deref_mut-parts.ensures.value c.self.invariant in
     let kept = c.populate_each.ensures.kept in
-    (own.0, store_kept _ c.populate_each.new.frames kept own.1, own.2, keeps_all c.deref_mut-parts.result.now.vacated.items c.deref_mut-parts.result.now.frames c.populate_each.new.frames kept own.3)
+    (own.0, store_kept _ (in_memory c.populate_each.new.frames) kept own.1, own.2, keeps_all c.deref_mut-parts.result.now.vacated.items (in_memory c.deref_mut-parts.result.now.frames) (in_memory c.populate_each.new.frames) kept own.3)
 
 pub returns-clause-kept : goal.returns-clause-kept
-returns-clause-kept g c = subst (λ (v : FramesView). KeepsBytes v.frames c.populate_each.new.frames) (seen c.self.inside.jobs c.deref_mut-parts.ensures.value c.self.view_is) c.populate_each.ensures.kept
+returns-clause-kept g c = subst (λ (v : FramesView). KeepsBytes v.frames (in_memory c.populate_each.new.frames)) (seen c.self.inside.jobs c.deref_mut-parts.ensures.value c.self.view_is) c.populate_each.ensures.kept
 
 pub returns-clause-same : goal.returns-clause-same
-returns-clause-same g c = ap (λ (v : FramesView). record v { frames = c.populate_each.new.frames }) (seen c.self.inside.jobs c.deref_mut-parts.ensures.value c.self.view_is)
+returns-clause-same g c = ap (λ (v : FramesView). record v { frames = in_memory c.populate_each.new.frames }) (seen c.self.inside.jobs c.deref_mut-parts.ensures.value c.self.view_is)
 
 pub returns-clause-shelf : goal.returns-clause-shelf
-returns-clause-shelf g c = store_kept _ c.populate_each.new.frames c.populate_each.ensures.kept (held c.self.inside.jobs c.deref_mut-parts.ensures.value c.self.invariant).1
+returns-clause-shelf g c = store_kept _ (in_memory c.populate_each.new.frames) c.populate_each.ensures.kept (held c.self.inside.jobs c.deref_mut-parts.ensures.value c.self.invariant).1
 
 pub returns-clause-absent : goal.returns-clause-absent
 returns-clause-absent g c =

@@ -3,7 +3,7 @@ use Rattle.std.specs.Prelude.{slice_set}
 use Rattle.std.specs.List.{AllByRecursion}
 use Rattle.nm_frames.specs.Populated.{IsPopulated}
 use Rattle.nm_model.specs.definitions.Frames.{Pool, list_of}
-use Rattle.nm_memory.specs.views.Frames.{FramesView, HasAllFrames, free_on}
+use Rattle.nm_memory.specs.views.Frames.{FramesView, HasAllFrames, free_on, in_memory}
 use Rattle.nm_memory.proofs.Shelves.{seen_node, list_set}
 use Rattle.nm_memory.proofs.Copies.Populated.{all_joined}
 use Rattle.nm_memory.proofs.Boxed.{seen, held}
@@ -27,8 +27,8 @@ invariant_of-self g c =
       ap (λ (p : Pool). p.sizes) c.take_many.ensures.rest ∙ own.0,
       list_set _ c.deref_mut-parts.result.now.nodes c.take_many.new.self c.args.node _ _ _ c.take_many.ensures.rest own.1.lists own.1,
       own.2,
-      subst (AllByRecursion (IsPopulated c.deref_mut-parts.result.now.frames)) (sym c.take_many.ensures.taken)
-          (all_joined c.deref_mut-parts.result.now.frames c.deref_mut-parts.result.now.vacated.items (take c.args.count (list_of c.deref_mut-parts.result.now.nodes c.args.node)) own.3
+      subst (AllByRecursion (IsPopulated (in_memory c.deref_mut-parts.result.now.frames))) (sym c.take_many.ensures.taken)
+          (all_joined (in_memory c.deref_mut-parts.result.now.frames) c.deref_mut-parts.result.now.vacated.items (take c.args.count (list_of c.deref_mut-parts.result.now.nodes c.args.node)) own.3
           (subst (λ (v : FramesView). AllByRecursion (IsPopulated v.frames) (take c.args.count (free_on v c.args.node))) (sym shown) c.requires.populated)),
     )
 
@@ -41,7 +41,7 @@ returns-clause-taken g c =
     let n = c.args.count in
     let node = c.args.node in
     let fields : List (List ℕ) → List ℕ → ℕ → FramesView =
-    λ free vacated room. record { layout = k.geometry; frames = k.frames; free = free; vacated = vacated; room = min room (vec_capacity c.self.inside.jobs) } in
+    λ free vacated room. record { layout = k.geometry; frames = in_memory k.frames; free = free; vacated = vacated; room = min room (vec_capacity c.self.inside.jobs) } in
     let free = slice_set k.nodes.lists node (drop n (list_of k.nodes node)) in
     let vacated = k.vacated.items ++ take n (list_of k.nodes node) in
     ap (λ (p : Pool). fields p.lists c.take_many.new.taken.items (vec_capacity c.take_many.new.taken)) c.take_many.ensures.rest

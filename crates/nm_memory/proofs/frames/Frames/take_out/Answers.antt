@@ -4,7 +4,7 @@ use Rattle.std.specs.List.{AllByRecursion}
 use Rattle.nm_frames.specs.Populated.{IsPopulated}
 use Rattle.nm_model.specs.definitions.Frames.{Store}
 use Rattle.nm_memory.specs.views.Copies.{CanCopy, HasBoth, emptied, jobs_of}
-use Rattle.nm_memory.specs.views.Frames.{FramesView, HasAllFrames}
+use Rattle.nm_memory.specs.views.Frames.{FramesView, HasAllFrames, in_memory}
 use Rattle.nm_memory.proofs.Copies.Copied.{out_as_many}
 use Rattle.nm_memory.proofs.Boxed.{seen, held}
 use Rattle.nm_memory.proofs.frames.Frames.take_out.Goals as goal
@@ -31,7 +31,7 @@ invariant_of-result g c =
       own.0,
       record {
         lists = own.1.lists;
-        buffers = ap (λ (s : Store). length s) c.take_out_each.ensures.frames ∙ out_as_many c.args.moves.now c.deref_mut.result.now.frames ∙ own.1.buffers;
+        buffers = ap (λ (s : Store). length s) c.take_out_each.ensures.frames ∙ out_as_many c.args.moves.now (in_memory c.deref_mut.result.now.frames) ∙ own.1.buffers;
       },
     )
 
@@ -51,8 +51,8 @@ returns-clause-jobs g c =
     let moves = c.args.moves.now in
     let none = own.2 in
     let first : vec_len c.self.inside.jobs ≡ 0 = c.self.inside.jobs.ok.0 ∙ ap length none in
-    c.take_out_each.ensures.jobs ∙ ap (λ l. l ++ jobs_of {A = g.row.A.Denot} (vec_len c.self.inside.jobs) k.frames moves) none
-    ∙ ap (λ n. jobs_of {A = g.row.A.Denot} n k.frames moves) first
+    c.take_out_each.ensures.jobs ∙ ap (λ l. l ++ jobs_of {A = g.row.A.Denot} (vec_len c.self.inside.jobs) (in_memory k.frames) moves) none
+    ∙ ap (λ n. jobs_of {A = g.row.A.Denot} n (in_memory k.frames) moves) first
     ∙ ap (λ (v : FramesView). jobs_of {A = g.row.A.Denot} 0 v.frames moves) shown
 
 pub returns-clause-room : goal.returns-clause-room

@@ -1,7 +1,7 @@
 use Rattle.std.proofs.Common.{ℕ, List, ◌≤◌, ◌++◌, min, length, vec_capacity, ap, sym, subst, ◌∙◌, arith}
 use Rattle.std.specs.List.{AllByRecursion}
 use Rattle.nm_frames.specs.Populated.{IsPopulated}
-use Rattle.nm_memory.specs.views.Frames.{FramesView, HasAllFrames}
+use Rattle.nm_memory.specs.views.Frames.{FramesView, HasAllFrames, in_memory}
 use Rattle.nm_model.specs.definitions.Run.{frames_left}
 use Rattle.nm_memory.proofs.Boxed.{seen, held}
 use Rattle.nm_memory.proofs.frames.Frames.vacate_each.Goals as goal
@@ -16,7 +16,7 @@ invariant_of-self g c =
       own.0,
       record { lists = shelf.lists; buffers = shelf.buffers; home = shelf.home },
       own.2,
-      subst (AllByRecursion (IsPopulated k.frames)) (sym items) (subst (λ (v : FramesView). AllByRecursion (IsPopulated v.frames) (frames_left c.args.moves.now)) (sym shown) c.requires.populated),
+      subst (AllByRecursion (IsPopulated (in_memory k.frames))) (sym items) (subst (λ (v : FramesView). AllByRecursion (IsPopulated v.frames) (frames_left c.args.moves.now)) (sym shown) c.requires.populated),
     )
 
 pub returns-clause-populated : goal.returns-clause-populated
@@ -34,7 +34,7 @@ pub returns-clause-vacated : goal.returns-clause-vacated
 returns-clause-vacated g c =
     let k = c.deref_mut-parts.result.now in
     let moves = c.args.moves.now in
-    let fields : List ℕ → ℕ → FramesView = λ vacated room. record { layout = k.geometry; frames = k.frames; free = k.nodes.lists; vacated = vacated; room = min room (vec_capacity c.self.inside.jobs) } in
+    let fields : List ℕ → ℕ → FramesView = λ vacated room. record { layout = k.geometry; frames = in_memory k.frames; free = k.nodes.lists; vacated = vacated; room = min room (vec_capacity c.self.inside.jobs) } in
     let items = c.push_left.ensures.items ∙ ap (λ xs. xs ++ frames_left moves) c.clear.ensures.items in
     ap (λ vacated. fields vacated (vec_capacity c.push_left.new.vacated)) items
     ∙ ap (fields (frames_left moves)) (c.push_left.ensures.room ∙ c.clear.ensures.capacity)

@@ -5,12 +5,15 @@ use Rattle.std.specs.List.{AllByRecursion}
 use Rattle.std.proofs.Math.ListN.{drop_of_length-le}
 use Rattle.std.proofs.lemmas.List.{append-nil, get_or-set_other}
 use Rattle.nm_frames.specs.declared.job.CopyJob.{CopyJob}
-use Rattle.nm_frames.specs.Populated.{IsPopulated}
+use Rattle.nm_frames.specs.Stores.{StoreView, HasBuffer}
 use Rattle.nm_model.specs.definitions.Frames.{Store, IsHome, bytes_of}
 use Rattle.nm_types.specs.declared.taken.Taken.{Taken}
 use Rattle.nm_memory.specs.views.Copies.{without_both, CanCopy, HasBoth, emptied, jobs_of}
 use Rattle.nm_memory.proofs.Copies.Copied.{both_without}
 use Rattle.nm_laws.proofs.Lists.{drop_item}
+use Rattle.nm_memory.specs.views.Frames.{in_memory}
+use Rattle.nm_memory.proofs.InMemory as memory
+use Rattle.nm_memory.proofs.InMemory.{home, has_buffer, bytes_set}
 use Rattle.nm_memory.proofs.frames.in_flight.take_out_each.Goals as goal
 
 -- a frame is home as before where the bytes of another go out
@@ -24,37 +27,57 @@ home_beside store f q apart home = record {
 same_bytes : (store : Store) (f q : ℕ) → f ≢ q → bytes_of (slice_set store f None) q ≡ bytes_of store q
 same_bytes store f q apart = ap (λ (o : Option (List ℕ)). unwrap_or o []) (get_or-set_other store f q None None (λ e. apart (sym e)))
 
-pub take_out-source-requires-clause-populated : goal.take_out-source-requires-clause-populated
-take_out-source-requires-clause-populated g c =
-    let at = drop_item c.args.moves.now c.loop-taken.taken-index c.taken-item.result c.loop-taken-test.true c.taken-item.is in
-    (subst (AllByRecursion (HasBoth c.loop-taken.frames)) at c.loop-taken.invariant.populated).0.0
+-- what the frames of a move are before its bytes go out, and after those of the first
+module _ (store : StoreView) (t : Taken) where
+  abbrev Both : Type 0
+  Both = HasBoth (in_memory store) t
 
-pub take_out-target-requires-clause-populated : goal.take_out-target-requires-clause-populated
-take_out-target-requires-clause-populated g c =
-    let t = c.taken-item.result in
-    let at = drop_item c.args.moves.now c.loop-taken.taken-index t c.loop-taken-test.true c.taken-item.is in
-    let can = subst (CanCopy c.loop-taken.frames) at c.loop-taken.invariant.can in
-    let both = subst (AllByRecursion (HasBoth c.loop-taken.frames)) at c.loop-taken.invariant.populated in
-    subst (λ (s : Store). IsPopulated s t.to) (sym c.take_out-source.ensures.out) (ap (λ (bytes : List ℕ). length bytes) (same_bytes c.loop-taken.frames t.from t.to can.2) ∙ both.0.1)
+  source_out : Both → (mid : StoreView) → mid ≡ record store { bytes = slice_set store.bytes t.from None } → in_memory mid ≡ slice_set (in_memory store) t.from None
+  source_out both mid is = bytes_set store t.from mid None (has_buffer store t.from both.0) is
+
+  target_bytes : Both → (mid : StoreView) → mid ≡ record store { bytes = slice_set store.bytes t.from None } → t.from ≢ t.to → bytes_of (in_memory mid) t.to ≡ bytes_of (in_memory store) t.to
+  target_bytes both mid is apart = ap (λ (s : Store). bytes_of s t.to) (source_out both mid is) ∙ same_bytes (in_memory store) t.from t.to apart
+
+  target_has : Both → (mid : StoreView) → mid ≡ record store { bytes = slice_set store.bytes t.from None } → t.from ≢ t.to → HasBuffer mid t.to
+  target_has both mid is apart = has_buffer mid t.to (ap (λ (bytes : List ℕ). length bytes) (target_bytes both mid is apart) ∙ both.1)
 
 pub take_out-source-requires-clause-home : goal.take_out-source-requires-clause-home
 take_out-source-requires-clause-home g c =
     let at = drop_item c.args.moves.now c.loop-taken.taken-index c.taken-item.result c.loop-taken-test.true c.taken-item.is in
-    (subst (CanCopy c.loop-taken.frames) at c.loop-taken.invariant.can).0
+    home c.loop-taken.frames c.taken-item.result.from (subst (CanCopy (in_memory c.loop-taken.frames)) at c.loop-taken.invariant.can).0
+
+pub take_out-source-requires-clause-buffer : goal.take_out-source-requires-clause-buffer
+take_out-source-requires-clause-buffer g c =
+    let at = drop_item c.args.moves.now c.loop-taken.taken-index c.taken-item.result c.loop-taken-test.true c.taken-item.is in
+    has_buffer c.loop-taken.frames c.taken-item.result.from (subst (AllByRecursion (HasBoth (in_memory c.loop-taken.frames))) at c.loop-taken.invariant.populated).0.0
 
 pub take_out-target-requires-clause-home : goal.take_out-target-requires-clause-home
 take_out-target-requires-clause-home g c =
     let t = c.taken-item.result in
+    let store = c.loop-taken.frames in
+    let mid = c.take_out-source.new.self in
     let at = drop_item c.args.moves.now c.loop-taken.taken-index t c.loop-taken-test.true c.taken-item.is in
-    let can = subst (CanCopy c.loop-taken.frames) at c.loop-taken.invariant.can in
-    subst (λ (s : Store). IsHome s t.to) (sym c.take_out-source.ensures.out) (home_beside c.loop-taken.frames t.from t.to can.2 can.1)
+    let can = subst (CanCopy (in_memory store)) at c.loop-taken.invariant.can in
+    let both = (subst (AllByRecursion (HasBoth (in_memory store))) at c.loop-taken.invariant.populated).0 in
+    home mid t.to (subst (λ (s : Store). IsHome s t.to) (sym (source_out store t both mid c.take_out-source.ensures.out)) (home_beside (in_memory store) t.from t.to can.2 can.1))
+
+pub take_out-target-requires-clause-buffer : goal.take_out-target-requires-clause-buffer
+take_out-target-requires-clause-buffer g c =
+    let t = c.taken-item.result in
+    let store = c.loop-taken.frames in
+    let at = drop_item c.args.moves.now c.loop-taken.taken-index t c.loop-taken-test.true c.taken-item.is in
+    let can = subst (CanCopy (in_memory store)) at c.loop-taken.invariant.can in
+    let both = (subst (AllByRecursion (HasBoth (in_memory store))) at c.loop-taken.invariant.populated).0 in
+    target_has store t both c.take_out-source.new.self c.take_out-source.ensures.out can.2
 
 pub loop-taken-preserved : goal.loop-taken-preserved
 loop-taken-preserved g c =
     let moves = c.args.moves.now in
     let t = c.taken-item.result in
     let k = c.loop-taken.taken-index in
-    let store = c.loop-taken.frames in
+    let held = c.loop-taken.frames in
+    let store = in_memory held in
+    let mid = c.take_out-source.new.self in
     let before = c.loop-taken.jobs.items in
     let n = vec_len c.loop-taken.jobs in
     let rest = drop (k + 1) moves in
@@ -62,12 +85,15 @@ loop-taken-preserved g c =
     let less = ap (λ (ts : List Taken). length ts) at in
     let can = subst (CanCopy store) at c.loop-taken.invariant.can in
     let both = subst (AllByRecursion (HasBoth store)) at c.loop-taken.invariant.populated in
-    let now : c.take_out-target.new.self ≡ without_both store t = c.take_out-target.ensures.out ∙ ap (λ (s : Store). slice_set s t.to None) c.take_out-source.ensures.out in
-    let bytes = ap (λ (s : Store). bytes_of s t.to) c.take_out-source.ensures.out ∙ same_bytes store t.from t.to can.2 in
+    let has = target_has held t both.0 mid c.take_out-source.ensures.out can.2 in
+    let now : in_memory c.take_out-target.new.self ≡ without_both store t =
+    bytes_set mid t.to c.take_out-target.new.self None has c.take_out-target.ensures.out ∙ ap (λ (s : Store). slice_set s t.to None) (source_out held t both.0 mid c.take_out-source.ensures.out) in
     let job : ℕ × List ℕ → ℕ × List ℕ → ℕ → CopyJob g.row.A.Denot = λ s b ticket. record { source = s; target = b; ticket = ticket } in
     let source : ℕ × List ℕ = (t.from, bytes_of store t.from) in
     let target : ℕ × List ℕ = (t.to, bytes_of store t.to) in
-    let later = jobs_of {A = g.row.A.Denot} (vec_len c.push_reserved.new.self) c.take_out-target.new.self rest in
+    let first = c.take_out-source.ensures.buf ∙ ap (λ bs. (t.from, bs)) (sym (memory.same_bytes held t.from (has_buffer held t.from both.0.0))) in
+    let second = c.take_out-target.ensures.buf ∙ ap (λ bs. (t.to, bs)) (sym (memory.same_bytes mid t.to has) ∙ target_bytes held t both.0 mid c.take_out-source.ensures.out can.2) in
+    let later = jobs_of {A = g.row.A.Denot} (vec_len c.push_reserved.new.self) (in_memory c.take_out-target.new.self) rest in
     record {
       can = subst (λ (s : Store). CanCopy s rest) (sym now) can.3;
       populated = subst (λ (s : Store). AllByRecursion (HasBoth s) rest) (sym now) (both_without rest store t can.3 both.1);
@@ -75,10 +101,10 @@ loop-taken-preserved g c =
       jobs =
           ap (λ xs. xs ++ later) c.push_reserved.ensures.items
           ∙ append_assoc before (job c.take_out-source.result c.take_out-target.result c.len-ticket.result ∷ []) later
-          ∙ ap (λ s. before ++ job s c.take_out-target.result c.len-ticket.result ∷ later) c.take_out-source.ensures.buf
-          ∙ ap (λ b. before ++ job source b c.len-ticket.result ∷ later) (c.take_out-target.ensures.buf ∙ ap (λ bs. (t.to, bs)) bytes)
+          ∙ ap (λ s. before ++ job s c.take_out-target.result c.len-ticket.result ∷ later) first
+          ∙ ap (λ b. before ++ job source b c.len-ticket.result ∷ later) second
           ∙ ap (λ ticket. before ++ job source target ticket ∷ later) c.len-ticket.ensures
-          ∙ ap (λ m. before ++ job source target n ∷ jobs_of {A = g.row.A.Denot} m c.take_out-target.new.self rest) c.push_reserved.ensures.len
+          ∙ ap (λ m. before ++ job source target n ∷ jobs_of {A = g.row.A.Denot} m (in_memory c.take_out-target.new.self) rest) c.push_reserved.ensures.len
           ∙ ap (λ (s : Store). before ++ job source target n ∷ jobs_of {A = g.row.A.Denot} (n + 1) s rest) now
           ∙ ap (λ (ts : List Taken). before ++ jobs_of {A = g.row.A.Denot} n store ts) (sym at) ∙ c.loop-taken.invariant.jobs;
       fits = omega (arith, less, c.loop-taken.invariant.fits, c.push_reserved.ensures.len, c.push_reserved.ensures.capacity);
@@ -87,13 +113,13 @@ loop-taken-preserved g c =
 
 pub returns-clause-frames : goal.returns-clause-frames
 returns-clause-frames g c =
-    ap (emptied c.loop-taken.frames) (sym (drop_of_length-le c.args.moves.now c.loop-taken-test.false)) ∙ c.loop-taken.invariant.frames
+    ap (emptied (in_memory c.loop-taken.frames)) (sym (drop_of_length-le c.args.moves.now c.loop-taken-test.false)) ∙ c.loop-taken.invariant.frames
 
 pub returns-clause-jobs : goal.returns-clause-jobs
 returns-clause-jobs g c =
     let jobs = c.loop-taken.jobs.items in
     sym (append-nil jobs)
-    ∙ ap (λ (ts : List Taken). jobs ++ jobs_of {A = g.row.A.Denot} (vec_len c.loop-taken.jobs) c.loop-taken.frames ts) (sym (drop_of_length-le c.args.moves.now c.loop-taken-test.false))
+    ∙ ap (λ (ts : List Taken). jobs ++ jobs_of {A = g.row.A.Denot} (vec_len c.loop-taken.jobs) (in_memory c.loop-taken.frames) ts) (sym (drop_of_length-le c.args.moves.now c.loop-taken-test.false))
     ∙ c.loop-taken.invariant.jobs
 
 pub loop-taken-init : goal.loop-taken-init

@@ -5,7 +5,7 @@ use Rattle.nm_types.specs.Layout.{frame_count}
 use Rattle.nm_frames.specs.Populated.{IsPopulated}
 use Rattle.nm_model.specs.definitions.Frames.{Store, IsHome}
 use Rattle.nm_memory.specs.views.Copies.{CanRefill, refilled}
-use Rattle.nm_memory.specs.views.Frames.{FramesView}
+use Rattle.nm_memory.specs.views.Frames.{FramesView, in_memory}
 use Rattle.nm_memory.proofs.Copies.Copied.{back_as_many}
 use Rattle.nm_memory.proofs.Boxed.{seen_alone, held_alone}
 use Rattle.nm_memory.proofs.frames.in_flight.FramesInFlight.put_back.Goals as goal
@@ -25,7 +25,7 @@ invariant_of-result g c =
       own.0,
       record {
         lists = own.1.lists;
-        buffers = ap (λ (s : Store). length s) is ∙ back_as_many copied k.frames ∙ own.1.buffers;
+        buffers = ap (λ (s : Store). length s) is ∙ back_as_many copied (in_memory k.frames) ∙ own.1.buffers;
         home = λ f below. subst (λ (s : Store). IsHome s f) (sym is) (homes f below);
       },
       c.put_back_each.ensures.empty,
