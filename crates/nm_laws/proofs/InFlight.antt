@@ -11,7 +11,6 @@ pub mod Held
 pub mod Jobs
 pub mod Meeting
 pub mod Midway
-pub mod Moving
 pub mod Orders
 pub mod Progress
 pub mod Reading

@@ -1,3 +1,2 @@
 pub mod HeldEntries
-pub mod NoEntryThere
 pub mod ReplacedEntries

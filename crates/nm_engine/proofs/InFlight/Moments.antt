@@ -13,9 +13,8 @@ use Rattle.nm_frames.specs.declared.job.CopyJob.{CopyJob}
 use Rattle.nm_model.specs.definitions.Accesses.{accessed}
 use Rattle.nm_model.specs.definitions.BeforeCopy.{PendingAccess, after_copy, all_after_copy, answer_after_copy}
 use Rattle.nm_model.specs.definitions.Decide.{Planned}
-use Rattle.nm_model.specs.definitions.Events.{Event, accesses_in, after, begun, ended, held_by, is_given, laid_for}
+use Rattle.nm_model.specs.definitions.Events.{Event, accesses_in, after, begun, ended, is_given}
 use Rattle.nm_model.specs.definitions.Frames.{Store}
-use Rattle.nm_model.specs.definitions.PageTables.{entry_at, entry_of}
 use Rattle.nm_model.specs.definitions.Run.{HasOneAll, each_request, failures, frames_left, with_all_free, with_counts}
 use Rattle.nm_model.specs.definitions.RunMachine.{RunMachine, Job, Moving, state_of}
 use Rattle.nm_model.specs.definitions.Seen.{sight_at}
@@ -31,7 +30,7 @@ use Rattle.nm_laws.proofs.InFlight.Entries.{entry_is}
 use Rattle.nm_laws.proofs.InFlight.Orders.{flies}
 use Rattle.nm_laws.specs.Midway.{IsMidway, ends_of, entry_meanwhile, sources}
 use Rattle.nm_memory.specs.definitions.AfterCopy.{CanDo, all_stored_after_copy, answer_from_store, store_after_copy}
-use Rattle.nm_engine.specs.views.Flights.{Flight, AreOutIn, IsMoment, state_meanwhile, with_store}
+use Rattle.nm_engine.specs.views.Flights.{Flight, AreOutIn, HoldsMovingPages, IsMoment, state_meanwhile, with_store}
 use Rattle.nm_engine.proofs.InFlight.Flights.{answers_then, state_then}
 
 abbrev pub pages_of : List Taken → List Page
@@ -46,21 +45,27 @@ left_first : (moves : List Taken) → map (λ (e : ℕ × ℕ). e.0) (map (λ (t
 left_first [] = refl
 left_first (t ∷ moves) = ap (λ fs. t.from ∷ fs) (left_first moves)
 
+module _ {A : Type 0} (x : Flight) (jobs : List (CopyJob A)) where
+  -- a run machine that is read as the run, and whose jobs are its moves, has its entries
+  pub at_moment : (n : RunMachine) → HoldsMovingPages x → IsMidway n (pages_of x.moves) → state_of n ≡ state_meanwhile x jobs → map ends_of n.jobs ≡ map (λ t. (t.from, t.to)) x.moves → IsMoment n x jobs
+  at_moment n holds midway state ends = record {
+    midway = midway;
+    state = state;
+    entries = λ pid v. entry_is n (pages_of x.moves) midway pid v ∙ ap (λ (s : State). option_map (entry_meanwhile s.place (pages_of x.moves)) (sight_at s pid v)) state ∙ sym (holds pid v);
+    ends = ends;
+  }
+
 module _ {A : Type 0} (m : RunMachine) (x : Flight) (jobs : List (CopyJob A)) where
   -- a run begins: its plan's moves are those that are on their way
-  pub begins : (target : ℕ) (wanted : List Wanted) (p : Planned)
-      → ((store : Store) (pid v : ℕ) → entry_at x.tables pid v ≡ option_map (held_by (map (laid_for store) x.moves)) (option_map (entry_of (state_of m).place) (sight_at (state_of m) pid v)))
+  pub begins : (target : ℕ) (wanted : List Wanted) (p : Planned) → HoldsMovingPages x
       → IsAtRest m → IsSound (state_of m) → HasOneAll wanted → IsPlanOf (state_of m) target wanted p → p.taken ≡ x.moves
       → state_meanwhile x jobs ≡ with_moves (state_of m) target x.moves → IsMoment (begun m target wanted) x jobs
-  begins target wanted p entered rest sound alike plan taken shows =
+  begins target wanted p holds rest sound alike plan taken shows =
       let b = begun_is m target wanted rest sound alike in
       let moves : (each_request (state_of m) target wanted).taken ≡ x.moves = plan.agrees.taken ∙ taken in
-      record {
-        midway = subst (λ (ts : List Taken). IsMidway (begun m target wanted) (pages_of ts)) moves b.midway;
-        state = b.state ∙ plan.agrees.state ∙ ap (with_moves (state_of m) target) taken ∙ sym shows;
-        entries = λ pid v. b.entries pid v ∙ ap (λ (ts : List Taken). option_map (held_by (map (laid_for m.buf) ts)) (option_map (entry_of (state_of m).place) (sight_at (state_of m) pid v))) moves ∙ sym (entered m.buf pid v);
-        ends = b.ends ∙ ap (map (λ (t : Taken). (t.from, t.to))) moves;
-      }
+      at_moment x jobs (begun m target wanted) holds (subst (λ (ts : List Taken). IsMidway (begun m target wanted) (pages_of ts)) moves b.midway)
+      (b.state ∙ plan.agrees.state ∙ ap (with_moves (state_of m) target) taken ∙ sym shows)
+      (b.ends ∙ ap (map (λ (t : Taken). (t.from, t.to))) moves)
 
   -- events of which none ends the run change bytes alone
   stays : (n : RunMachine) (store : Store) (given : List (CopyJob A)) → IsMoment m x jobs → IsMidway n (pages_of x.moves) → state_of n ≡ state_meanwhile (with_store x store) given → map ends_of n.jobs ≡ map ends_of m.jobs → IsMoment n (with_store x store) given

@@ -1,9 +1,6 @@
 -- The engine's run goes by events of the run machine.
 use Rattle.std.proofs.Common.{◌≡◌, ℕ, List, [], ◌∷◌, true, cond, map, refl, sym, subst, ap, ◌∙◌}
 use Rattle.std.specs.Prelude.{Bool, false, Option, Some, None, ◌&&◌}
-use Rattle.std.specs.Option.{option_map}
-use Rattle.std.specs.Ordering.{nat_cmp}
-use Rattle.nm_types.specs.Map.{get}
 use Rattle.nm_types.specs.State.{State}
 use Rattle.nm_types.specs.declared.taken.Taken.{Taken}
 use Rattle.nm_frames.specs.declared.job.CopyJob.{CopyJob}
@@ -11,21 +8,19 @@ use Rattle.nm_model.specs.definitions.Decide.{Planned}
 use Rattle.nm_model.specs.definitions.Events.{after, begun, is_moving, is_ready}
 use Rattle.nm_model.specs.definitions.Run.{HasOneAll, Ran, each_request, run}
 use Rattle.nm_model.specs.definitions.RunMachine.{RunMachine, state_of}
-use Rattle.nm_model.specs.definitions.Seen.{sight_at, sight_in}
 use Rattle.nm_model.specs.definitions.Sound.{IsSound}
 use Rattle.nm_model.specs.definitions.Touch.{all_in_flight}
 use Rattle.nm_laws.specs.Interleavings.{IsRun}
 use Rattle.nm_laws.specs.Laws.{with_moves}
-use Rattle.nm_laws.specs.Midway.{IsMidway, entry_meanwhile}
+use Rattle.nm_laws.specs.Midway.{IsMidway}
 use Rattle.nm_laws.specs.Moves.{IsPlanOf}
 use Rattle.nm_laws.proofs.InFlight.Beginning.{begun_is}
-use Rattle.nm_laws.proofs.InFlight.Entries.{entry_is}
 use Rattle.nm_laws.proofs.InFlight.Orders.{before_end, every_order_is_the_run, flies}
 use Rattle.nm_laws.proofs.InFlight.Progress.{every_run_can_end}
 use Rattle.nm_laws.proofs.InFlight.Reading.{every_sound_state_is_read}
 use Rattle.nm_engine.specs.definitions.Orders.{GoesByEvents, RunAsked, run_asked}
-use Rattle.nm_engine.specs.views.Flights.{EndsAs, Flight, HoldsMovingPages, IsMoment, pair_of, state_meanwhile}
-use Rattle.nm_engine.proofs.InFlight.Moments.{pages_of}
+use Rattle.nm_engine.specs.views.Flights.{EndsAs, Flight, HoldsMovingPages, pair_of, state_meanwhile}
+use Rattle.nm_engine.proofs.InFlight.Moments.{at_moment, pages_of}
 
 -- what comes after an event that is allowed
 goes_on : (b : Bool) (o : Option RunMachine) (n : RunMachine) → cond b o None ≡ Some n → o ≡ Some n
@@ -59,16 +54,7 @@ module _ {A : Type 0} where
       let state : state_of last.now ≡ state_meanwhile x jobs = flown.state ∙ (λ i. (all_in_flight (begins i) (pages_of (taken_is i)) (accesses i)).state) ∙ sym shows in
       let pair : List Taken → List (ℕ × ℕ) = map (λ t. (t.from, t.to)) in
       let ends = flown.ends ∙ first.ends ∙ ap pair taken_is in
-      let moment : IsMoment last.now x jobs = record {
-        midway = subst (λ (ts : List Taken). IsMidway last.now (pages_of ts)) (sym same) midway;
-        state = state;
-        entries = λ pid v.
-            entry_is last.now (pages_of moves) midway pid v
-            ∙ ap (λ (z : State). option_map (entry_meanwhile z.place (pages_of moves)) (sight_at z pid v)) state
-            ∙ ap (λ (ts : List Taken). option_map (entry_meanwhile x.spaces.place (pages_of ts)) (sight_in (get nat_cmp x.spaces.processes pid) v)) (sym same)
-            ∙ sym (held pid v);
-        ends = ends ∙ ap pair (sym same);
-      } in
+      let moment = at_moment x jobs last.now held (subst (λ (ts : List Taken). IsMidway last.now (pages_of ts)) (sym same) midway) state (ends ∙ ap pair (sym same)) in
       let law : IsRun end.1 ran = subst (IsRun end.1) ((λ i. run (read.2 i) t ws (end.4 i)) ∙ sym made) (every_order_is_the_run m t ws end.0 end.1 end.2 end.3) in
       let over = subst (λ (n : RunMachine). IsRun n ran) (sym last.over) law in
       record {

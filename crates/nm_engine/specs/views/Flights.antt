@@ -2,9 +2,7 @@
 use Rattle.std.specs.Prelude.{◌≡◌, ℕ, ◌<◌, ◌≤◌, ◌++◌, ℤ, true, List, [], ◌∷◌, Some, map, vec_len, vec_capacity}
 use Rattle.std.specs.List.{AllByRecursion, list_all}
 use Rattle.std.specs.declared.vec.Vec.{Vec}
-use Rattle.std.specs.Option.{option_map}
-use Rattle.std.specs.Ordering.{nat_cmp}
-use Rattle.nm_types.specs.Map.{Map, get}
+use Rattle.nm_types.specs.Map.{Map}
 use Rattle.nm_types.specs.declared.entry.Entry.TheVariants.{Held}
 use Rattle.nm_types.specs.declared.request.Wanted.{Wanted}
 use Rattle.nm_types.specs.declared.taken.Taken.{Taken}
@@ -21,11 +19,10 @@ use Rattle.nm_model.specs.definitions.Frames.{Store}
 use Rattle.nm_model.specs.definitions.PageTables.{Task, entry_at}
 use Rattle.nm_model.specs.definitions.Run.{HasOneAll, frames_left}
 use Rattle.nm_model.specs.definitions.RunMachine.{RunMachine, Moving, state_of}
-use Rattle.nm_model.specs.definitions.Seen.{sight_in}
 use Rattle.nm_model.specs.definitions.Sound.{IsSound}
 use Rattle.nm_model.specs.definitions.Touch.{Access, AccessAnswer, all_in_flight, in_flight}
 use Rattle.nm_laws.specs.Interleavings.{IsAtRest}
-use Rattle.nm_laws.specs.Midway.{IsMidway, ends_of, entry_meanwhile}
+use Rattle.nm_laws.specs.Midway.{IsMidway, ends_of}
 use Rattle.nm_laws.specs.Moves.{CanMove, IsPlanOf}
 use Rattle.nm_memory.specs.declared.answers.AccessAnswer.{AccessAnswer as Given}
 use Rattle.nm_memory.specs.declared.pending_access.PendingAccess.{PendingAccess as Left}
@@ -34,7 +31,7 @@ use Rattle.nm_memory.specs.views.Accesses.{HasRoom, answer_shown, pending_shown}
 use Rattle.nm_memory.specs.views.Copies.{refilled, CanRefill}
 use Rattle.nm_memory.specs.views.Frames.{FramesView, HasAllFrames}
 use Rattle.nm_spaces.specs.views.AddressSpaces.{AddressSpacesView}
-use Rattle.nm_spaces.specs.views.Held.{AreHeld, HeldView, is_taken}
+use Rattle.nm_spaces.specs.views.Held.{HeldView, HoldsPages, is_taken}
 use Rattle.nm_engine.specs.views.MidRun.{MidRun, IsKept}
 use Rattle.nm_engine.specs.views.Shown.{shown_by}
 
@@ -68,20 +65,17 @@ flight_of held frames online moved failed moves =
 abbrev pub with_store : Flight → Store → Flight
 with_store x store = let k = x.frames in record x { frames = record k { frames = store } }
 
--- every entry of a page on its way is held, and each held entry is on its way to a frame that one of the moves takes; the
--- frames that the pages leave belong to the run
+-- the entries of the pages on their way are held, whoever maps them, and no other entry is
+abbrev pub HoldsMovingPages : Flight → Type 0
+HoldsMovingPages x = HoldsPages (record { tables = x.tables; spaces = x.spaces }) (map (λ t. t.page) x.moves)
+
+-- entries are held so, and each held entry is on its way to a frame that one of the moves takes; the frames that the pages
+-- leave belong to the run
 pub record IsUnderWay (x : Flight) : Type 0 where
-  pub held : AreHeld x.tables x.moves
+  pub entries : HoldsMovingPages x
   pub among : (f pid v : ℕ) → entry_at x.tables pid v ≡ Some (Held f) → is_taken x.moves f ≡ true
   pub below : AllByRecursion (λ t. t.to < x.spaces.frames) x.moves
   pub left : x.frames.vacated ≡ frames_left x.moves
-
--- each entry is that for what its process sees: held, if the page is on its way, whoever maps it
-abbrev pub HoldsMovingPages : Flight → Type 0
-HoldsMovingPages x =
-    (pid v : ℕ) →
-    entry_at x.tables pid v
-    ≡ option_map (entry_meanwhile x.spaces.place (map (λ t. t.page) x.moves)) (sight_in (get nat_cmp x.spaces.processes pid) v)
 
 module _ {A : Type 0} where
   -- the frame that a job copies, and the one that it copies to

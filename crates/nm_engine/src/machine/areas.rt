@@ -156,6 +156,7 @@ impl<A: Allocator + Copy + Send + Sync> Machine<A> {
         ensures done { Makes result self.old self.new (policy_refusal self.old pid addr len)
             (set_policy self.old pid addr len policy) }
         ensures memory { AsksLast result (policy_refusal self.old pid addr len) }
+        ensures some { result ≡ Err MachineError.HostMemory → 0 < len }
         ensures asked { result ≡ Err MachineError.HostMemory →
             HasSplit self.old.areas pid (addr / 4096)
             ⊎ HasSplit self.old.areas pid (addr / 4096 + pages_of len) }

@@ -73,7 +73,7 @@ nothing_source : (o : Option ℕ) → false ≡ is_source [] o
 nothing_source None = refl
 nothing_source (Some f) = refl
 
-pub nothing_decided : (s : State) (target : ℕ) (buf : Store) → IsDecided s target buf (record { state = s; statuses = []; taken = [] })
+nothing_decided : (s : State) (target : ℕ) (buf : Store) → IsDecided s target buf (record { state = s; statuses = []; taken = [] })
 nothing_decided s target buf =
     record {
       place = sym (values_same s.place);

@@ -17,7 +17,7 @@ use Rattle.nm_laws.specs.Midway.{IsMidway, entry_meanwhile, is_source, on_its_wa
 use Rattle.nm_laws.proofs.InFlight.Whereabouts.{sight_is}
 
 -- the entry of a page in this frame, if it has one, by its job
-pub held_or_here : (jobs : List Job) (o : Option ℕ) → held_by jobs (unwrap_or (option_map Frame o) Zero)
+held_or_here : (jobs : List Job) (o : Option ℕ) → held_by jobs (unwrap_or (option_map Frame o) Zero)
     ≡ (let e = unwrap_or (option_map Frame (option_map (goes_to jobs) o)) Zero in if is_source jobs o then on_its_way e else e)
 held_or_here jobs None = refl
 held_or_here jobs (Some f) =

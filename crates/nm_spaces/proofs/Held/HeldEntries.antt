@@ -1,34 +1,33 @@
 -- Entries that are held while pages are on their way, and name the new frames afterwards.
-use Rattle.std.proofs.Common.{◌≡◌, ◌≢◌, ◌<◌, ℕ, map, List, [], ◌∷◌, true, false, ◌||◌, cond, refl, sym, ap, subst, ◌∙◌, eq-eqb}
-use Rattle.std.specs.Prelude.{Option, Some, None, IsSome, ◌==◌}
+use Rattle.std.proofs.Common.{◌≡◌, ◌<◌, ℕ, Bool, map, List, [], ◌∷◌, ◌++◌, true, false, ◌||◌, cond, refl, sym, ap, subst, ◌∙◌, eq-eqb}
+use Rattle.std.specs.Prelude.{Option, Some, None, IsSome, ◌==◌, if◌then◌else◌}
 use Rattle.std.specs.Option.{option_map, unwrap_or}
-use Rattle.std.specs.List.{AllByRecursion}
+use Rattle.std.specs.List.{AllByRecursion, list_any}
 use Rattle.std.specs.List.Sorted.{IsStrictlySortedBy}
 use Rattle.std.specs.Ordering.{nat_cmp, is_eq}
-use Rattle.std.specs.Cmp.{nat_cmp_total}
-use Rattle.std.proofs.lemmas.Bool.{eqb-true, eqb-false, ne_eqb, both_ways, or_left, or_right}
+use Rattle.std.specs.Cmp.{nat_cmp_total, tied_itself}
+use Rattle.std.proofs.lemmas.Bool.{eqb-true, ne_eqb, both_ways, or_left, or_right}
 use Rattle.std.proofs.lemmas.Map.Lookups.{exact_unsigned}
 use Rattle.nm_types.specs.declared.page.Page.{Page}
 use Rattle.nm_types.specs.declared.area.Area.{Area}
 use Rattle.nm_types.specs.declared.sight.Sight.{Sight}
 use Rattle.nm_types.specs.declared.sight.Sight.TheVariants.{ZeroPage, Sees}
-use Rattle.nm_types.specs.Map.{Map, get, replace, page_cmp}
+use Rattle.nm_types.specs.Map.{Map, get, set, replace, page_cmp, same_page}
 use Rattle.nm_types.specs.declared.entry.Entry.{Entry}
 use Rattle.nm_types.specs.declared.entry.Entry.TheVariants.{Zero, Frame, Held}
 use Rattle.nm_types.specs.declared.taken.Taken.{Taken}
 use Rattle.nm_types.proofs.Cases.{some_is}
 use Rattle.nm_types.proofs.Keys.{All-get}
-use Rattle.nm_types.proofs.Maps.{agree, get-values, keys-values, with_values-replace}
+use Rattle.nm_types.proofs.Maps.{agree, equal, exact_page, get-set, get-values, keys-values, page_cmp_total, with_values-replace}
 use Rattle.nm_model.specs.definitions.Areas.{Mapped, with_frame}
-use Rattle.nm_model.specs.definitions.Events.{arrived, held_by, laid_for, with_changed, with_entries}
-use Rattle.nm_model.specs.definitions.Frames.{Store}
+use Rattle.nm_model.specs.definitions.Events.{arrived, with_changed, with_entries}
 use Rattle.nm_model.specs.definitions.PageTables.{Task, entry_at, entry_in, entry_of, sight_of}
-use Rattle.nm_model.specs.definitions.RunMachine.{Job, job_from}
 use Rattle.nm_model.specs.definitions.Seen.{sight_in}
 use Rattle.nm_laws.proofs.InFlight.Values.{values_same, entries_show, changed_at}
 use Rattle.nm_rmap.specs.Mappers.{Mappers, mappers_of, carried}
 use Rattle.nm_spaces.specs.views.AddressSpaces.{AddressSpacesView, spaces_view, with_moved}
-use Rattle.nm_spaces.specs.views.Held.{AreApart, entry_here, held_for, on_their_way, is_taken}
+use Rattle.nm_spaces.specs.views.Held.{is_taken}
+use Rattle.nm_laws.specs.Midway.{entry_meanwhile, on_its_way}
 use Rattle.nm_spaces.specs.definitions.Moves.{CanRemap, all_moved}
 use Rattle.nm_spaces.specs.views.ProcessTable.{names, IsThere, with_other_entry, replaced, replaced_in, all_replaced, remapped}
 use Rattle.nm_spaces.specs.definitions.Tied.{IsTied, AreInOrder, has_spot}
@@ -137,6 +136,12 @@ order_in tasks m r h = record { pids = h.pids; tables = h.tables }
 
 -- ---- a page is on its way
 
+-- an entry that names the frame that a page leaves is held, on its way to the frame that the page takes
+abbrev pub held_for : ℕ → ℕ → Entry → Entry
+held_for from to Zero = Zero
+held_for from to (Frame f) = if f == from then Held to else Frame f
+held_for from to (Held f) = if f == from then Held to else Held f
+
 held_entry : (from to : ℕ) (o : Option Entry) → cond (names from (option_map arrived o)) (Some (Held to)) o ≡ option_map (held_for from to) o
 held_entry from to None = refl
 held_entry from to (Some Zero) = refl
@@ -186,8 +191,7 @@ module _ (tasks : Map ℕ Task) (m : Mapped) (r : Mappers) (p : Page) (from to :
       ∙ ap (λ b. cond b (Some (Held to)) (entry_at tasks pid v)) (t.mappers from pid v ∙ ap (names from) (changed_at arrived tasks pid v))
       ∙ held_entry from to (entry_at tasks pid v)
 
--- ---- pages on their way, one after another
-
+-- pages that are held, and frames
 held_held : {f g : ℕ} → Held f ≡ Held g → f ≡ g
 held_held e = cc
 
@@ -197,59 +201,116 @@ frame_is_held e = cc
 zero_is_held : {g : ℕ} → Zero ≡ Held g → ⊥
 zero_is_held e = cc
 
-eqb_flip : (a b : ℕ) → (a == b) ≡ (b == a)
-eqb_flip a b =
-    elim (a == b) as (λ x. (a == b) ≡ x → x ≡ (b == a)) [
-      | true ↦ λ h. sym (eq-eqb b a (sym (eqb-true a b h)))
-      | false ↦ λ h. sym (ne_eqb b a (λ e. eqb-false a b h (sym e)))
+-- ---- pages on their way, one after another
+
+-- while no page is on its way, an entry names the frame of the page
+pub none_moving : (place : Map Page ℕ) (o : Option Sight) → option_map (entry_of place) o ≡ option_map (entry_meanwhile place []) o
+none_moving place None = refl
+none_moving place (Some ZeroPage) = refl
+none_moving place (Some (Sees p)) = refl
+
+-- whether a page is one of these or the next
+among_more : (q p : Page) (pages : List Page) → list_any (same_page q) (pages ++ p ∷ []) ≡ (list_any (same_page q) pages || same_page q p)
+among_more q p [] = elim (same_page q p) as (λ b. (b || false) ≡ b) [ true ↦ refl | false ↦ refl ]
+among_more q p (x ∷ pages) =
+    ap (λ b. same_page q x || b) (among_more q p pages)
+    ∙ elim (same_page q x) as (λ b. (b || (list_any (same_page q) pages || same_page q p)) ≡ ((b || list_any (same_page q) pages) || same_page q p)) [ true ↦ refl | false ↦ refl ]
+
+-- an entry that names another frame, held or not, stays
+stays_other : (from to g : ℕ) (b : Bool) → (g ≡ from → ⊥) → held_for from to (cond b (Held g) (Frame g)) ≡ cond b (Held g) (Frame g)
+stays_other from to g true apart = ap (λ c. cond c (Held to) (Held g)) (ne_eqb g from apart)
+stays_other from to g false apart = ap (λ c. cond c (Held to) (Frame g)) (ne_eqb g from apart)
+
+goes_there : (from to : ℕ) (b : Bool) → held_for from to (cond b (Held from) (Frame from)) ≡ Held to
+goes_there from to true = ap (λ c. cond c (Held to) (Held from)) (eq-eqb from from refl)
+goes_there from to false = ap (λ c. cond c (Held to) (Frame from)) (eq-eqb from from refl)
+
+module _ (place : Map Page ℕ) (pages : List Page) (page : Page) (from to : ℕ) (placed : get page_cmp place page ≡ Some from)
+    (apart : (p q : Page) (f : ℕ) → get page_cmp place p ≡ Some f → get page_cmp place q ≡ Some f → p ≡ q) where
+  -- the entry of a page with this frame, if it has one
+  abbrev here : Bool → Option ℕ → Entry
+  here b o = let e = unwrap_or (option_map Frame o) Zero in cond b (on_its_way e) e
+
+  next_other : (p : Page) (o : Option ℕ) → get page_cmp place p ≡ o → (p ≡ page → ⊥) → (b : Bool) → held_for from to (here b o) ≡ here b o
+  next_other p None at other true = refl
+  next_other p None at other false = refl
+  next_other p (Some g) at other true = stays_other from to g true (λ e. other (apart p page g at (placed ∙ ap Some (sym e))))
+  next_other p (Some g) at other false = stays_other from to g false (λ e. other (apart p page g at (placed ∙ ap Some (sym e))))
+
+  next_same : (b : Bool) → held_for from to (here b (Some from)) ≡ Held to
+  next_same true = goes_there from to true
+  next_same false = goes_there from to false
+
+  -- once another page is on its way, its entry is held
+  pub next_moving : (o : Option Sight) → option_map (held_for from to) (option_map (entry_meanwhile place pages) o) ≡ option_map (entry_meanwhile (set page_cmp place page to) (pages ++ page ∷ [])) o
+  next_moving None = refl
+  next_moving (Some ZeroPage) = refl
+  next_moving (Some (Sees p)) =
+      let now = get-set page_cmp_total place page to p in
+      let more = among_more p page pages in
+      ap Some (elim (same_page p page) as (λ b. same_page p page ≡ b → held_for from to (here (list_any (same_page p) pages) (get page_cmp place p)) ≡ here (list_any (same_page p) (pages ++ page ∷ [])) (get page_cmp (set page_cmp place page to) p)) [
+        | true ↦ λ b.
+            let same : p ≡ page = exact_page p page (equal _ b) in
+            ap (λ o. held_for from to (here (list_any (same_page p) pages) o)) (ap (get page_cmp place) same ∙ placed)
+            ∙ next_same (list_any (same_page p) pages)
+            ∙ sym ((λ i. here (more i) (now i)) ∙ ap (λ c. here (list_any (same_page p) pages || c) (cond c (Some to) (get page_cmp place p))) b ∙ held_to (list_any (same_page p) pages))
+        | false ↦ λ b.
+            next_other p (get page_cmp place p) refl (λ e. both_ways _ b (ap (λ q. same_page p q) (sym e) ∙ ap is_eq (tied_itself page_cmp_total p))) (list_any (same_page p) pages)
+            ∙ sym ((λ i. here (more i) (now i)) ∙ ap (λ c. here (list_any (same_page p) pages || c) (cond c (Some to) (get page_cmp place p))) b ∙ ap (λ c. here c (get page_cmp place p)) (or_false (list_any (same_page p) pages)))
+      ] refl)
+    where
+      or_false : (b : Bool) → (b || false) ≡ b
+      or_false true = refl
+      or_false false = refl
+
+      held_to : (b : Bool) → here (b || true) (Some to) ≡ Held to
+      held_to true = refl
+      held_to false = refl
+
+-- a page that is none of those that move stays
+moved_beside : (moves : List Taken) (y : AddressSpacesView) (p : Page) → list_any (same_page p) (map (λ (t : Taken). t.page) moves) ≡ false → get page_cmp (all_moved y moves).place p ≡ get page_cmp y.place p
+moved_beside [] y p h = refl
+moved_beside (t ∷ moves) y p h =
+    let both = or_both (same_page p t.page) (list_any (same_page p) (map (λ (t : Taken). t.page) moves)) h in
+    moved_beside moves (with_moved y t.page t.to) p both.1
+    ∙ get-set page_cmp_total y.place t.page t.to p ∙ ap (λ c. cond c (Some t.to) (get page_cmp y.place p)) both.0
+  where
+    or_both : (a b : Bool) → (a || b) ≡ false → (a ≡ false) × (b ≡ false)
+    or_both false b h = (refl, h)
+    or_both true b h = absurd (both_ways true h refl)
+
+-- a page that moves is in a frame that one of them takes
+moved_among : (moves : List Taken) (y : AddressSpacesView) (p : Page) (f : ℕ) → list_any (same_page p) (map (λ (t : Taken). t.page) moves) ≡ true
+    → get page_cmp (all_moved y moves).place p ≡ Some f → is_taken moves f ≡ true
+moved_among [] y p f h at = cc
+moved_among (t ∷ moves) y p f h at =
+    let z = with_moved y t.page t.to in
+    elim (list_any (same_page p) (map (λ (t : Taken). t.page) moves)) as (λ b. list_any (same_page p) (map (λ (t : Taken). t.page) moves) ≡ b → is_taken (t ∷ moves) f ≡ true) [
+      | true ↦ λ b. or_right (t.to == f) (is_taken moves f) (moved_among moves z p f b at)
+      | false ↦ λ b.
+          let here : (same_page p t.page || false) ≡ true = ap (λ c. same_page p t.page || c) (sym b) ∙ h in
+          let is : Some t.to ≡ Some f = sym (get-set page_cmp_total y.place t.page t.to p ∙ ap (λ c. cond c (Some t.to) (get page_cmp y.place p)) (or_here (same_page p t.page) here)) ∙ sym (moved_beside moves z p b) ∙ at in
+          or_left (t.to == f) (is_taken moves f) (eq-eqb t.to f (some_is is))
     ] refl
+  where
+    or_here : (a : Bool) → (a || false) ≡ true → a ≡ true
+    or_here true h = refl
+    or_here false h = h
 
-stays_held : (moves : List Taken) (f : ℕ) → AllByRecursion (λ u. u.from ≢ f) moves → on_their_way moves (Held f) ≡ Held f
-stays_held [] f h = refl
-stays_held (u ∷ moves) f h = ap (λ b. on_their_way moves (cond b (Held u.to) (Held f))) (ne_eqb f u.from (λ e. h.0 (sym e))) ∙ stays_held moves f h.1
+entry_to : (o : Option ℕ) (b : Bool) (f : ℕ) → cond b (on_its_way (unwrap_or (option_map Frame o) Zero)) (unwrap_or (option_map Frame o) Zero) ≡ Held f → (b ≡ true) × (o ≡ Some f)
+entry_to None true f h = absurd (zero_is_held h)
+entry_to None false f h = absurd (zero_is_held h)
+entry_to (Some g) true f h = (refl, ap Some (held_held h))
+entry_to (Some g) false f h = absurd (frame_is_held h)
 
-stays_zero : (moves : List Taken) → on_their_way moves Zero ≡ Zero
-stays_zero [] = refl
-stays_zero (u ∷ moves) = stays_zero moves
-
-begun_frame : (store : Store) (moves : List Taken) (f : ℕ) → AreApart moves → on_their_way moves (Frame f) ≡ held_by (map (laid_for store) moves) (Frame f)
-begun_frame store [] f h = refl
-begun_frame store (t ∷ moves) f h =
-    ap (λ b. on_their_way moves (cond b (Held t.to) (Frame f))) (eqb_flip f t.from)
-    ∙ elim (t.from == f) as (λ b. on_their_way moves (cond b (Held t.to) (Frame f)) ≡ unwrap_or (option_map (λ (job : Job). Held job.target.0) (cond b (Some (laid_for store t)) (job_from (map (laid_for store) moves) f))) (Frame f)) [
-      | true ↦ stays_held moves t.to h.0
-      | false ↦ begun_frame store moves f h.1
-    ]
-
-placed_begun : (store : Store) (moves : List Taken) (o : Option ℕ) → AreApart moves → on_their_way moves (unwrap_or (option_map Frame o) Zero) ≡ held_by (map (laid_for store) moves) (unwrap_or (option_map Frame o) Zero)
-placed_begun store moves None h = stays_zero moves
-placed_begun store moves (Some f) h = begun_frame store moves f h
-
--- pages that go on their way one after another leave the entries that a run begins with
-pub begun_entries : (store : Store) (moves : List Taken) (place : Map Page ℕ) (o : Option Sight) → AreApart moves
-    → option_map (on_their_way moves) (option_map (entry_of place) o) ≡ option_map (held_by (map (laid_for store) moves)) (option_map (entry_of place) o)
-begun_entries store moves place None h = refl
-begun_entries store moves place (Some ZeroPage) h = ap Some (stays_zero moves)
-begun_entries store moves place (Some (Sees p)) h = ap Some (placed_begun store moves (get page_cmp place p) h)
-
-taken_by_one : (store : Store) (moves : List Taken) (g f : ℕ) → held_by (map (laid_for store) moves) (Frame g) ≡ Held f → is_taken moves f ≡ true
-taken_by_one store [] g f h = absurd (frame_is_held h)
-taken_by_one store (t ∷ moves) g f h =
-    elim (t.from == g) as (λ b. unwrap_or (option_map (λ (job : Job). Held job.target.0) (cond b (Some (laid_for store t)) (job_from (map (laid_for store) moves) g))) (Frame g) ≡ Held f → is_taken (t ∷ moves) f ≡ true) [
-      | true ↦ λ h. or_left _ _ (eq-eqb t.to f (held_held h))
-      | false ↦ λ h. or_right _ _ (taken_by_one store moves g f h)
-    ] h
-
-placed_taken : (store : Store) (moves : List Taken) (o : Option ℕ) (f : ℕ) → held_by (map (laid_for store) moves) (unwrap_or (option_map Frame o) Zero) ≡ Held f → is_taken moves f ≡ true
-placed_taken store moves None f h = absurd (zero_is_held h)
-placed_taken store moves (Some g) f h = taken_by_one store moves g f h
-
--- those that are held when a run has begun are on their way to frames that its pages take
-pub held_is_taken : (store : Store) (place : Map Page ℕ) (moves : List Taken) (o : Option Sight) (f : ℕ)
-    → option_map (held_by (map (laid_for store) moves)) (option_map (entry_of place) o) ≡ Some (Held f) → is_taken moves f ≡ true
-held_is_taken store place moves None f h = cc
-held_is_taken store place moves (Some ZeroPage) f h = absurd (zero_is_held (some_is h))
-held_is_taken store place moves (Some (Sees p)) f h = placed_taken store moves (get page_cmp place p) f (some_is h)
+-- an entry that is held is on its way to a frame that one of the pages takes
+pub held_is_taken : (y : AddressSpacesView) (moves : List Taken) (o : Option Sight) (f : ℕ)
+    → option_map (entry_meanwhile (all_moved y moves).place (map (λ (t : Taken). t.page) moves)) o ≡ Some (Held f) → is_taken moves f ≡ true
+held_is_taken y moves None f h = cc
+held_is_taken y moves (Some ZeroPage) f h = absurd (zero_is_held (some_is h))
+held_is_taken y moves (Some (Sees p)) f h =
+    let both = entry_to (get page_cmp (all_moved y moves).place p) (list_any (same_page p) (map (λ (t : Taken). t.page) moves)) f (some_is h) in
+    moved_among moves y p f both.0 both.1
 
 -- a frame that one of the pages takes, and not the first, is taken by another
 pub still_taken : (t : Taken) (moves : List Taken) (f : ℕ) → (t.to ≡ f → ⊥) → is_taken (t ∷ moves) f ≡ true → is_taken moves f ≡ true
@@ -270,7 +331,7 @@ module _ (tasks : Map ℕ Task) (m : Mapped) (r : Mappers) (t : IsTied tasks m r
   again_one pid v (Some e) k = ap Some (sym (entry_again tasks m r t pid v e k))
 
   -- an entry names the frame of the page that is seen there
-  pub entry_shown : (y : AddressSpacesView) → spaces_view tasks m r ≡ y → (pid v : ℕ) → entry_at tasks pid v ≡ entry_here y pid v
+  pub entry_shown : (y : AddressSpacesView) → spaces_view tasks m r ≡ y → (pid v : ℕ) → entry_at tasks pid v ≡ option_map (entry_of y.place) (sight_in (get nat_cmp y.processes pid) v)
   entry_shown y is pid v =
       again_one pid v (entry_at tasks pid v) refl
       ∙ ap (option_map (entry_of m.place)) (seen_here y tasks m r pid v (entry_at tasks pid v) is refl)

@@ -83,7 +83,7 @@ impl<A: Allocator + Copy> AddressSpaces<A> {
             (range_refusal (mapped_of self.old) pid addr len)
             (with_policy (mapped_of self.old) pid (addr / 4096) (addr / 4096 + pages_of len) policy) }
         ensures memory { result ≡ Err MachineError.HostMemory →
-            range_refusal (mapped_of self.old) pid addr len ≡ None }
+            (range_refusal (mapped_of self.old) pid addr len ≡ None) × (0 < len) }
         ensures asked { result ≡ Err MachineError.HostMemory →
             HasSplit self.old.areas pid (addr / 4096)
             ⊎ HasSplit self.old.areas pid (addr / 4096 + pages_of len) }

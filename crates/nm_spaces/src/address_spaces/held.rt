@@ -1,18 +1,16 @@
 //! The address spaces while pages of a run are on their way: their entries are held, as the kernel's migration entries
 //! are (Documentation/mm/page_migration.rst).
 
-ghost use Rattle.std.specs.Prelude.{ℕ, ◌≡◌, ◌<◌, true, length, map, Some};
+ghost use Rattle.std.specs.Prelude.{ℕ, ◌≡◌, ◌<◌, ◌++◌, true, List, [], ◌∷◌, length, map, Some};
 ghost use Rattle.std.specs.List.{AllByRecursion};
-ghost use Rattle.std.specs.Option.{option_map};
 ghost use Rattle.nm_types.specs.declared.page.Page.{Page};
 ghost use Rattle.nm_types.specs.declared.entry.Entry.TheVariants.{Held as OnItsWay};
 ghost use Rattle.nm_types.specs.Map.{get, page_cmp};
-ghost use Rattle.nm_model.specs.definitions.Events.{arrived, held_by, laid_for, with_entries};
-ghost use Rattle.nm_model.specs.definitions.Frames.{Store};
+ghost use Rattle.nm_model.specs.definitions.Events.{arrived, with_entries};
 ghost use Rattle.nm_model.specs.definitions.PageTables.{entry_at};
 ghost use Rattle.nm_rmap.specs.Mappers.{mappers_of};
 ghost use Rattle.nm_spaces.specs.views.AddressSpaces.{with_moved};
-ghost use Rattle.nm_spaces.specs.views.Held.{AreApart, entry_here, held_for, on_their_way, is_taken};
+ghost use Rattle.nm_spaces.specs.views.Held.{HoldsPages, is_taken};
 ghost use Rattle.nm_spaces.specs.definitions.Moves.{CanRemap, all_moved};
 ghost use Rattle.nm_spaces.specs.views.ProcessTable.{IsThere, all_replaced, names};
 ghost use Rattle.nm_spaces.specs.definitions.Tied.{has_spot, AreInOrder};
@@ -46,16 +44,12 @@ impl<A: Allocator + Copy> Model for HeldSpaces<A> {
 }
 
 impl<A: Allocator + Copy> HeldSpaces<A> {
-    /// Takes address spaces over and sends pages on their way to other frames: until `settle` the page tables are those of
-    /// the run machine once its run has begun, in which every entry that names a frame that a page leaves is held. The new
-    /// frame has the page, its mappers and its pins. Does not allocate.
+    /// Takes address spaces over and sends pages on their way to other frames: until `settle` every entry of such a page is
+    /// held, whoever maps it. The new frame has the page, its mappers and its pins. Does not allocate.
     pub fn hold(spaces: AddressSpaces<A>, moves: &[Taken]) -> Self
         requires moves { CanRemap spaces moves.now }
-        requires apart { AreApart moves.now }
         ensures spaces { result.spaces ≡ all_moved spaces moves.now }
-        ensures entries { (store : Store) (pid v : ℕ) →
-            entry_at result.tables pid v
-            ≡ option_map (held_by (map (laid_for store) moves.now)) (entry_here spaces pid v) }
+        ensures entries { HoldsPages result (map (λ t. t.page) moves.now) }
     {
         let mut held = HeldSpaces {
             parts: spaces.parts,
@@ -74,11 +68,10 @@ impl<A: Allocator + Copy> HeldSpaces<A> {
 
     /// Sends pages on their way, one after another.
     fn hold_pages(&mut self, moves: &[Taken])
-        requires { CanRemap self.old.spaces moves.now }
+        requires moves { CanRemap self.old.spaces moves.now }
+        requires none { HoldsPages self.old [] }
         ensures spaces { self.new.spaces ≡ all_moved self.old.spaces moves.now }
-        ensures entries { (pid v : ℕ) →
-            entry_at self.new.tables pid v
-            ≡ option_map (on_their_way moves.now) (entry_at self.old.tables pid v) }
+        ensures entries { HoldsPages self.new (map (λ t. t.page) moves.now) }
     {
         for taken in moves {
             self.hold_page(taken.page, taken.from, taken.to);
@@ -92,9 +85,9 @@ impl<A: Allocator + Copy> HeldSpaces<A> {
         requires frame { to < self.old.spaces.frames }
         requires spare { (q : Page) → get page_cmp self.old.spaces.place q ≡ Some to → ⊥ }
         ensures spaces { self.new.spaces ≡ with_moved self.old.spaces page to }
-        ensures entries { (pid v : ℕ) →
-            entry_at self.new.tables pid v
-            ≡ option_map (held_for from to) (entry_at self.old.tables pid v) }
+        ensures entries { (pages : List Page) →
+            HoldsPages self.old pages →
+            HoldsPages self.new (pages ++ page ∷ []) }
     {
         let parts = &mut *self.parts;
         replace_each(

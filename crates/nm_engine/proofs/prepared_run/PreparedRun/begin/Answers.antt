@@ -1,5 +1,5 @@
 use Rattle.std.proofs.Common.{◌≡◌, ℕ, ◌+◌, ◌<◌, List, [], ◌∷◌, map, refl, sym, ap, subst, ◌∙◌, arith}
-use Rattle.std.specs.Prelude.{Option, Some, None, option_map, slice_get}
+use Rattle.std.specs.Prelude.{option_map, slice_get}
 use Rattle.std.specs.List.{AllByRecursion}
 use Rattle.std.specs.Ordering.{nat_cmp}
 use Rattle.nm_types.specs.Map.{get}
@@ -8,22 +8,15 @@ use Rattle.nm_frames.specs.Job.{copied}
 use Rattle.nm_frames.specs.Populated.{IsPopulated}
 use Rattle.nm_laws.specs.Laws.{with_moves}
 use Rattle.nm_laws.specs.Midway.{entry_meanwhile}
-use Rattle.nm_laws.specs.Moves.{CanMove}
-use Rattle.nm_laws.proofs.InFlight.Moving.{entry_moving, moves_decided}
 use Rattle.nm_model.specs.definitions.BeforeCopy.{with_fronts, frames_taken}
-use Rattle.nm_model.specs.definitions.Events.{held_by, laid_for}
-use Rattle.nm_types.specs.declared.sight.Sight.{Sight}
 use Rattle.nm_model.specs.definitions.Frames.{Store}
-use Rattle.nm_model.specs.definitions.PageTables.{entry_of}
 use Rattle.nm_model.specs.definitions.Run.{frames_left}
 use Rattle.nm_model.specs.definitions.Sound.{IsSound}
 use Rattle.nm_types.specs.declared.taken.Taken.{Taken}
 use Rattle.nm_model.specs.definitions.Seen.{sight_in}
 use Rattle.nm_spaces.specs.definitions.Moves.{all_moved}
 use Rattle.nm_spaces.specs.views.AddressSpaces.{AddressSpacesView}
-use Rattle.nm_spaces.specs.views.Held.{entry_here}
 use Rattle.nm_spaces.proofs.Held.HeldEntries.{held_is_taken, frames_stay, takes_below}
-use Rattle.nm_spaces.proofs.Held.NoEntryThere.{names_another}
 use Rattle.nm_memory.specs.definitions.AfterCopy.{CanDo}
 use Rattle.nm_memory.specs.views.Copies.{CanCopy, HasBoth, emptied, jobs_of, refilled, with_copies, without_both}
 use Rattle.nm_memory.specs.views.Frames.{FramesView}
@@ -34,7 +27,6 @@ use Rattle.nm_engine.specs.views.MidRun.{MidRun, IsKept}
 use Rattle.nm_engine.specs.views.Shown.{shown_by}
 use Rattle.nm_engine.specs.views.Spaces.{spaces_of}
 use Rattle.nm_engine.proofs.InFlight.AllAtOnce.{prepared, lefts_populated, both_whole, remap, can_copy, can_meanwhile, finished_shows, finished_kept}
-use Rattle.nm_engine.proofs.InFlight.Apart.{copies_apart}
 use Rattle.nm_engine.proofs.InFlight.Flights.{once_home, home_is, can_home, whole_then}
 use Rattle.nm_engine.proofs.InFlight.Moments.{begins, pages_of}
 use Rattle.nm_engine.proofs.prepared_run.PreparedRun.begin.Goals as goal
@@ -69,24 +61,14 @@ take_out-frames-requires-clause-few g c =
     let room = ap (λ (x : MidRun). x.room) c.self.view_is in
     omega (arith, same, room, c.requires.few)
 
-pub hold-requires-clause-moves : goal.hold-requires-clause-moves
-hold-requires-clause-moves g c =
+pub hold-requires : goal.hold-requires
+hold-requires g c =
     let i = c.self.inside in
     let r = c.requires.ready in
     let moves = c.args.moves.now in
     let h = prepared i.spaces i.frames i.online i.totals.moved i.totals.failed r.0 moves [] c.args.self c.self.view_is c.self.invariant c.vacate_each.ensures.shelf
     r.1.node r.1.taken r.1.sound r.1.can tt c.vacate_each.ensures.populated in
-    remap i.spaces i.frames i.online i.totals.moved i.totals.failed r.0 moves [] h
-
-pub hold-requires-clause-apart : goal.hold-requires-clause-apart
-hold-requires-clause-apart g c =
-    let i = c.self.inside in
-    let r = c.requires.ready in
-    let moves = c.args.moves.now in
-    let h = prepared i.spaces i.frames i.online i.totals.moved i.totals.failed r.0 moves [] c.args.self c.self.view_is c.self.invariant c.vacate_each.ensures.shelf
-    r.1.node r.1.taken r.1.sound r.1.can tt c.vacate_each.ensures.populated in
-    let k : FramesView = i.frames in
-    copies_apart moves k.frames (can_copy i.spaces i.frames i.online i.totals.moved i.totals.failed r.0 moves [] h)
+    record { moves = remap i.spaces i.frames i.online i.totals.moved i.totals.failed r.0 moves [] h }
 
 pub invariant_of-run : goal.invariant_of-run
 invariant_of-run g c =
@@ -98,8 +80,10 @@ invariant_of-run g c =
     r.1.node r.1.taken r.1.sound r.1.can tt c.vacate_each.ensures.populated in
     let can = remap i.spaces i.frames i.online i.totals.moved i.totals.failed r.0 moves [] h in
     record {
-      held = λ f pid v named. names_another [] moves y (sight_in (get nat_cmp y.processes pid) v) f can (sym (c.hold.ensures.entries [] pid v) ∙ named);
-      among = λ f pid v held. held_is_taken [] y.place moves (sight_in (get nat_cmp y.processes pid) v) f (sym (c.hold.ensures.entries [] pid v) ∙ held);
+      entries = c.hold.ensures.entries;
+      among = λ f pid v held.
+          held_is_taken y moves (sight_in (get nat_cmp (all_moved y moves).processes pid) v) f
+          (sym (c.hold.ensures.entries pid v ∙ ap (λ (z : AddressSpacesView). option_map (entry_meanwhile z.place (pages_of moves)) (sight_in (get nat_cmp z.processes pid) v)) c.hold.ensures.spaces) ∙ held);
       below = subst (λ n. AllByRecursion (λ t. t.to < n) moves) (sym (ap (λ (z : AddressSpacesView). z.frames) c.hold.ensures.spaces ∙ frames_stay moves y)) (takes_below moves y can);
       left = ap (λ (v : FramesView). v.vacated) (c.take_out-frames.ensures.frames ∙ ap (λ (v : FramesView). record v { frames = emptied v.frames moves; room = c.take_out-frames.result.0.room }) c.vacate_each.ensures.vacated);
     }
@@ -127,26 +111,8 @@ returns-clause-state g c target ready =
     ∙ finished_shows i.spaces i.frames i.online i.totals.moved i.totals.failed target moves [] h then refl
     ∙ ap (λ (x : MidRun). with_moves (with_fronts x.state target (frames_taken moves)) target moves) c.self.view_is
 
--- what jobs make of each entry
-by_jobs : (store : Store) (s t : State) (target : ℕ) (moves : List Taken) (o : Option Sight) → IsSound s → CanMove s target moves → t ≡ with_moves s target moves
-    → option_map (held_by (map (laid_for store) moves)) (option_map (entry_of s.place) o) ≡ option_map (entry_meanwhile t.place (pages_of moves)) o
-by_jobs store s t target moves None sound can is = refl
-by_jobs store s t target moves (Some sight) sound can is =
-    ap Some (entry_moving store s target (record { state = with_moves s target moves; statuses = []; taken = moves }) (moves_decided moves s [] target store sound can) sight
-    ∙ ap (λ (z : State). entry_meanwhile z.place (pages_of moves) sight) (sym is))
-
 pub returns-clause-entries : goal.returns-clause-entries
-returns-clause-entries g c pid v =
-    let moves = c.args.moves.now in
-    let r = c.requires.ready in
-    let z = with_fronts c.args.self.state r.0 (frames_taken moves) in
-    let shows = returns-clause-state g c r.0 r.1 in
-    let d = moves_decided moves z [] r.0 [] r.1.sound r.1.can in
-    let sees : c.args.self.state.processes ≡ (with_moves z r.0 moves).processes = sym (ap (λ (s : State). s.processes) d.state) in
-    c.hold.ensures.entries [] pid v
-    ∙ ap (λ (x : MidRun). option_map (held_by (map (laid_for []) moves)) (entry_here (spaces_of x.state) pid v)) c.self.view_is
-    ∙ ap (λ ps. option_map (held_by (map (laid_for []) moves)) (option_map (entry_of c.args.self.state.place) (sight_in (get nat_cmp ps pid) v))) (sees ∙ sym (ap (λ (s : State). s.processes) shows))
-    ∙ by_jobs [] z _ r.0 moves _ r.1.sound r.1.can shows
+returns-clause-entries g c = c.hold.ensures.entries
 
 pub returns-clause-out : goal.returns-clause-out
 returns-clause-out g c =
@@ -211,8 +177,6 @@ pub returns-clause-event : goal.returns-clause-event
 returns-clause-event g c m target wanted p rest alike ready at plan taken =
     let moves = c.args.moves.now in
     begins {A = g.row.A.Denot} m _ c.take_out-frames.result.1.items target wanted p
-    (λ store pid v.
-        c.hold.ensures.entries store pid v ∙ ap (λ (x : MidRun). option_map (held_by (map (laid_for store) moves)) (entry_here (spaces_of x.state) pid v)) c.self.view_is
-        ∙ ap (λ (s : State). option_map (held_by (map (laid_for store) moves)) (entry_here (spaces_of s) pid v)) (sym at))
+    c.hold.ensures.entries
     rest (subst IsSound (sym at) ready.sound) alike plan taken
     (returns-clause-state g c target ready ∙ ap (λ (s : State). with_moves s target moves) (sym at))

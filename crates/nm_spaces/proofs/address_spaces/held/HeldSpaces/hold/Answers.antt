@@ -1,10 +1,5 @@
-use Rattle.std.proofs.Common.{ap, ◌∙◌}
-use Rattle.std.specs.Option.{option_map}
-use Rattle.std.specs.Ordering.{nat_cmp}
-use Rattle.nm_types.specs.Map.{get}
-use Rattle.nm_model.specs.definitions.Seen.{sight_in}
-use Rattle.nm_spaces.specs.views.Held.{on_their_way}
-use Rattle.nm_spaces.proofs.Held.HeldEntries.{settled_arrived, entry_shown, begun_entries}
+use Rattle.std.proofs.Common.{refl, ◌∙◌}
+use Rattle.nm_spaces.proofs.Held.HeldEntries.{settled_arrived, entry_shown, none_moving}
 use Rattle.nm_spaces.proofs.address_spaces.held.HeldSpaces.hold.Goals as goal
 
 pub invariant_of-held : goal.invariant_of-held
@@ -12,10 +7,7 @@ invariant_of-held g c =
     let x = c.spaces.inside.parts.value in
     settled_arrived x.tasks x.areas x.rmap c.spaces.invariant
 
-pub returns-clause-entries : goal.returns-clause-entries
-returns-clause-entries g c store pid v =
+pub hold_pages-requires-clause-none : goal.hold_pages-requires-clause-none
+hold_pages-requires-clause-none g c pid v =
     let x = c.spaces.inside.parts.value in
-    let y = c.args.spaces in
-    c.hold_pages.ensures.entries pid v
-    ∙ ap (option_map (on_their_way c.args.moves.now)) (entry_shown x.tasks x.areas x.rmap c.spaces.invariant y c.spaces.view_is pid v)
-    ∙ begun_entries store c.args.moves.now y.place (sight_in (get nat_cmp y.processes pid) v) c.requires.apart
+    entry_shown x.tasks x.areas x.rmap c.spaces.invariant _ refl pid v ∙ none_moving _ _

@@ -1,20 +1,24 @@
-use Rattle.std.proofs.Common.{ℕ, ◌≡◌, sym, subst, ap, ◌∙◌, refl}
-use Rattle.std.specs.Prelude.{IsSome}
+use Rattle.std.proofs.Common.{ℕ, ◌≡◌, [], ◌∷◌, ◌++◌, sym, subst, ap, ◌∙◌, refl}
+use Rattle.std.specs.Prelude.{Some, IsSome}
 use Rattle.std.specs.Option.{option_map}
 use Rattle.std.specs.List.{AllByRecursion}
-use Rattle.nm_types.specs.Map.{Map}
+use Rattle.std.specs.Ordering.{nat_cmp}
+use Rattle.nm_types.specs.declared.page.Page.{Page}
+use Rattle.nm_types.specs.Map.{Map, get, page_cmp}
 use Rattle.nm_types.specs.declared.entry.Entry.TheVariants.{Held}
 use Rattle.nm_types.proofs.Maps.{page_cmp_total, exact_page, replace_is_set}
 use Rattle.nm_model.specs.definitions.Areas.{Mapped, with_frame}
 use Rattle.nm_model.specs.definitions.Events.{arrived, with_entries}
 use Rattle.nm_model.specs.definitions.PageTables.{Task, entry_at}
 use Rattle.nm_rmap.specs.Mappers.{Mappers, mappers_of, carried}
-use Rattle.nm_spaces.specs.views.AddressSpaces.{spaces_view, with_moved}
-use Rattle.nm_spaces.specs.views.Held.{HeldView, held_for}
+use Rattle.nm_laws.specs.Midway.{entry_meanwhile}
+use Rattle.nm_model.specs.definitions.Seen.{sight_in}
+use Rattle.nm_spaces.specs.views.AddressSpaces.{AddressSpacesView, spaces_view, with_moved}
+use Rattle.nm_spaces.specs.views.Held.{HeldView}
 use Rattle.nm_spaces.specs.views.ProcessTable.{IsThere, all_replaced}
 use Rattle.nm_spaces.specs.definitions.Tied.{IsTied}
 use Rattle.nm_spaces.proofs.Boxed.{held_seen, held_tied}
-use Rattle.nm_spaces.proofs.Held.HeldEntries.{named_there, hold_tied, hold_shows, hold_entries}
+use Rattle.nm_spaces.proofs.Held.HeldEntries.{held_for, named_there, next_moving, hold_tied, hold_shows, hold_entries}
 use Rattle.nm_spaces.proofs.Moves.OnePage.{placed_in, spare_in, spare_without}
 use Rattle.nm_spaces.proofs.address_spaces.held.HeldSpaces.hold_page.Given.{Over}
 use Rattle.nm_spaces.proofs.address_spaces.held.HeldSpaces.hold_page.Goals as goal
@@ -67,11 +71,17 @@ returns-clause-spaces g c =
     ∙ ap (λ y. with_moved y c.args.page c.args.to) is
 
 pub returns-clause-entries : goal.returns-clause-entries
-returns-clause-entries g c pid v =
+returns-clause-entries g c pages before pid v =
     let x = c.deref_mut-parts.result.now in
+    let y = c.args.self.now.spaces in
+    let tied = held_tied c.deref_mut-parts.ensures.value c.self.invariant in
     let is = ap (λ (h : HeldView). h.spaces) (held_seen c.deref_mut-parts.ensures.value c.self.view_is) in
-    let placed = placed_in c.args.self.now.spaces x.tasks x.areas x.rmap c.args.page c.args.from is c.requires.placed in
-    let spare = spare_in c.args.self.now.spaces x.tasks x.areas x.rmap c.args.to is c.requires.frame c.requires.spare in
+    let placed = placed_in y x.tasks x.areas x.rmap c.args.page c.args.from is c.requires.placed in
+    let spare = spare_in y x.tasks x.areas x.rmap c.args.to is c.requires.frame c.requires.spare in
+    let apart = subst (λ (z : AddressSpacesView). (p q : Page) (f : ℕ) → get page_cmp z.place p ≡ Some f → get page_cmp z.place q ≡ Some f → p ≡ q) is tied.apart in
     ap (λ (ts : Map ℕ Task). entry_at ts pid v) (tasks_after g c)
-    ∙ hold_entries x.tasks x.areas x.rmap c.args.page c.args.from c.args.to (held_tied c.deref_mut-parts.ensures.value c.self.invariant) placed spare pid v
+    ∙ hold_entries x.tasks x.areas x.rmap c.args.page c.args.from c.args.to tied placed spare pid v
     ∙ ap (λ (h : HeldView). option_map (held_for c.args.from c.args.to) (entry_at h.tables pid v)) (held_seen c.deref_mut-parts.ensures.value c.self.view_is)
+    ∙ ap (option_map (held_for c.args.from c.args.to)) (before pid v)
+    ∙ next_moving y.place pages c.args.page c.args.from c.args.to c.requires.placed apart (sight_in (get nat_cmp y.processes pid) v)
+    ∙ ap (λ (z : AddressSpacesView). option_map (entry_meanwhile z.place (pages ++ c.args.page ∷ [])) (sight_in (get nat_cmp z.processes pid) v)) (sym (returns-clause-spaces g c))
