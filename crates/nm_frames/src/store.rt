@@ -40,8 +40,8 @@ impl<A: Allocator + Copy> FrameStore<A> {
     {
         let mut slots = Vec::with_capacity(alloc, frames)?;
         for _ in 0..frames {
-            let zeros = Bytes::zeros(alloc)?;
-            slots.push(Slot::of(zeros))?;
+            let buffer = Bytes::zeros(alloc)?;
+            slots.push(Slot::of(buffer))?;
         }
         Ok(FrameStore { frames: slots })
     }
@@ -52,11 +52,11 @@ impl<A: Allocator + Copy> FrameStore<A> {
         ensures ok { IfOk result (λ store. store ≡ frames_of_zeros frames false) }
         ensures asked { OnErr result (0 < frames) }
     {
-        let mut slots = Vec::with_capacity(alloc, frames)?;
+        let mut unused = Vec::with_capacity(alloc, frames)?;
         for _ in 0..frames {
-            slots.push(Slot::unused())?;
+            unused.push(Slot::unused())?;
         }
-        Ok(FrameStore { frames: slots })
+        Ok(FrameStore { frames: unused })
     }
 
     /// How many frames there are, home and out.

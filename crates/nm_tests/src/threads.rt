@@ -20,8 +20,6 @@ fn job<A: Allocator + Copy>(alloc: A, ticket: u64, byte: u8) -> Result<CopyJob<A
     let mut store = FrameStore::new(alloc, 2)?;
     let first = FrameId::new(0);
     let second = FrameId::new(1);
-    store.populate(alloc, first)?;
-    store.populate(alloc, second)?;
     store.write(first, 0, [byte].as_slice());
     Ok(CopyJob {
         source: store.take_out(first),

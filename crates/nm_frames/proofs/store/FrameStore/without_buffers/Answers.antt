@@ -7,4 +7,4 @@ use Rattle.nm_frames.proofs.store.FrameStore.without_buffers.Goals as goal
 pub returns-clause-ok : goal.returns-clause-ok
 returns-clause-ok g c =
     let all : c.loop.counter ≡ c.args.frames = omega (arith, c.loop.auto.counter-end, c.loop-test.false) in
-    alike c.loop.slots.items c.loop.counter (record { bytes = Some (replicate 4096 0); has_buffer = false }) c.loop.invariant ∙ ap (λ n. frames_of_zeros n false) all
+    alike c.loop.unused.items c.loop.counter (record { bytes = Some (replicate 4096 0); has_buffer = false }) c.loop.invariant ∙ ap (λ n. frames_of_zeros n false) all
