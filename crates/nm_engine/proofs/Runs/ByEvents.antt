@@ -1,5 +1,5 @@
 -- The engine's run goes by events of the run machine.
-use Rattle.std.proofs.Common.{◌≡◌, ℕ, List, [], ◌∷◌, true, cond, map, refl, sym, subst, ap, ◌∙◌}
+use Rattle.std.proofs.Common.{◌≡◌, ℕ, List, true, cond, map, sym, subst, ap, ◌∙◌}
 use Rattle.std.specs.Prelude.{Bool, false, Option, Some, None, ◌&&◌}
 use Rattle.nm_types.specs.State.{State}
 use Rattle.nm_types.specs.declared.taken.Taken.{Taken}

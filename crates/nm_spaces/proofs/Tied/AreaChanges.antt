@@ -1,6 +1,6 @@
 -- Page tables, areas and the reverse map when areas change and every page that was shown is still shown.
 use Rattle.std.proofs.Common.{◌≡◌, ℕ, ◌/◌, ◌+◌, List, [], ◌∷◌, Bool, true, false, not, ◌&&◌, cond, refl, sym, ap, subst, ◌∙◌, eq-eqb}
-use Rattle.std.specs.Prelude.{Option, Some, None, Result, Ok, Err, OnOk, OnErr, nat_le, nat_lt, ◌==◌, length}
+use Rattle.std.specs.Prelude.{Option, Some, None, Result, Ok, Err, OnOk, OnErr, nat_le, nat_lt, length}
 use Rattle.std.specs.Option.{unwrap_or}
 use Rattle.std.specs.List.{flat_map}
 use Rattle.std.specs.List.Sorted.{IsStrictlySortedBy}

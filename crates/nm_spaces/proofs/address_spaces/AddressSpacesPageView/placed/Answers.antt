@@ -1,5 +1,5 @@
-use Rattle.std.proofs.Common.{◌≡◌, ℕ, Bool, ap, sym, ◌∙◌}
-use Rattle.std.specs.Prelude.{nat_lt, Option, Some, None}
+use Rattle.std.proofs.Common.{ℕ, Bool, ap, sym, ◌∙◌}
+use Rattle.std.specs.Prelude.{nat_lt, Some}
 use Rattle.std.specs.Option.{option_map}
 use Rattle.nm_types.specs.Map.{get, page_cmp}
 use Rattle.nm_spaces.specs.views.AddressSpaces.{AddressSpacesView, pins_here}
