@@ -1,3 +1,4 @@
 pub mod BytesStay
+pub mod MovesAreBatches
 pub mod RefusalsChangeNothing
 pub mod StaysSound

@@ -14,7 +14,7 @@ use Rattle.nm_types.specs.Layout.{node_count}
 use Rattle.nm_runs.specs.Targets.{earlier, first_refusal}
 use Rattle.nm_types.specs.State.{State, Process}
 use Rattle.nm_model.specs.definitions.Effect.{info_of, first_error}
-use Rattle.nm_model.specs.definitions.Cut.{Stretch, cut_within, requests_of}
+use Rattle.nm_model.specs.definitions.Cut.{Stretch, requests_of}
 use Rattle.nm_model.specs.definitions.Run.{runs_from}
 use Rattle.nm_model.specs.definitions.Touch.{Access, touch, write, write_after}
 use Rattle.nm_memory.specs.views.Accesses.{answer_shown}
@@ -132,7 +132,7 @@ module _ (s : State) (caller pid : ℕ) (nodes : List ℕ) (flags : ℕ) where
 
 -- a call that moves a batch
 pub moves_does : {A : Type 0} (y : SystemState) (caller pid : ℕ) (pages nodes : List ℕ) (flags : ℕ) (during : List (ℕ × Access)) (r : Result (Moved A) CallError) (new : State) → move_refusal y.state caller pid nodes flags ≡ None
-    → Moves r y.state new (cut_within y.run_limit (requests_of (owner_of caller pid) (moves_all flags) pages nodes)) during → Does (λ moved. Statuses moved.failed moved.statuses.items (map answer_shown moved.answers.items)) r y (in_state y new) (MovePages caller pid pages nodes flags during)
+    → Moves r y.state new y.run_limit (requests_of (owner_of caller pid) (moves_all flags) pages nodes) during → Does (λ moved. Statuses moved.failed moved.statuses.items (map answer_shown moved.answers.items)) r y (in_state y new) (MovePages caller pid pages nodes flags during)
 unfolding refused refused_at_once start sets_policy runs_asked accesses_asked ended
 moves_does y caller pid pages nodes flags during (Ok moved) new none m =
     answers y (MovePages caller pid pages nodes flags during) (record { answer = Statuses moved.failed moved.statuses.items (map answer_shown moved.answers.items); system = in_state y new }) none (rw (m.0, m.1, m.2, m.3) refl)
@@ -141,7 +141,7 @@ moves_does y caller pid pages nodes flags during (Err (HostMemory runs policy_se
     host_leaves y (MovePages caller pid pages nodes flags during) runs policy_set new none none refl refl m.0 m.1 m.2
 
 -- a call that moves the pages of nodes
-pub migrates_does : {A : Type 0} (y : SystemState) (caller pid : ℕ) (from to : List ℕ) (r : Result (Moved A) CallError) (new : State) → migrate_refusal y.state caller pid from to ≡ None → Moves r y.state new (cut_within y.run_limit (migration y.state caller pid from to)) []
+pub migrates_does : {A : Type 0} (y : SystemState) (caller pid : ℕ) (from to : List ℕ) (r : Result (Moved A) CallError) (new : State) → migrate_refusal y.state caller pid from to ≡ None → Moves r y.state new y.run_limit (migration y.state caller pid from to) []
     → Does (λ (moved : Moved A). Failed moved.failed) r y (in_state y new) (MigratePages caller pid from to)
 unfolding refused refused_at_once start sets_policy runs_asked accesses_asked ended
 migrates_does y caller pid from to (Ok moved) new none m = answers y (MigratePages caller pid from to) (record { answer = Failed moved.failed; system = in_state y new }) none (rw (m.1, m.3) refl)

@@ -7,10 +7,10 @@ ghost use Rattle.std.specs.Prelude.{◌≡◌, ◌+◌, ◌<◌, ◌≤◌, [], 
 ghost use Rattle.std.specs.List.{sum_by};
 ghost use Rattle.nm_types.specs.Layout.{node_count};
 ghost use Rattle.nm_runs.specs.Stretches.{stretches_of};
-ghost use Rattle.nm_model.specs.definitions.Cut.{cut_within, requests_of, run_count};
+ghost use Rattle.nm_model.specs.definitions.Cut.{requests_of, run_count};
 ghost use Rattle.nm_runs.specs.Targets.{first_refusal, Checks};
 ghost use Rattle.nm_model.specs.definitions.Run.{HasOneAll};
-ghost use Rattle.nm_calls.specs.definitions.Does.{Moves};
+ghost use Rattle.nm_calls.specs.definitions.Does.{Moves, MovesRuns};
 ghost use Rattle.nm_steps.specs.Views.{shown_during};
 ghost use Rattle.std.specs.Map.{keys_of};
 ghost use Rattle.nm_calls.specs.definitions.Batch.{in_order, left_shown, AreByRun};
@@ -68,7 +68,7 @@ pub(crate) fn move_runs<A: Allocator + Copy + Send + Sync, C: RunCrew<A>>(
     requires alike { All (λ run. HasOneAll run.wanted.items) runs.now }
     requires empty { statuses.items ≡ [] }
     requires room { sum_by (λ run. length run.wanted.items) runs.now ≤ vec_capacity statuses }
-    ensures moves { Moves result machine.old machine.new (stretches_of runs.now)
+    ensures moves { MovesRuns result machine.old machine.new (stretches_of runs.now)
         (shown_during during.now) }
     ensures asked { OnErr result (0 < length runs.now + length during.now) }
 {
@@ -111,8 +111,9 @@ pub(crate) fn move_batch<A: Allocator + Copy + Send + Sync, C: RunCrew<A>>(
     requires some { 0 < limit }
     requires nodes { EachIndex request.now.batch.nodes.items
         (λ k. slice_index request.now.batch.nodes.items k < node_count machine.old.layout) }
-    ensures moves { Moves result machine.old machine.new
-        (cut_within limit (requests_of permit.now.pid permit.now.all request.now.batch.pages.items request.now.batch.nodes.items)) (shown_during request.now.during.items) }
+    ensures moves { Moves result machine.old machine.new limit
+        (requests_of permit.now.pid permit.now.all request.now.batch.pages.items request.now.batch.nodes.items)
+        (shown_during request.now.during.items) }
     ensures asked { OnErr result
         (0 < length request.now.batch.pages.items + length request.now.during.items) }
 {

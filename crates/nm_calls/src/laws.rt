@@ -1,6 +1,6 @@
 //! What holds for every call. Each function does nothing, and its contract is the law.
 
-ghost use Rattle.nm_calls.specs.laws.Calls.{RefusalsChangeNothing, TrailIsAfterRuns, CallsStaySound, CallsKeepMemory, TrailKeepsMemory, WithoutAccessesNone, AnswersGoByPlace, EachAccessIsAnswered};
+ghost use Rattle.nm_calls.specs.laws.Calls.{RefusalsChangeNothing, MovePagesIsABatch, MigrationIsABatch, TrailIsAfterRuns, CallsStaySound, CallsKeepMemory, TrailKeepsMemory, WithoutAccessesNone, AnswersGoByPlace, EachAccessIsAnswered};
 ghost use Rattle.nm_calls.specs.laws.Migrations.{EachPageIsListedOnce, RunsGoToNodesOnline};
 ghost use Rattle.nm_calls.specs.examples.MigrateRows.{EachPageGoesOnce, HalfWay, TwoOfFourGo, SharedPageGoesByPrivilege, MigrationsAreRefused, NothingMigrates, SizesOfWhatIsKept, PageIsListedOnce, RunsHaveALimit};
 ghost use Rattle.nm_calls.specs.definitions.Mbind.{NoStrayIsListedTwice};
@@ -14,6 +14,13 @@ ghost use Rattle.nm_calls.specs.examples.MbindRows.{PinnedPageIsTold, StrictAlon
 /// move, and EBUSY of taking a node offline.
 pub fn refusals_change_nothing()
     ensures { RefusalsChangeNothing }
+{}
+
+/// `move_pages` and `migrate_pages`, where they are not refused, are one batch each, with the system's limit on its
+/// runs.
+pub fn moves_are_batches()
+    ensures pages { MovePagesIsABatch }
+    ensures migrations { MigrationIsABatch }
 {}
 
 /// The states in which running out of host memory may leave the system are those after a call's first runs.

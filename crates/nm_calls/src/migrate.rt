@@ -4,7 +4,6 @@ ghost use Rattle.std.specs.Prelude.{◌≡◌, ◌<◌, [], IfOk, IsSome, Some};
 ghost use Rattle.std.specs.List.{AllByRecursion};
 ghost use Rattle.nm_types.specs.Layout.{node_count};
 ghost use Rattle.nm_policy.specs.Pairs.{pairs};
-ghost use Rattle.nm_model.specs.definitions.Cut.{cut_within};
 ghost use Rattle.nm_runs.specs.Targets.{Checks};
 ghost use Rattle.nm_calls.specs.definitions.Does.{Moves};
 ghost use Rattle.nm_calls.specs.definitions.Permission.{info_at};
@@ -114,8 +113,8 @@ pub(crate) fn migrate<A: Allocator + Copy + Send + Sync, C: RunCrew<A>>(
     requires some { 0 < limit }
     requires there { IsSome (info_at machine.old what.pid) }
     requires nodes { AllByRecursion (λ n. n < node_count machine.old.layout) what.targets }
-    ensures { Moves result machine.old machine.new
-        (cut_within limit (migrate_list machine.old what.pid what.all (pairs old what.targets))) [] }
+    ensures { Moves result machine.old machine.new limit
+        (migrate_list machine.old what.pid what.all (pairs old what.targets)) [] }
 {
     let pairs = pairs(alloc, old, what.targets)?;
     let requests = migrate_list(alloc, machine, what.pid, what.all, pairs.as_slice())?;

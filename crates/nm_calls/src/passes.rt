@@ -16,7 +16,7 @@ ghost use Rattle.nm_model.specs.definitions.Run.{HasOneAll};
 ghost use Rattle.nm_model.specs.definitions.Touch.{has_free};
 ghost use Rattle.nm_calls.specs.definitions.Passes.{passes, without_frame};
 ghost use Rattle.nm_calls.specs.laws.Full.{StandsOn, AreStanding, WouldMove};
-ghost use Rattle.nm_calls.specs.views.Runs.{Batches, MakesRuns, later, IsCounted, IsLeft};
+ghost use Rattle.nm_calls.specs.views.Runs.{Batches, RunsGive, MakesRuns, later, IsCounted, IsLeft};
 
 use crate::batch::move_runs;
 use crate::call_error::CallError;
@@ -39,7 +39,7 @@ pub(crate) fn make_runs<A: Allocator + Copy + Send + Sync, C: RunCrew<A>>(
     requires targets { All (λ run. run.target < node_count machine.old.layout) runs.now }
     requires alike { All (λ run. HasOneAll run.wanted.items) runs.now }
     requires count { sum_by (λ run. length run.wanted.items) runs.now ≡ count }
-    ensures made { Batches result machine.old machine.new (stretches_of runs.now)
+    ensures made { RunsGive result machine.old machine.new (stretches_of runs.now)
         (λ statuses ran. statuses.items ≡ ran.statuses) }
     ensures asked { OnErr result (0 < length runs.now) }
 {
@@ -118,7 +118,7 @@ fn make_pass<A: Allocator + Copy + Send + Sync, C: RunCrew<A>>(
     requires some { 0 < limit }
     requires node { node < node_count (machine.old.layout) }
     requires alike { HasOneAll wanted.now }
-    ensures { Batches result machine.old machine.new (cut_within limit (all_to node wanted.now))
+    ensures { Batches result machine.old machine.new limit (all_to node wanted.now)
         (λ pass ran. (pass.runs ≡ length (cut_within limit (all_to node wanted.now)))
         × (pass.left.items ≡ without_frame wanted.now ran.statuses)) }
 {
@@ -240,7 +240,7 @@ fn next_pass<A: Allocator + Copy + Send + Sync, C: RunCrew<A>>(
     requires left { IsLeft machine.old left }
 
     // In any case
-    ensures runs { Batches result machine.old machine.new (cut_within limit (all_to node left.wanted.items))
+    ensures runs { Batches result machine.old machine.new limit (all_to node left.wanted.items)
         (λ next ran. (next.runs ≡ length (cut_within limit (all_to node left.wanted.items)))
         × (next.left.wanted.items ≡ without_frame left.wanted.items ran.statuses)) }
     // On success

@@ -114,7 +114,7 @@ pub(crate) fn make_turns<A: Allocator + Copy + Send + Sync, C: RunCrew<A>>(
 ) -> Result<Vec<i32, A>, CallError>
     requires some { 0 < limit }
     requires nodes { AllByRecursion (λ page. page.to < node_count (machine.old.layout)) sent.now }
-    ensures made { Batches result machine.old machine.new (cut_within limit (each_to pid all sent.now))
+    ensures made { Batches result machine.old machine.new limit (each_to pid all sent.now)
         (λ statuses ran. statuses.items ≡ ran.statuses) }
     ensures asked { OnErr result (0 < length sent.now) }
 {

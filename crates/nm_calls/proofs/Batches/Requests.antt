@@ -1,5 +1,5 @@
 -- What the runs of a batch have of its requests.
-use Rattle.std.proofs.Common.{arith, ◌≡◌, ℕ, suc, ◌<◌, ◌≤◌, inl, inr, Bool, List, [], ◌∷◌, ◌++◌, length, refl, sym, ap, ◌∙◌, slice_index_or, zero, length-append, subst}
+use Rattle.std.proofs.Common.{arith, ◌≡◌, ℕ, suc, ◌<◌, ◌≤◌, Bool, List, [], ◌∷◌, ◌++◌, length, refl, sym, ap, ◌∙◌, slice_index_or, zero, length-append, subst}
 use Rattle.std.proofs.lemmas.List.{length-map}
 use Rattle.std.specs.Prelude.{slice_index}
 use Rattle.std.proofs.lemmas.List.Sums.{sum_by-cons}
@@ -10,8 +10,7 @@ use Rattle.nm_model.specs.definitions.Cut.{Request, Stretch, all_to, joined, siz
 use Rattle.nm_runs.specs.Stretches.{stretches_of}
 use Rattle.nm_model.specs.definitions.Cut.{cut_within, requests_of}
 use Rattle.nm_runs.proofs.Pieces.{each_limit_cuts}
-use Rattle.nm_model.specs.definitions.Run.{IsByAddress, IsByPage, HasOneAll}
-use Rattle.nm_engine.proofs.Runs.AlikeRequests.{each_has_one_all}
+use Rattle.nm_model.specs.definitions.Run.{moves_all, HasOneAll}
 
 -- what holds of each request of a run
 abbrev OfRun : (Request → Type 0) → Stretch → Type 0
@@ -105,41 +104,39 @@ entries_fit limit pid all ps ns runs some e =
     let few = batch_length pid all ps ns in
     omega (arith, all_of, few)
 
--- the requests of a batch are by address, with one `all` ..
-batch_alike : (pid : ℕ) (all : Bool) (ps ns : List ℕ) → AllByRecursion (λ e. IsByAddress all e.wanted) (requests_of pid all ps ns)
-batch_alike pid all [] ns = tt
-batch_alike pid all (p ∷ ps) [] = tt
-batch_alike pid all (p ∷ ps) (m ∷ ns) = (refl, batch_alike pid all ps ns)
+-- what holds of each request of a run holds of what is wanted ..
+run_wanted : (P : Wanted → Type 0) (target : ℕ) (wanted : List Wanted) → AllByRecursion (λ e. P e.wanted) (all_to target wanted) → AllByRecursion P wanted
+run_wanted P target [] h = tt
+run_wanted P target (w ∷ ws) h = (h.0, run_wanted P target ws h.1)
 
--- what holds of all that is wanted of some requests ..
-module _ (Q : Wanted → Type 0) (kind : (ws : List Wanted) → AllByRecursion Q ws → HasOneAll ws) where
-  each_wanted : (es : List Request) → AllByRecursion Q (wanted_of es) → AllByRecursion (λ e. Q e.wanted) es
-  each_wanted [] h = tt
-  each_wanted (e ∷ es) h = (h.0, each_wanted es h.1)
+-- .. and the other way round, in a batch
+each_wanted : (P : Wanted → Type 0) (es : List Request) → AllByRecursion P (wanted_of es) → AllByRecursion (λ e. P e.wanted) es
+each_wanted P [] h = tt
+each_wanted P (e ∷ es) h = (h.0, each_wanted P es h.1)
 
-  run_wanted : (target : ℕ) (wanted : List Wanted) → AllByRecursion (λ e. Q e.wanted) (all_to target wanted) → AllByRecursion Q wanted
-  run_wanted target [] h = tt
-  run_wanted target (w ∷ ws) h = (h.0, run_wanted target ws h.1)
+all_alike : (all : Bool) (rs : List Stretch) → AllByRecursion (OfRun (λ e. moves_all e.wanted ≡ all)) rs → AllByRecursion (λ r. HasOneAll r.wanted) rs
+all_alike all [] h = tt
+all_alike all (r ∷ rs) h = ((all, run_wanted (λ w. moves_all w ≡ all) r.target r.wanted h.0), all_alike all rs h.1)
 
-  all_alike : (rs : List Stretch) → AllByRecursion (OfRun (λ e. Q e.wanted)) rs → AllByRecursion (λ r. HasOneAll r.wanted) rs
-  all_alike [] h = tt
-  all_alike (r ∷ rs) h = (kind r.wanted (run_wanted r.target r.wanted h.0), all_alike rs h.1)
+each_alike : {A : Type 0} (runs : List (Run A)) → AllByRecursion (λ r. HasOneAll r.wanted) (stretches_of runs) → (k : ℕ) (d : Run A) → k < length runs → HasOneAll (slice_index_or runs k d).wanted.items
+each_alike [] hs k d lt = absurd (omega (arith, lt))
+each_alike (run ∷ runs) hs zero d lt = hs.0
+each_alike (run ∷ runs) hs (suc k) d lt = each_alike runs hs.1 k d (omega (arith, lt))
 
-  -- .. holds of what is wanted of their runs
-  kinds : {A : Type 0} (limit : ℕ) (es : List Request) (runs : List (Run A)) → 0 < limit → stretches_of runs ≡ cut_within limit es → AllByRecursion (λ e. Q e.wanted) es → (k : ℕ) (d : Run A) → k < length runs → HasOneAll (slice_index_or runs k d).wanted.items
-  kinds limit es runs some e h = each_has_one_all runs (rw e (all_alike (cut_within limit es) (of_runs (λ e. Q e.wanted) limit es some h)))
+-- where requests have one `all`, those of each of their runs have it: each by itself ..
+pub run_kinds : {A : Type 0} (limit : ℕ) (all : Bool) (es : List Request) (runs : List (Run A)) → 0 < limit → stretches_of runs ≡ cut_within limit es → AllByRecursion (λ e. moves_all e.wanted ≡ all) es → (k : ℕ) (d : Run A) → k < length runs → HasOneAll (slice_index_or runs k d).wanted.items
+run_kinds limit all es runs some e h =
+    each_alike runs (rw e (all_alike all (cut_within limit es) (of_runs (λ e. moves_all e.wanted ≡ all) limit es some h)))
 
--- where requests have one `all`, each of their runs has it
-pub run_kinds : {A : Type 0} (limit : ℕ) (all : Bool) (es : List Request) (runs : List (Run A)) → 0 < limit → stretches_of runs ≡ cut_within limit es → AllByRecursion (λ e. IsByAddress all e.wanted) es → (k : ℕ) (d : Run A) → k < length runs → HasOneAll (slice_index_or runs k d).wanted.items
-run_kinds limit all es runs some e h = kinds (IsByAddress all) (λ ws h. inl (all, h)) limit es runs some e h
-
--- where they have one `all`, or are by page, so are those of each run
+-- .. or what all of them want ..
 pub runs_like : {A : Type 0} (limit : ℕ) (es : List Request) (runs : List (Run A)) → 0 < limit → stretches_of runs ≡ cut_within limit es → HasOneAll (wanted_of es) → (k : ℕ) (d : Run A) → k < length runs → HasOneAll (slice_index_or runs k d).wanted.items
-runs_like limit es runs some e (inl h) =
-    kinds (IsByAddress h.0) (λ ws k. inl (h.0, k)) limit es runs some e (each_wanted (IsByAddress h.0) (λ ws k. inl (h.0, k)) es h.1)
-runs_like limit es runs some e (inr h) = kinds IsByPage (λ ws k. inr k) limit es runs some e (each_wanted IsByPage (λ ws k. inr k) es h)
+runs_like limit es runs some e h = run_kinds limit h.0 es runs some e (each_wanted (λ w. moves_all w ≡ h.0) es h.1)
 
--- .. and so are those of each of its runs
+-- .. as the requests of a batch have it
 pub runs_alike : {A : Type 0} (limit pid : ℕ) (all : Bool) (ps ns : List ℕ) (runs : List (Run A)) → 0 < limit → stretches_of runs ≡ cut_within limit (requests_of pid all ps ns) → (k : ℕ) (d : Run A) → k < length runs → HasOneAll (slice_index_or runs k d).wanted.items
-runs_alike limit pid all ps ns runs some e =
-    run_kinds limit all (requests_of pid all ps ns) runs some e (batch_alike pid all ps ns)
+runs_alike limit pid all ps ns runs some e = run_kinds limit all (requests_of pid all ps ns) runs some e (alike pid all ps ns)
+  where
+    alike : (pid : ℕ) (all : Bool) (ps ns : List ℕ) → AllByRecursion (λ e. moves_all e.wanted ≡ all) (requests_of pid all ps ns)
+    alike pid all [] ns = tt
+    alike pid all (p ∷ ps) [] = tt
+    alike pid all (p ∷ ps) (m ∷ ns) = (refl, alike pid all ps ns)

@@ -1,5 +1,5 @@
 -- Passes, one after another.
-use Rattle.std.proofs.Common.{arith, ⊎_elim, inl, inr, ◌≡◌, ℕ, zero, suc, ℤ, ◌+◌, ◌<◌, ◌≤◌, Bool, true, false, cond, List, [], ◌∷◌, ◌++◌, length, map, take, refl, sym, ap, subst, ◌∙◌, append_assoc, length-append, slice_index_or}
+use Rattle.std.proofs.Common.{arith, ⊎_elim, ◌≡◌, ℕ, zero, suc, ℤ, ◌+◌, ◌<◌, ◌≤◌, Bool, true, false, cond, List, [], ◌∷◌, ◌++◌, length, map, take, refl, sym, ap, subst, ◌∙◌, append_assoc, length-append, slice_index_or}
 use Rattle.std.proofs.lemmas.List.{length-map, take-append-le}
 use Rattle.std.specs.List.{AllByRecursion, filter, zip}
 use Rattle.std.specs.Ordering.{int_eq}
@@ -10,17 +10,18 @@ use Rattle.nm_model.specs.definitions.Status.{code}
 use Rattle.nm_model.specs.definitions.Cut.{Request, Stretch, all_to, joined, size_of, wanted_of}
 use Rattle.nm_model.specs.definitions.Cut.{cut_within}
 use Rattle.nm_runs.proofs.Pieces.{each_limit_cuts}
-use Rattle.std.specs.Prelude.{◌^◌, ◌==◌, drop, Err}
+use Rattle.std.specs.Prelude.{◌^◌, ◌==◌, drop}
 use Rattle.std.proofs.lemmas.Bool.{eqb-true, eq-eqb, cases_lt}
 use Rattle.nm_types.proofs.Cases.{true_false}
 use Rattle.std.proofs.Math.Seq.{drop-cons}
-use Rattle.nm_model.specs.definitions.Run.{Ran, run, IsByAddress, IsByPage, HasOneAll}
+use Rattle.nm_model.specs.definitions.Run.{run, moves_all, HasOneAll}
 use Rattle.nm_model.specs.definitions.Run.{runs_from}
 use Rattle.nm_calls.specs.definitions.Outcome.{states_of}
 use Rattle.nm_calls.specs.definitions.Passes.{passes, without_frame}
 use Rattle.nm_calls.specs.declared.call_error.CallError.{CallError}
 use Rattle.nm_calls.specs.declared.call_error.CallError.TheVariants.{Refused, HostMemory}
-use Rattle.nm_calls.specs.views.Runs.{Batches, Stops, IsCounted, later}
+use Rattle.nm_calls.specs.definitions.Does.{LacksMemory}
+use Rattle.nm_calls.specs.views.Runs.{Stops, IsCounted, later}
 use Rattle.nm_calls.proofs.Batches.StatusCounts.{run_layout, run_length}
 use Rattle.nm_calls.proofs.Trails.{states_are}
 
@@ -115,8 +116,7 @@ all_left P (w ∷ ws) (z ∷ zs) h =
     ]
 
 pub alike_left : (ws : List Wanted) (zs : List ℤ) → HasOneAll ws → HasOneAll (without_frame ws zs)
-alike_left ws zs (inl h) = inl (h.0, all_left (IsByAddress h.0) ws zs h.1)
-alike_left ws zs (inr h) = inr (all_left IsByPage ws zs h)
+alike_left ws zs h = (h.0, all_left (λ w. moves_all w ≡ h.0) ws zs h.1)
 
 runs_few : (rs : List Stretch) → AllByRecursion (λ r. 0 < size_of r) rs → length rs ≤ length (joined rs)
 runs_few [] h = omega arith
@@ -207,14 +207,14 @@ pub batch_statuses : (limit : ℕ) (s : State) (es : List Request) → 0 < limit
 batch_statuses limit s es some = runs_statuses 0 s (cut_within limit es) ∙ ap length (each_limit_cuts limit es some).is.same
 
 -- what a host without memory leaves of a batch, after more runs
-pub counted_later : {T : Type 0} (e : CallError) (old new : State) (runs : List Stretch) (Gives : T → Ran → Type 0) (made : ℕ) → Batches (Err e) old new runs Gives → made + length runs < 2 ^ 64 → IsCounted e made
-counted_later (Refused x) old new runs Gives made h room = tt
-counted_later (HostMemory k policy_set) old new runs Gives made h room = let few = h.1 in omega (arith, few, room)
+pub counted_later : (e : CallError) (old new : State) (runs : List Stretch) (made : ℕ) → LacksMemory e old new runs [] → made + length runs < 2 ^ 64 → IsCounted e made
+counted_later (Refused x) old new runs made h room = tt
+counted_later (HostMemory k policy_set) old new runs made h room = let few = h.1 in omega (arith, few, room)
 
-pub stopped_later : {T : Type 0} (set : Bool) (e f : CallError) (start s t : State) (all runs rest : List Stretch) (Gives : T → Ran → Type 0) (made : ℕ) → Batches (Err e) s t runs Gives → HavePassed start all (runs ++ rest) s made → 0 < length runs → f ≡ later e made set
+pub stopped_later : (set : Bool) (e f : CallError) (start s t : State) (all runs rest : List Stretch) (made : ℕ) → LacksMemory e s t runs [] → HavePassed start all (runs ++ rest) s made → 0 < length runs → f ≡ later e made set
     → Stops set f start t all
-stopped_later set (Refused x) f start s t all runs rest Gives made h passed some is = absurd h
-stopped_later set (HostMemory k policy_set) f start s t all runs rest Gives made h passed some is =
+stopped_later set (Refused x) f start s t all runs rest made h passed some is = absurd h
+stopped_later set (HostMemory k policy_set) f start s t all runs rest made h passed some is =
     let few = h.1 in
     let after = stopped start all runs rest s t made k passed (omega (arith, few, some)) h.2 in
     subst (λ f. Stops set f start t all) (sym is) (refl, after.0, after.1)

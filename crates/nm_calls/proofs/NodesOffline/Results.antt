@@ -15,7 +15,7 @@ use Rattle.nm_model.specs.definitions.Cut.{Stretch}
 use Rattle.nm_model.specs.definitions.Run.{runs_from}
 use Rattle.nm_model.specs.definitions.Effect.{set_online}
 use Rattle.nm_model.specs.definitions.Seen.{placed_on}
-use Rattle.nm_model.specs.definitions.Run.{IsByPage, HasOneAll}
+use Rattle.nm_model.specs.definitions.Run.{moves_all, HasOneAll}
 use Rattle.nm_calls.specs.declared.call_error.CallError.{CallError}
 use Rattle.nm_calls.specs.declared.call_error.CallError.TheVariants.{Refused, HostMemory}
 use Rattle.nm_types.specs.declared.errno.Errno.TheVariants.{Ebusy}
@@ -33,11 +33,11 @@ use Rattle.nm_calls.proofs.Trails.{runs_unless, state_unless}
 
 -- requests by page
 pub wholes_alike : (pages : List Page) → HasOneAll (map Whole pages)
-wholes_alike pages = inr (each pages)
+wholes_alike pages = (true, each pages)
   where
-    each : (pages : List Page) → AllByRecursion IsByPage (map Whole pages)
+    each : (pages : List Page) → AllByRecursion (λ w. moves_all w ≡ true) (map Whole pages)
     each [] = tt
-    each (p ∷ ps) = (tt, each ps)
+    each (p ∷ ps) = (refl, each ps)
 
 pub wholes_length : (pages : List Page) → length (map Whole pages) ≡ length pages
 wholes_length pages = length-map {B = Wanted} pages Whole

@@ -17,7 +17,7 @@ use Rattle.nm_policy.proofs.Paired.{each_set_is_paired_in_order}
 use Rattle.nm_model.specs.definitions.Cut.{Stretch}
 use Rattle.nm_model.specs.definitions.Cut.{cut_within}
 use Rattle.nm_types.specs.declared.process.ProcessInfo.{ProcessInfo}
-use Rattle.nm_model.specs.definitions.Run.{IsByAddress}
+use Rattle.nm_model.specs.definitions.Run.{moves_all}
 use Rattle.nm_calls.specs.definitions.Permission.{owner_of, info_at}
 use Rattle.nm_calls.specs.definitions.Permission.{usable}
 use Rattle.nm_steps.specs.Calls.{MigratePages}
@@ -56,11 +56,11 @@ targets_of P ns (p ∷ ps) pid all h inside = ((λ v. of_member P ns p.to h insi
 pub asked_targets : (P : ℕ → Type 0) (s : State) (pid : ℕ) (all : Bool) (ns : List ℕ) (ps : List Pair) → AllByRecursion P ns → AllByRecursion (λ p. is_in ns p.to ≡ true) ps → AllByRecursion (λ e. P e.target) (migrate_list s pid all ps)
 asked_targets P s pid all ns ps h inside = all_asked (λ e. P e.target) s pid all ps (targets_of P ns ps pid all h inside)
 
--- all are by address and have one `all`
-pub asked_alike : (s : State) (pid : ℕ) (all : Bool) (ps : List Pair) → AllByRecursion (λ e. IsByAddress all e.wanted) (migrate_list s pid all ps)
-asked_alike s pid all ps = all_asked (λ e. IsByAddress all e.wanted) s pid all ps (each ps)
+-- all have one `all`
+pub asked_alike : (s : State) (pid : ℕ) (all : Bool) (ps : List Pair) → AllByRecursion (λ e. moves_all e.wanted ≡ all) (migrate_list s pid all ps)
+asked_alike s pid all ps = all_asked (λ e. moves_all e.wanted ≡ all) s pid all ps (each ps)
   where
-    each : (ps : List Pair) → AllByRecursion (λ (p : Pair). (v : ℕ) → IsByAddress all (At pid v all)) ps
+    each : (ps : List Pair) → AllByRecursion (λ (p : Pair). (v : ℕ) → moves_all (At pid v all) ≡ all) ps
     each [] = tt
     each (p ∷ ps) = ((λ v. refl), each ps)
 

@@ -1,5 +1,5 @@
 -- How the pages of a policy move.
-use Rattle.std.proofs.Common.{◌≡◌, ℕ, suc, Bool, true, false, cond, List, [], ◌∷◌, ◌++◌, length, map, inl, refl, sym, ap, subst}
+use Rattle.std.proofs.Common.{◌≡◌, ℕ, suc, Bool, true, false, cond, List, [], ◌∷◌, ◌++◌, length, map, refl, sym, ap, subst}
 use Rattle.std.proofs.lemmas.Bool.{eqb-true}
 use Rattle.std.specs.Prelude.{◌==◌}
 use Rattle.std.specs.List.{AllByRecursion, filter, flat_map}
@@ -14,7 +14,7 @@ use Rattle.nm_policy.specs.Turns.{sent, sent_to, by_turns}
 use Rattle.nm_model.specs.definitions.Cut.{wanted_of}
 use Rattle.nm_types.specs.declared.located.Located.{Located}
 use Rattle.nm_model.specs.definitions.Effect.{with_areas_of}
-use Rattle.nm_model.specs.definitions.Run.{IsByAddress, HasOneAll}
+use Rattle.nm_model.specs.definitions.Run.{moves_all, HasOneAll}
 use Rattle.nm_calls.specs.definitions.Passes.{passes}
 use Rattle.nm_calls.specs.definitions.Mbind.{requests_at, each_to, nodes_tried, runs_by}
 use Rattle.nm_calls.specs.views.Runs.{nodes_named}
@@ -63,18 +63,18 @@ module _ (P : ℕ → Type 0) where
   tried_all s home (Interleave nodes) h = tt
   tried_all s home Local h = tt
 
--- .. and are by address, with one `all`
+-- .. and have one `all`
 pub turns_alike : (pid : ℕ) (all : Bool) (ts : List Sent) → HasOneAll (wanted_of (each_to pid all ts))
-turns_alike pid all ts = inl (all, each ts)
+turns_alike pid all ts = (all, each ts)
   where
-    each : (ts : List Sent) → AllByRecursion (IsByAddress all) (wanted_of (each_to pid all ts))
+    each : (ts : List Sent) → AllByRecursion (λ w. moves_all w ≡ all) (wanted_of (each_to pid all ts))
     each [] = tt
     each (t ∷ ts) = (refl, each ts)
 
 pub spots_alike : (pid : ℕ) (all : Bool) (ls : List Located) → HasOneAll (requests_at pid all ls)
-spots_alike pid all ls = inl (all, each ls)
+spots_alike pid all ls = (all, each ls)
   where
-    each : (ls : List Located) → AllByRecursion (IsByAddress all) (requests_at pid all ls)
+    each : (ls : List Located) → AllByRecursion (λ w. moves_all w ≡ all) (requests_at pid all ls)
     each [] = tt
     each (l ∷ ls) = (refl, each ls)
 

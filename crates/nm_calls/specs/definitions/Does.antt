@@ -3,9 +3,9 @@ use Rattle.std.specs.Prelude.{◌≡◌, ◌⊎◌, ℕ, ◌<◌, ◌≤◌, ◌
 use Rattle.std.specs.Map.{keys_of}
 use Rattle.nm_types.specs.declared.errno.Errno.{Errno}
 use Rattle.nm_types.specs.State.{State}
-use Rattle.nm_model.specs.definitions.Cut.{Stretch}
+use Rattle.nm_model.specs.definitions.Cut.{Request, Stretch, cut_within}
 use Rattle.nm_model.specs.definitions.Touch.{Access}
-use Rattle.nm_model.specs.definitions.Run.{failures, runs_from}
+use Rattle.nm_model.specs.definitions.Run.{Ran, failures, runs_from, batch}
 use Rattle.nm_memory.specs.views.Accesses.{answer_shown}
 use Rattle.nm_calls.specs.declared.call_error.CallError.{CallError}
 use Rattle.nm_calls.specs.declared.call_error.CallError.TheVariants.{Refused, HostMemory}
@@ -35,17 +35,29 @@ abbrev pub DoesOrRefuses : {T : Type 0} → (T → Answer) → Result T Errno �
 DoesOrRefuses view (Ok value) old new call = outcome old call ≡ record { answer = view value; system = new }
 DoesOrRefuses view (Err e) old new call = outcome old call ≡ record { answer = Refusal e; system = new }
 
--- the runs of a batch are made, each with its accesses; or the host runs out of memory for one of them, after those
--- before it
-abbrev pub Moves : {A : Type 0} → Result (Moved A) CallError → State → State → List Stretch → List (ℕ × Access) → Type 0
-Moves (Ok moved) old new stretches during =
-    let made = runs_from 0 old stretches during in
+-- what a call reports of runs: the statuses, how many failed, and the answers, in the order of accesses that name runs by
+-- these numbers; and the state after them
+abbrev pub Reports : {A : Type 0} → Moved A → State → List ℕ → Ran → Type 0
+Reports moved new numbers made =
     (moved.statuses.items ≡ made.statuses) × (moved.failed ≡ failures made.statuses)
-    × (map answer_shown moved.answers.items ≡ in_order (keys_of during) made.answers) × (new ≡ made.state)
-Moves (Err (Refused e)) old new stretches during = ⊥
-Moves (Err (HostMemory runs policy_set)) old new stretches during =
-    (policy_set ≡ false) × (runs ≤ length stretches - 1)
-    × (new ≡ slice_index_or (states_from 0 old stretches during) runs old)
+    × (map answer_shown moved.answers.items ≡ in_order numbers made.answers) × (new ≡ made.state)
+
+-- the host runs out of memory for one of these runs, after those before it
+abbrev pub LacksMemory : CallError → State → State → List Stretch → List (ℕ × Access) → Type 0
+LacksMemory (Refused e) old new runs during = ⊥
+LacksMemory (HostMemory made policy_set) old new runs during =
+    (policy_set ≡ false) × (made ≤ length runs - 1) × (new ≡ slice_index_or (states_from 0 old runs during) made old)
+
+-- runs are made, each with its accesses; or the host runs out of memory for one of them
+abbrev pub MovesRuns : {A : Type 0} → Result (Moved A) CallError → State → State → List Stretch → List (ℕ × Access) → Type 0
+MovesRuns (Ok moved) old new runs during = Reports moved new (keys_of during) (runs_from 0 old runs during)
+MovesRuns (Err e) old new runs during = LacksMemory e old new runs during
+
+-- a batch is made under a limit, with these accesses; or the host runs out of memory for one of its runs
+abbrev pub Moves : {A : Type 0} → Result (Moved A) CallError → State → State → ℕ → List Request → List (ℕ × Access) → Type 0
+Moves (Ok moved) old new limit requests during =
+    Reports moved new (keys_of during) (batch limit old requests during)
+Moves (Err e) old new limit requests during = LacksMemory e old new (cut_within limit requests) during
 
 -- the host may be out of memory only where this holds
 abbrev pub Asks : {T : Type 0} → Result T CallError → Type 0 → Type 0

@@ -4,18 +4,20 @@ use Rattle.std.specs.List.{AllByRecursion}
 use Rattle.std.specs.Map.{keys_of}
 use Rattle.nm_types.specs.declared.errno.Errno.{Errno}
 use Rattle.nm_types.specs.State.{State}
-use Rattle.nm_model.specs.definitions.Cut.{Stretch}
+use Rattle.nm_model.specs.definitions.Cut.{Stretch, requests_of}
 use Rattle.nm_model.specs.definitions.Memory.{mem}
 use Rattle.nm_model.specs.definitions.Touch.{Access, AccessAnswer}
-use Rattle.nm_model.specs.definitions.Run.{runs_from}
+use Rattle.nm_model.specs.definitions.Run.{runs_from, batch, answer_of}
 use Rattle.nm_model.specs.definitions.Sound.{IsSound}
 use Rattle.nm_laws.specs.Laws.{runs_written}
-use Rattle.nm_steps.specs.Calls.{Call, MapPages, Attach, Unmap, Exit, WriteBytes, MovePages, Mbind, Offline}
-use Rattle.nm_calls.specs.definitions.Answers.{Refusal, Statuses}
+use Rattle.nm_steps.specs.Calls.{Call, MapPages, Attach, Unmap, Exit, WriteBytes, MovePages, MigratePages, Mbind, Offline}
+use Rattle.nm_calls.specs.definitions.Answers.{Refusal, Statuses, Failed}
 use Rattle.nm_calls.specs.definitions.Batch.{in_order, by_place}
 use Rattle.nm_calls.specs.definitions.Systems.{SystemState}
-use Rattle.nm_calls.specs.definitions.Outcome.{start, started, outcome, runs_of, accesses_asked, trail}
+use Rattle.nm_calls.specs.definitions.Outcome.{refused, leaves, start, started, outcome, runs_of, accesses_asked, trail}
 use Rattle.nm_calls.specs.definitions.Mbind.{tells_late}
+use Rattle.nm_calls.specs.definitions.Migrate.{migration}
+use Rattle.nm_calls.specs.definitions.Permission.{owner_of, moves_all}
 use Rattle.nm_types.specs.declared.errno.Errno.TheVariants.{Eio, Ebusy}
 
 -- the refusal that may come after a call's runs
@@ -30,6 +32,24 @@ abbrev pub RefusalsChangeNothing : Type 0
 RefusalsChangeNothing =
     (y : SystemState) (call : Call) (e : Errno) → (outcome y call).answer ≡ Refusal e →
     ((outcome y call).system ≡ y) ⊎ (late_refusal call ≡ Some e)
+
+-- move_pages, where it is not refused, is one batch under the limit of the system: what it answers, and the state after it
+abbrev pub MovePagesIsABatch : Type 0
+MovePagesIsABatch =
+    (y : SystemState) (caller pid : ℕ) (pages nodes : List ℕ) (flags : ℕ) (during : List (ℕ × Access)) →
+    let call = MovePages caller pid pages nodes flags during in
+    refused y.state call ≡ None →
+    let made = batch y.run_limit y.state (requests_of (owner_of caller pid) (moves_all flags) pages nodes) during in
+    outcome y call ≡ leaves y (Statuses (answer_of made) made.statuses (in_order (keys_of during) made.answers)) made.state
+
+-- so is migrate_pages, of the pages that it lists
+abbrev pub MigrationIsABatch : Type 0
+MigrationIsABatch =
+    (y : SystemState) (caller pid : ℕ) (old new : List ℕ) →
+    let call = MigratePages caller pid old new in
+    refused y.state call ≡ None →
+    let made = batch y.run_limit y.state (migration y.state caller pid old new) [] in
+    outcome y call ≡ leaves y (Failed (answer_of made)) made.state
 
 -- the state at index `n` of the trail is that after the first `n` runs, made one after another
 abbrev pub TrailIsAfterRuns : Type 0

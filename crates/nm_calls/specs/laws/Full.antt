@@ -9,8 +9,7 @@ use Rattle.nm_types.specs.declared.request.Wanted.{Wanted}
 use Rattle.nm_model.specs.definitions.Status.{status_or_move}
 use Rattle.nm_model.specs.definitions.Cut.{all_to}
 use Rattle.nm_model.specs.definitions.Cut.{cut_within}
-use Rattle.nm_model.specs.definitions.Run.{Ran, with_counts}
-use Rattle.nm_model.specs.definitions.Run.{runs_from}
+use Rattle.nm_model.specs.definitions.Run.{Ran, with_counts, batch}
 use Rattle.nm_calls.specs.definitions.Passes.{without_frame}
 
 -- this asks for a page that is on this node
@@ -23,7 +22,7 @@ WouldMove s node w = (page : Page) × (from : ℕ) × (status_or_move s node w �
 
 -- the state and the statuses after a pass over a node
 abbrev pub pass : ℕ → State → ℕ → List Wanted → Ran
-pass limit s node wanted = runs_from 0 s (cut_within limit (all_to node wanted)) []
+pass limit s node wanted = batch limit s (all_to node wanted) []
 
 -- how many runs a batch of this many requests for one node has: their number divided by the limit, rounded up
 abbrev pub rounded_up : ℕ → ℕ → ℕ

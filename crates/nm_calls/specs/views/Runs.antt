@@ -5,10 +5,8 @@ use Rattle.nm_types.specs.declared.area.Policy.{Policy}
 use Rattle.nm_types.specs.declared.area.Policy.TheVariants.{Default, Preferred, Bind, Interleave, Local}
 use Rattle.nm_types.specs.declared.errno.Errno.TheVariants.{Eio, Ebusy}
 use Rattle.nm_types.specs.State.{State}
-use Rattle.nm_model.specs.definitions.Cut.{Stretch}
-use Rattle.nm_model.specs.definitions.Cut.{cut_within}
-use Rattle.nm_model.specs.definitions.Run.{Ran, HasOneAll}
-use Rattle.nm_model.specs.definitions.Run.{runs_from}
+use Rattle.nm_model.specs.definitions.Cut.{Request, Stretch, cut_within}
+use Rattle.nm_model.specs.definitions.Run.{Ran, HasOneAll, runs_from, batch}
 use Rattle.nm_model.specs.definitions.Effect.{set_online}
 use Rattle.nm_calls.specs.declared.mbind.Binding.{Binding}
 use Rattle.nm_calls.specs.declared.passes.Left.{Left}
@@ -16,6 +14,7 @@ use Rattle.nm_calls.specs.declared.placement.Placement.{Placement}
 use Rattle.nm_calls.specs.declared.placement.Placement.TheVariants.{Passes, Turns}
 use Rattle.nm_calls.specs.declared.call_error.CallError.{CallError}
 use Rattle.nm_calls.specs.declared.call_error.CallError.TheVariants.{Refused, HostMemory}
+use Rattle.nm_calls.specs.definitions.Does.{LacksMemory}
 use Rattle.nm_calls.specs.definitions.Passes.{passes}
 use Rattle.nm_calls.specs.laws.Full.{HasFailed, AreStanding}
 use Rattle.nm_calls.specs.definitions.Mbind.{each_to, has_stray, tells_late}
@@ -41,12 +40,16 @@ nodes_named (Bind nodes) = nodes
 nodes_named (Interleave nodes) = nodes
 nodes_named Local = []
 
--- the runs are made with this result; or the host runs out of memory for one of them, after those before it
-abbrev pub Batches : {T : Type 0} → Result T CallError → State → State → List Stretch → (T → Ran → Type 0) → Type 0
-Batches (Ok value) old new runs Gives = let made = runs_from 0 old runs [] in (new ≡ made.state) × Gives value made
-Batches (Err (Refused e)) old new runs Gives = ⊥
-Batches (Err (HostMemory k policy_set)) old new runs Gives =
-    (policy_set ≡ false) × (k ≤ length runs - 1) × (new ≡ slice_index_or (states_of old runs) k old)
+-- runs without accesses are made with this result; or the host runs out of memory for one of them
+abbrev pub RunsGive : {T : Type 0} → Result T CallError → State → State → List Stretch → (T → Ran → Type 0) → Type 0
+RunsGive (Ok value) old new runs Gives = let made = runs_from 0 old runs [] in (new ≡ made.state) × Gives value made
+RunsGive (Err e) old new runs Gives = LacksMemory e old new runs []
+
+-- a batch without accesses is made with this result, under a limit; or the host runs out of memory for one of its runs
+abbrev pub Batches : {T : Type 0} → Result T CallError → State → State → ℕ → List Request → (T → Ran → Type 0) → Type 0
+Batches (Ok value) old new limit requests Gives =
+    let made = batch limit old requests [] in (new ≡ made.state) × Gives value made
+Batches (Err e) old new limit requests Gives = LacksMemory e old new (cut_within limit requests) []
 
 -- the host runs out of memory for one of these runs, after those before it; and whether a policy is set before them
 abbrev pub Stops : Bool → CallError → State → State → List Stretch → Type 0

@@ -8,7 +8,7 @@ use Rattle.nm_steps.specs.declared.call.InFlight.{InFlight}
 use Rattle.nm_memory.specs.declared.answers.AccessAnswer.{AccessAnswer}
 use Rattle.nm_memory.specs.views.Accesses.{answer_shown}
 use Rattle.nm_calls.specs.definitions.Does.{Moves}
-use Rattle.nm_calls.proofs.Batches.Results.{none_moved, moved_same, on_err}
+use Rattle.nm_calls.proofs.Batches.Results.{none_moved, batch_moved, on_err}
 use Rattle.nm_calls.proofs.Batches.Requests.{targets_below, runs_alike, entries_fit}
 use Rattle.nm_calls.proofs.batch.move_batch.Goals as goal
 use Rattle.nm_calls.proofs.batch.move_batch.Goals.{else-is_empty-via-then-is_empty+else-is_empty-2, else-is_empty-via-else-is_empty}
@@ -22,7 +22,7 @@ is_more (suc n) b is some = omega arith
 
 -- a batch of no pages and no accesses
 none_made : {A : Type 0} (statuses : Vec ℤ A) (answers : Vec (AccessAnswer A) A) (s : State) (limit pid : ℕ) (all : Bool) (ps ns : List ℕ) (during : List (InFlight A)) → statuses.items ≡ [] → answers.items ≡ [] → length ps ≡ 0 → length during ≡ 0
-    → Moves (Ok (record { failed = 0; statuses = statuses; answers = answers })) s s (cut_within limit (requests_of pid all ps ns)) (shown_during during)
+    → Moves (Ok (record { failed = 0; statuses = statuses; answers = answers })) s s limit (requests_of pid all ps ns) (shown_during during)
 none_made statuses answers s limit pid all [] ns [] same told none still = (same, refl, ap (map answer_shown) told, refl)
 none_made statuses answers s limit pid all (p ∷ ps) ns during same told none still = absurd (omega (arith, none))
 none_made statuses answers s limit pid all [] ns (d ∷ ds) same told none still = absurd (omega (arith, still))
@@ -65,17 +65,17 @@ move_runs-requires-clause-room g c κs within =
     omega (arith, fit, ap length c.as_slice-pages.ensures.value, c.in_ok-statuses.ensures.capacity)
 
 pub returns-in_err-runs-clause-moves : goal.returns-in_err-runs-clause-moves
-returns-in_err-runs-clause-moves g c = none_moved _ _ _ _ c.from_residual.ensures.1
+returns-in_err-runs-clause-moves g c = none_moved _ _ _ _ _ c.from_residual.ensures.1
 
 pub returns-in_err-statuses-clause-moves : goal.returns-in_err-statuses-clause-moves
-returns-in_err-statuses-clause-moves g c = none_moved _ _ _ _ c.from_residual-in_err-statuses.ensures.1
+returns-in_err-statuses-clause-moves g c = none_moved _ _ _ _ _ c.from_residual-in_err-statuses.ensures.1
 
 pub returns-clause-moves : goal.returns-clause-moves
 returns-clause-moves g c =
     let x = c.args.request.now.batch in
     let asked = ap (λ ps. requests_of c.args.permit.now.pid c.args.permit.now.all ps c.as_slice-nodes.result.now) c.as_slice-pages.ensures.value ∙ ap (requests_of c.args.permit.now.pid c.args.permit.now.all x.pages.items) c.as_slice-nodes.ensures.value in
     let runs = ap stretches_of c.as_slice-runs.ensures.value ∙ c.in_ok-runs.ensures.runs ∙ ap (cut_within c.args.limit) asked in
-    moved_same c.move_runs.result _ _ _ _ _ _ runs (ap shown_during c.as_slice-during.ensures.value) c.move_runs.ensures.moves
+    batch_moved c.move_runs.result _ _ _ _ _ _ _ runs (ap shown_during c.as_slice-during.ensures.value) c.move_runs.ensures.moves
 
 pub returns-in_err-runs-clause-asked : goal.returns-in_err-runs-clause-asked
 returns-in_err-runs-clause-asked g c = on_err c.from_residual.result (omega (arith, c.in_err-runs.ensures.asked, ap length c.as_slice-pages.ensures.value))

@@ -14,7 +14,7 @@ use Rattle.nm_calls.specs.definitions.Batch.{in_order, left_shown}
 use Rattle.nm_calls.proofs.Batches.StatusCounts.{run_length, run_layout, failures-append, failures-le-length}
 use Rattle.nm_calls.proofs.Accesses.Loops.{list_there}
 use Rattle.nm_calls.proofs.Accesses.Lent.{one_lent, lent_shown}
-use Rattle.nm_calls.proofs.Batches.Results.{none_moved, on_err, takes_some}
+use Rattle.nm_calls.proofs.Batches.Results.{none_ran, on_err, takes_some}
 use Rattle.nm_calls.proofs.Trails.{states_are}
 use Rattle.nm_calls.proofs.Batches.Progress.{HaveRun, none_run, one_more_run, some_run, all_run, next_left, entries_left, not_last}
 use Rattle.nm_calls.proofs.batch.move_runs.Goals as goal
@@ -157,13 +157,13 @@ returns-clause-moves g c =
     (made.0, c.loop-k.invariant.failed ∙ ap failures made.0, c.in_order.ensures ∙ ap (in_order (keys_of during)) made.1, made.2)
 
 pub returns-in_err-accesses-clause-moves : goal.returns-in_err-accesses-clause-moves
-returns-in_err-accesses-clause-moves g c = none_moved _ _ _ _ c.from_residual.ensures.1
+returns-in_err-accesses-clause-moves g c = none_ran _ _ _ _ c.from_residual.ensures.1
 
 pub returns-in_err-told-clause-moves : goal.returns-in_err-told-clause-moves
-returns-in_err-told-clause-moves g c = none_moved _ _ _ _ c.from_residual-in_err-told.ensures.1
+returns-in_err-told-clause-moves g c = none_ran _ _ _ _ c.from_residual-in_err-told.ensures.1
 
 pub returns-in_err-answers-clause-moves : goal.returns-in_err-answers-clause-moves
-returns-in_err-answers-clause-moves g c = none_moved _ _ _ _ c.from_residual-in_err-answers.ensures.1
+returns-in_err-answers-clause-moves g c = none_ran _ _ _ _ c.from_residual-in_err-answers.ensures.1
 
 pub returns-in_err-accesses-clause-asked : goal.returns-in_err-accesses-clause-asked
 returns-in_err-accesses-clause-asked g c = on_err c.from_residual.result (some_first _ _ c.in_err-accesses.ensures.asked)

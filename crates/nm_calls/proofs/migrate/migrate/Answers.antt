@@ -6,7 +6,7 @@ use Rattle.nm_runs.specs.Stretches.{stretches_of}
 use Rattle.nm_model.specs.definitions.Cut.{cut_within}
 use Rattle.nm_calls.specs.definitions.Migrate.{migrate_list}
 use Rattle.nm_steps.specs.Views.{shown_during}
-use Rattle.nm_calls.proofs.Batches.Results.{none_moved, moved_same}
+use Rattle.nm_calls.proofs.Batches.Results.{none_moved, batch_moved}
 use Rattle.nm_calls.proofs.Batches.Requests.{run_targets, run_entries, run_kinds}
 use Rattle.nm_calls.proofs.PageLists.Pairs.{asked_targets, asked_alike}
 use Rattle.nm_calls.proofs.migrate.migrate.Goals as goal
@@ -37,18 +37,18 @@ move_runs-requires-clause-room g c κs within =
     omega (arith, fit, c.in_ok-statuses.ensures.capacity)
 
 pub returns-in_err-pairs : goal.returns-in_err-pairs
-returns-in_err-pairs g c = none_moved _ _ _ _ c.from_residual.ensures.1
+returns-in_err-pairs g c = none_moved _ _ _ _ _ c.from_residual.ensures.1
 
 pub returns-in_err-requests : goal.returns-in_err-requests
 returns-in_err-requests g c =
     let r = c.from_residual-in_err-requests.result in
-    none_moved _ _ _ _ (subst (λ e. IsErrAnd r (λ x. x ≡ e)) c.in_err-requests.ensures.err c.from_residual-in_err-requests.ensures.1)
+    none_moved _ _ _ _ _ (subst (λ e. IsErrAnd r (λ x. x ≡ e)) c.in_err-requests.ensures.err c.from_residual-in_err-requests.ensures.1)
 
 pub returns-in_err-runs : goal.returns-in_err-runs
-returns-in_err-runs g c = none_moved _ _ _ _ c.from_residual-in_err-runs.ensures.1
+returns-in_err-runs g c = none_moved _ _ _ _ _ c.from_residual-in_err-runs.ensures.1
 
 pub returns-in_err-statuses : goal.returns-in_err-statuses
-returns-in_err-statuses g c = none_moved _ _ _ _ c.from_residual-in_err-statuses.ensures.1
+returns-in_err-statuses g c = none_moved _ _ _ _ _ c.from_residual-in_err-statuses.ensures.1
 
 pub returns : goal.returns
 returns g c =
@@ -56,4 +56,4 @@ returns g c =
     let what = c.args.what in
     let list = c.in_ok-requests.ensures.list ∙ ap (migrate_list s what.pid what.all) (c.as_slice.ensures.value ∙ c.in_ok-pairs.ensures.value) in
     let runs = ap stretches_of c.as_slice-3.ensures.value ∙ c.in_ok-runs.ensures.runs ∙ ap (cut_within c.args.limit) (c.as_slice-2.ensures.value ∙ list) in
-    moved_same c.move_runs.result _ _ _ _ _ _ runs (ap shown_during c.as_slice-4.ensures) c.move_runs.ensures.moves
+    batch_moved c.move_runs.result _ _ _ _ _ _ _ runs (ap shown_during c.as_slice-4.ensures) c.move_runs.ensures.moves

@@ -7,7 +7,7 @@ use Rattle.nm_model.specs.definitions.Run.{runs_from}
 use Rattle.nm_runs.specs.Stretches.{stretches_of}
 use Rattle.nm_calls.specs.definitions.Passes.{without_frame}
 use Rattle.nm_calls.proofs.Batches.Requests.{run_targets, run_entries, runs_like}
-use Rattle.nm_calls.proofs.Batches.Results.{none_batched, batch_told}
+use Rattle.nm_calls.proofs.Batches.Results.{none_batched, batch_stopped}
 use Rattle.nm_calls.proofs.NodesOffline.Passes.{to_node_below, to_node_wanted, to_node_length, batch_statuses}
 use Rattle.nm_calls.proofs.passes.make_pass.Goals as goal
 
@@ -38,15 +38,15 @@ put_without_frame-requires-clause-paired g c =
     sym (ap length (c.as_slice-2.ensures.value ∙ c.in_ok-statuses.ensures.made.1) ∙ made ∙ batch_statuses x.limit x.machine.now (all_to x.node x.wanted.now) c.requires.some ∙ to_node_length x.node x.wanted.now)
 
 pub returns-in_err-runs : goal.returns-in_err-runs
-returns-in_err-runs g c = none_batched _ _ _ _ c.from_residual.ensures.1
+returns-in_err-runs g c = none_batched _ _ _ _ _ c.from_residual.ensures.1
 
 pub returns-in_err-left : goal.returns-in_err-left
-returns-in_err-left g c = none_batched _ _ _ _ c.from_residual-in_err-left.ensures.1
+returns-in_err-left g c = none_batched _ _ _ _ _ c.from_residual-in_err-left.ensures.1
 
 pub returns-in_err-statuses : goal.returns-in_err-statuses
 returns-in_err-statuses g c =
     let runs = ap stretches_of c.as_slice.ensures.value ∙ c.in_ok-runs.ensures.runs in
-    batch_told c.make_runs.result _ _ _ _ _ _ _ _ c.in_err-statuses.was c.from_residual-in_err-statuses.ensures.1 runs c.make_runs.ensures.made
+    batch_stopped c.make_runs.result _ _ _ _ _ _ _ _ _ c.in_err-statuses.was c.from_residual-in_err-statuses.ensures.1 runs c.make_runs.ensures.made
 
 pub returns : goal.returns
 returns g c =

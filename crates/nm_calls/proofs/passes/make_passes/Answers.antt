@@ -24,7 +24,7 @@ later-requires g c =
     let es = all_to c.node-item.result ws in
     let runs = few_runs x.limit es c.requires.some in
     let len = to_node_length c.node-item.result ws in
-    counted_later c.in-Err.error c.loop-node.machine c.next_pass.new.machine (cut_within x.limit es) _ c.loop-node.made c.in-Err.ensures.runs
+    counted_later c.in-Err.error c.loop-node.machine c.next_pass.new.machine (cut_within x.limit es) c.loop-node.made c.in-Err.ensures.runs
     (omega (arith, runs, len, c.loop-node.invariant.few, c.loop-node.invariant.counted, c.loop-node-test.true, c.requires.passes))
 
 pub returns-in-Err-clause-runs : goal.returns-in-Err-clause-runs
@@ -42,7 +42,7 @@ returns-in-Err-clause-runs g c =
     let passed = subst (λ l. HavePassed x.machine.now all l s c.loop-node.made) here c.loop-node.invariant.passed in
     let some : 0 < length ws = something_is _ _ c.loop-node.left.wanted.ok.0 (sym c.is_empty.ensures ∙ c.if-is_empty.false) in
     let has = some_run_of x.limit (all_to node ws) c.requires.some (omega (arith, some, to_node_length node ws)) in
-    stopped_later x.policy_set c.in-Err.error c.later.result x.machine.now s c.next_pass.new.machine all runs rest _ c.loop-node.made c.in-Err.ensures.runs passed has c.later.ensures
+    stopped_later x.policy_set c.in-Err.error c.later.result x.machine.now s c.next_pass.new.machine all runs rest c.loop-node.made c.in-Err.ensures.runs passed has c.later.ensures
 
 pub overflow_add-made : goal.overflow_add-made
 overflow_add-made g c =

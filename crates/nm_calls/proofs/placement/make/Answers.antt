@@ -22,7 +22,7 @@ returns g c =
     let some : 0 < length es = subst (λ l. 0 < length (asked l)) (sym value) (subst (λ n. 0 < n) (sym (sent_length c.in-Turns.pid c.in-Turns.all c.in-Turns.sent.items)) has) in
     let passed = subst (λ l. HavePassed s runs l s 0) (sym (append-nil runs)) (none_passed s runs) in
     subst (Stops true c.later.result s c.make_turns.new.machine) all
-    (stopped_later true c.in-Err.error c.later.result s s c.make_turns.new.machine runs runs [] _ 0 c.in-Err.ensures.made passed (some_run_of x.limit es c.requires.some some) c.later.ensures)
+    (stopped_later true c.in-Err.error c.later.result s s c.make_turns.new.machine runs runs [] 0 c.in-Err.ensures.made passed (some_run_of x.limit es c.requires.some some) c.later.ensures)
 
 pub returns-in-Passes : goal.returns-in-Passes
 returns-in-Passes g c =

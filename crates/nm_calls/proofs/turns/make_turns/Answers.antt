@@ -1,10 +1,8 @@
-use Rattle.std.proofs.Common.{◌<◌, arith, ap, subst, ◌∙◌, List, ◌≡◌}
+use Rattle.std.proofs.Common.{◌<◌, arith, ap, ◌∙◌}
 use Rattle.nm_types.specs.Layout.{node_count}
-use Rattle.nm_model.specs.definitions.Cut.{Stretch}
 use Rattle.nm_runs.specs.Stretches.{stretches_of}
 use Rattle.nm_calls.specs.definitions.Mbind.{each_to}
-use Rattle.nm_calls.specs.views.Runs.{Batches}
-use Rattle.nm_calls.proofs.Batches.Results.{none_batched, err_more}
+use Rattle.nm_calls.proofs.Batches.Results.{none_batched, batch_given, err_more}
 use Rattle.nm_calls.proofs.Batches.Requests.{run_targets, run_entries, runs_like, some_runs}
 use Rattle.nm_calls.proofs.Policies.Moves.{asked_all, turns_alike}
 use Rattle.nm_calls.proofs.Policies.SentPages.{sent_length}
@@ -30,12 +28,12 @@ make_runs-requires-clause-count g c κs within =
     run_entries x.limit (each_to x.pid x.all x.sent.now) c.as_slice.result.now c.requires.some runs ∙ sent_length x.pid x.all x.sent.now
 
 pub returns-in_err-runs-clause-made : goal.returns-in_err-runs-clause-made
-returns-in_err-runs-clause-made g c = none_batched _ _ _ _ c.from_residual.ensures.1
+returns-in_err-runs-clause-made g c = none_batched _ _ _ _ _ c.from_residual.ensures.1
 
 pub returns-clause-made : goal.returns-clause-made
 returns-clause-made g c =
     let runs = ap stretches_of c.as_slice.ensures.value ∙ c.in_ok-runs.ensures.runs in
-    subst (λ (rs : List Stretch). Batches c.make_runs.result c.args.machine.now c.make_runs.new.machine rs (λ statuses ran. statuses.items ≡ ran.statuses)) runs c.make_runs.ensures.made
+    batch_given c.make_runs.result _ _ _ _ _ _ runs c.make_runs.ensures.made
 
 pub returns-clause-asked : goal.returns-clause-asked
 returns-clause-asked g c =

@@ -1,5 +1,5 @@
-use Rattle.std.proofs.Common.{◌≡◌, List, [], Ok, Err, ap, sym, subst}
-use Rattle.nm_model.specs.definitions.Cut.{Stretch, cut_within}
+use Rattle.std.proofs.Common.{◌≡◌, List, [], Ok, Err, sym, subst}
+use Rattle.nm_model.specs.definitions.Cut.{Request}
 use Rattle.nm_steps.specs.Calls.{MigratePages}
 use Rattle.nm_calls.specs.definitions.Answers.{Failed}
 use Rattle.nm_calls.specs.definitions.Does.{Does, Moves}
@@ -28,9 +28,9 @@ returns-in_err-moved g c =
     let y : SystemState = record { state = c.self.inside.machine; run_limit = c.self.inside.run_limit } in
     let call = MigratePages x.caller x.pid x.old x.new in
     let new = c.migrate.new.machine in
-    let runs = ap (cut_within y.run_limit) (sym c.in_ok-what.ensures.list) in
+    let asked = sym c.in_ok-what.ensures.list in
     let e = c.in_err-moved.field-0.0 in
-    let moves = subst (λ (rs : List Stretch). Moves {A = g.row.A.Denot} (Err e) s new rs []) runs c.in_err-moved.ensures in
+    let moves = subst (λ (es : List Request). Moves {A = g.row.A.Denot} (Err e) s new y.run_limit es []) asked c.in_err-moved.ensures in
     subst (λ (z : SystemState). Does (λ n. Failed n) c.from_residual-in_err-moved.result z (in_state y new) call) c.self.view_is
     (error_does _ y (in_state y new) call e c.from_residual-in_err-moved.result (migrates_does {A = g.row.A.Denot} y x.caller x.pid x.old x.new (Err e) new c.in_ok-what.ensures.exact moves) c.from_residual-in_err-moved.ensures)
 
@@ -44,7 +44,7 @@ returns g c =
     let y : SystemState = record { state = c.self.inside.machine; run_limit = c.self.inside.run_limit } in
     let call = MigratePages x.caller x.pid x.old x.new in
     let new = c.migrate.new.machine in
-    let runs = ap (cut_within y.run_limit) (sym c.in_ok-what.ensures.list) in
-    let moves = subst (λ (rs : List Stretch). Moves (Ok c.in_ok-moved.moved) s new rs []) runs c.in_ok-moved.ensures in
+    let asked = sym c.in_ok-what.ensures.list in
+    let moves = subst (λ (es : List Request). Moves (Ok c.in_ok-moved.moved) s new y.run_limit es []) asked c.in_ok-moved.ensures in
     subst (λ (z : SystemState). outcome z call ≡ record { answer = Failed c.in_ok-moved.moved.failed; system = in_state y new }) c.self.view_is
     (migrates_does y x.caller x.pid x.old x.new (Ok c.in_ok-moved.moved) new c.in_ok-what.ensures.exact moves)

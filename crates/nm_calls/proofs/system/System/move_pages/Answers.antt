@@ -2,7 +2,7 @@ use Rattle.std.proofs.Common.{◌<◌, ◌+◌, List, length, map, ap, sym, subs
 use Rattle.std.proofs.lemmas.List.{length-map}
 use Rattle.std.specs.Prelude.{OnErr}
 use Rattle.nm_types.specs.Layout.{node_count}
-use Rattle.nm_model.specs.definitions.Cut.{Stretch, cut_within, requests_of}
+use Rattle.nm_model.specs.definitions.Cut.{Request, requests_of}
 use Rattle.nm_runs.specs.Targets.{first_refusal}
 use Rattle.nm_memory.specs.views.Accesses.{answer_shown}
 use Rattle.nm_steps.specs.Calls.{MovePages}
@@ -60,8 +60,8 @@ returns-clause-done g c =
     let new = c.move_batch.new.machine in
     let checked = move_checked s x.caller x.pid nodes x.flags permit.allowed c.in_ok-permit.ensures.exact c.in_ok-permit.ensures.allowed in
     let none = checked ∙ ap (first_refusal (node_count s.layout) s.online permit.allowed) (sym c.as_slice-nodes.ensures.value) ∙ c.in_ok-check_targets.ensures.exact in
-    let runs = ap (λ p. cut_within y.run_limit (requests_of p permit.all pages nodes)) c.in_ok-permit.ensures.pid ∙ ap (λ a. cut_within y.run_limit (requests_of (owner_of x.caller x.pid) a pages nodes)) c.in_ok-permit.ensures.all in
-    let moves = subst (λ (rs : List Stretch). Moves c.move_batch.result s new rs during) runs c.move_batch.ensures.moves in
+    let asked = ap (λ p. requests_of p permit.all pages nodes) c.in_ok-permit.ensures.pid ∙ ap (λ a. requests_of (owner_of x.caller x.pid) a pages nodes) c.in_ok-permit.ensures.all in
+    let moves = subst (λ (es : List Request). Moves c.move_batch.result s new y.run_limit es during) asked c.move_batch.ensures.moves in
     subst (λ (z : SystemState). Does (λ moved. Statuses moved.failed moved.statuses.items (map answer_shown moved.answers.items)) c.move_batch.result z (in_state y new) call) c.self.view_is
     (moves_does y x.caller x.pid pages nodes x.flags during c.move_batch.result new none moves)
 
