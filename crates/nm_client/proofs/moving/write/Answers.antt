@@ -1,6 +1,0 @@
-use Rattle.std.proofs.Common.{rules}
-use Rattle.nm_client.proofs.Unrefused.{write_memory}
-use Rattle.nm_client.proofs.moving.write.Goals as goal
-
-pub returns-clause-memory : goal.returns-clause-memory
-returns-clause-memory c = write_memory _ c.write.result c.args.system.now _ _ c.write.ensures.done c.requires (search rules)

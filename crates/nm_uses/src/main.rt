@@ -1,0 +1,68 @@
+//! The program to read first: a page moves by calls on a system, and a trace that is made as a value is played. Given a
+//! trace on standard input, it plays that one alone.
+#![tactic(auto)]
+
+mod making;
+mod moving;
+#[cfg(test)]
+mod tests;
+mod values;
+
+use making::made;
+use moving::page_moved;
+use nm_trace::{Trace, TraceError, Watched};
+use std::alloc::Global;
+use std::io::{Read, Write};
+use std::process::ExitCode;
+use values::{play_new, read_value};
+
+/// The trace in these bytes, or if there are none, one that is made here.
+fn trace_of(heap: Global, bytes: &[u8]) -> Result<Trace<Global>, TraceError> {
+    if !bytes.is_empty() {
+        return read_value(heap, bytes);
+    }
+    match made(heap) {
+        Ok(value) => Trace::from_value(heap, &value),
+        Err(_) => Err(TraceError::HostMemory(0)),
+    }
+}
+
+/// Moves a page by calls, and writes where it is then. Returns whether it did.
+fn use_calls<W: Write, E: Write>(heap: Global, out: &mut W, err: &mut E) -> bool {
+    match page_moved(heap) {
+        Ok((statuses, bytes)) => writeln!(
+            out,
+            "its node: {:?}, its first byte: {:?}",
+            statuses.as_slice(),
+            bytes.as_slice()
+        )
+        .is_ok(),
+        Err(error) => {
+            let _ = writeln!(err, "nm_uses: {error}");
+            false
+        }
+    }
+}
+
+fn main(rt: HostRuntime) -> ExitCode {
+    let heap = rt.alloc();
+    let mut bytes = Vec::new(heap);
+    if rt.stdin().read_to_end(&mut bytes).is_err() {
+        return ExitCode::FAILURE;
+    }
+    let mut out = Watched::new(rt.stdout());
+    if bytes.is_empty() && !use_calls(heap, &mut out, &mut rt.stderr()) {
+        return ExitCode::FAILURE;
+    }
+    let played = match trace_of(heap, bytes.as_slice()) {
+        Ok(trace) => play_new(heap, &trace, &mut out),
+        Err(fault) => Err(fault),
+    };
+    match played {
+        Ok(_) => ExitCode::SUCCESS,
+        Err(fault) => {
+            let _ = writeln!(rt.stderr(), "nm_uses: {fault}");
+            ExitCode::FAILURE
+        }
+    }
+}
