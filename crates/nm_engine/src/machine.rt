@@ -217,7 +217,7 @@ impl<A: Allocator + Copy + Send + Sync> Machine<A> {
             (λ flown. ran_by self.new flown ≡ run_asked self.old (asked_by requests.now accesses.now)) }
         ensures failed { IfOk result (λ flown. flown.failed ≡ failures flown.statuses.items) }
 
-        // Events that lead to it: jobs that the crew has done, while these answers were given and entries were held
+        // Events that lead to it, with jobs that the crew has done, and beside them entries held and these answers given
         ensures events { IfOk result
             (λ flown. (x : Flight) × (jobs : Vec (CopyJob _) _)
             × C.has_done crew.now jobs (Flight × Vec (Given _) _) (x, flown.answers)
