@@ -1,4 +1,3 @@
 pub mod Job
-pub mod Populated
 pub mod Stores
 pub mod Zeros

@@ -2,7 +2,7 @@
 use Rattle.std.proofs.Common.{◌≡◌, ℕ, [], min, Vec, vec_capacity, sym, subst}
 use Rattle.std.specs.List.{AllByRecursion}
 use Rattle.nm_frames.specs.declared.job.CopyJob.{CopyJob}
-use Rattle.nm_frames.specs.Populated.{IsPopulated}
+use Rattle.nm_memory.specs.views.Populated.{IsPopulated}
 use Rattle.nm_memory.specs.declared.frames.FrameParts.{FrameParts}
 use Rattle.nm_memory.specs.views.Frames.{FramesView, HasAllFrames, HasAllPlaces, in_memory}
 

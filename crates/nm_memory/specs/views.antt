@@ -2,3 +2,4 @@
 pub mod Copies
 pub mod Frames
 pub mod Accesses
+pub mod Populated

@@ -14,7 +14,7 @@ ghost use Rattle.nm_model.specs.definitions.Frames.{IsHome, bytes_of, overwrite}
 ghost use Rattle.nm_model.specs.definitions.Sound.{is_audited, numbered};
 ghost use Rattle.nm_model.specs.definitions.Frames.{all_frames};
 ghost use Rattle.nm_memory.specs.views.Frames.{HasAllFrames, KeepsBytes, free_on, pool_of, all_freed, CanFree, CanReturn, with_freed, in_memory};
-ghost use Rattle.nm_frames.specs.Populated.{IsPopulated};
+ghost use Rattle.nm_memory.specs.views.Populated.{IsPopulated};
 ghost use Rattle.nm_model.specs.definitions.Memory.{stretch_of};
 
 mod in_flight;
@@ -52,7 +52,7 @@ pub struct Frames<A: Allocator + Copy> {
 impl<A: Allocator + Copy> Model for Frames<A> {
     ghost use Rattle.std.specs.Prelude.{◌≡◌, [], min, vec_capacity};
     ghost use Rattle.std.specs.List.{AllByRecursion};
-    ghost use Rattle.nm_frames.specs.Populated.{IsPopulated};
+    ghost use Rattle.nm_memory.specs.views.Populated.{IsPopulated};
     ghost use Rattle.nm_memory.specs.views.Frames.{FramesView, HasAllFrames, in_memory};
 
     ghost Value = { FramesView };

@@ -2,6 +2,10 @@
 //! trace on standard input, it plays that one alone.
 #![tactic(auto)]
 
+ghost use Rattle.std.specs.Prelude.{◌<◌, length};
+ghost use Rattle.nm_steps.specs.Faults.{Gives, trace_of};
+ghost use Rattle.nm_steps.specs.Plans.{plan_in};
+
 mod making;
 mod moving;
 #[cfg(test)]
@@ -17,7 +21,9 @@ use std::process::ExitCode;
 use values::{play_new, read_value};
 
 /// The trace in these bytes, or if there are none, one that is made here.
-fn trace_of(heap: Global, bytes: &[u8]) -> Result<Trace<Global>, TraceError> {
+fn trace_to_play(heap: Global, bytes: &[u8]) -> Result<Trace<Global>, TraceError>
+    ensures given { 0 < length bytes.now → Gives plan_in result (trace_of bytes.now) }
+{
     if !bytes.is_empty() {
         return read_value(heap, bytes);
     }
@@ -54,7 +60,7 @@ fn main(rt: HostRuntime) -> ExitCode {
     if bytes.is_empty() && !use_calls(heap, &mut out, &mut rt.stderr()) {
         return ExitCode::FAILURE;
     }
-    let played = match trace_of(heap, bytes.as_slice()) {
+    let played = match trace_to_play(heap, bytes.as_slice()) {
         Ok(trace) => play_new(heap, &trace, &mut out),
         Err(fault) => Err(fault),
     };

@@ -14,7 +14,7 @@ use Rattle.nm_types.proofs.Maps.{page_cmp_total, keys-values}
 use Rattle.nm_model.specs.definitions.Frames.{Store, IsHome, overwrite}
 use Rattle.nm_types.specs.declared.taken.Taken.{Taken}
 use Rattle.nm_spaces.specs.views.AddressSpaces.{AddressSpacesView, with_moved, table_of}
-use Rattle.nm_frames.specs.Populated.{IsPopulated}
+use Rattle.nm_memory.specs.views.Populated.{IsPopulated}
 use Rattle.nm_memory.specs.views.Copies.{without_both, emptied, with_copies, CanCopy, HasBoth}
 use Rattle.nm_memory.specs.views.Frames.{FramesView, HasAllFrames, free_on}
 use Rattle.nm_model.specs.definitions.Touch.{AllAnswered}

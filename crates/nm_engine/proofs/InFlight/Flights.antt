@@ -5,7 +5,7 @@ use Rattle.nm_types.specs.declared.taken.Taken.{Taken}
 use Rattle.nm_types.specs.State.{State}
 use Rattle.nm_frames.specs.declared.job.CopyJob.{CopyJob}
 use Rattle.nm_frames.specs.Job.{copied}
-use Rattle.nm_frames.specs.Populated.{IsPopulated}
+use Rattle.nm_memory.specs.views.Populated.{IsPopulated}
 use Rattle.nm_model.specs.definitions.BeforeCopy.{PendingAccess, all_after_copy, IsInside}
 use Rattle.nm_model.specs.definitions.Frames.{Store, IsHome}
 use Rattle.nm_model.specs.definitions.Run.{frames_left}

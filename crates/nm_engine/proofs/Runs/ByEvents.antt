@@ -15,17 +15,12 @@ use Rattle.nm_laws.specs.Laws.{with_moves}
 use Rattle.nm_laws.specs.Midway.{IsMidway}
 use Rattle.nm_laws.specs.Moves.{IsPlanOf}
 use Rattle.nm_laws.proofs.InFlight.Beginning.{begun_is}
-use Rattle.nm_laws.proofs.InFlight.Orders.{before_end, every_order_is_the_run, flies}
+use Rattle.nm_laws.proofs.InFlight.Orders.{allowed, before_end, every_order_is_the_run, flies}
 use Rattle.nm_laws.proofs.InFlight.Progress.{every_run_can_end}
 use Rattle.nm_laws.proofs.InFlight.Reading.{every_sound_state_is_read}
 use Rattle.nm_engine.specs.definitions.Orders.{GoesByEvents, RunAsked, run_asked}
 use Rattle.nm_engine.specs.views.Flights.{EndsAs, Flight, HoldsMovingPages, pair_of, state_meanwhile}
 use Rattle.nm_engine.proofs.InFlight.Moments.{at_moment, pages_of}
-
--- what comes after an event that is allowed
-goes_on : (b : Bool) (o : Option RunMachine) (n : RunMachine) → cond b o None ≡ Some n → o ≡ Some n
-goes_on true o n h = h
-goes_on false o n h = cc
 
 module _ {A : Type 0} where
   -- a machine at rest in the state before begins the run of the plan, comes to where the engine's run is while its jobs are
@@ -43,7 +38,7 @@ module _ {A : Type 0} where
       let end = every_run_can_end m t ws asked.accesses read.1 here alike in
       let first = begun_is m t ws read.1 here alike in
       let k = begun m t ws in
-      let leads = goes_on (is_ready m.phase) (after k end.0) end.1 end.2.leads in
+      let leads = (allowed (is_ready m.phase) (after k end.0) end.1 end.2.leads).1 in
       let moved = pages_of (each_request (state_of m) t ws).taken in
       let last = before_end end.0 k end.1 moved first.midway leads end.3 in
       let flown = flies last.till k last.now moved first.midway last.leads last.moving in

@@ -11,7 +11,7 @@ use Rattle.nm_types.specs.Layout.{node_of}
 use Rattle.nm_types.specs.State.{State}
 use Rattle.nm_types.proofs.Cases.{some_is}
 use Rattle.nm_types.proofs.Maps.{page_cmp_total, get-set}
-use Rattle.nm_frames.specs.Populated.{IsPopulated}
+use Rattle.nm_memory.specs.views.Populated.{IsPopulated}
 use Rattle.nm_model.specs.definitions.Frames.{Store, bytes_of}
 use Rattle.nm_model.specs.definitions.BeforeCopy.{frames_taken}
 use Rattle.nm_model.specs.definitions.Run.{frames_left}

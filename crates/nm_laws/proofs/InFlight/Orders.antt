@@ -19,12 +19,13 @@ use Rattle.nm_laws.proofs.InFlight.Ending.{ended_is, ended_once, ended_settled}
 use Rattle.nm_laws.proofs.InFlight.Accessing.{accessed_is}
 use Rattle.nm_laws.proofs.InFlight.Beginning.{begun_is}
 use Rattle.nm_laws.proofs.InFlight.Entries.{entry_is}
+use Rattle.nm_laws.proofs.InFlight.Progress.{one_more}
 
 some_is : {V : Type 0} {v w : V} → Some v ≡ Some w → v ≡ w
 some_is e = cc
 
 -- what comes after an event that was allowed
-allowed : (b : Bool) (o : Option RunMachine) (n : RunMachine) → cond b o None ≡ Some n → (b ≡ true) × (o ≡ Some n)
+pub allowed : (b : Bool) (o : Option RunMachine) (n : RunMachine) → cond b o None ≡ Some n → (b ≡ true) × (o ≡ Some n)
 allowed true o n h = (refl, h)
 allowed false o n h = cc
 
@@ -218,11 +219,6 @@ pub record IsBeforeEnd (m : RunMachine) (events : List Event) (n : RunMachine) :
   pub accesses : accesses_in till ≡ accesses_in events
   pub over : ended now ≡ n
 
--- what comes after an event that was allowed, with that event
-one_more : (b : Bool) (o : Option RunMachine) (n : RunMachine) → b ≡ true → o ≡ Some n → cond b o None ≡ Some n
-one_more true o n e h = h
-one_more false o n e h = cc
-
 pub before_end : (events : List Event) (m n : RunMachine) (moved : List Page) → IsMidway m moved → after m events ≡ Some n → n.phase ≡ Ended → IsBeforeEnd m events n
 before_end [] m n moved h leads end = absurd (moving_ended (sym h.moving ∙ ap (λ (k : RunMachine). k.phase) (some_is leads) ∙ end))
 before_end (Begin target wanted ∷ events) m n moved h leads end = absurd (refused _ _ n (ap is_ready h.moving) leads)
@@ -230,16 +226,16 @@ before_end (Draw w ∷ events) m n moved h leads end =
     let jobs = drawn w m.jobs in
     let both = allowed _ _ n leads in
     let rest = before_end events (record m { jobs = jobs }) n moved (same_midway m jobs (drawn_shape w m.jobs) moved (drawn_copied w m.jobs h.copied) h) both.1 end in
-    record { till = Draw w ∷ rest.till; now = rest.now; leads = one_more _ _ rest.now both.0 rest.leads; moving = rest.moving; given = rest.given; accesses = rest.accesses; over = rest.over }
+    record { till = Draw w ∷ rest.till; now = rest.now; leads = one_more _ _ both.0 ∙ rest.leads; moving = rest.moving; given = rest.given; accesses = rest.accesses; over = rest.over }
 before_end (Give w t ∷ events) m n moved h leads end =
     let jobs = given t m.jobs in
     let both = allowed _ _ n leads in
     let rest = before_end events (record m { jobs = jobs }) n moved (same_midway m jobs (given_shape t m.jobs) moved (given_copied t m.jobs h.copied) h) both.1 end in
-    record { till = Give w t ∷ rest.till; now = rest.now; leads = one_more _ _ rest.now both.0 rest.leads; moving = rest.moving; given = rest.given; accesses = rest.accesses; over = rest.over }
+    record { till = Give w t ∷ rest.till; now = rest.now; leads = one_more _ _ both.0 ∙ rest.leads; moving = rest.moving; given = rest.given; accesses = rest.accesses; over = rest.over }
 before_end (Touch a ∷ events) m n moved h leads end =
     let both = allowed _ _ n leads in
     let rest = before_end events (accessed m a) n moved (accessed_is m moved h a).midway both.1 end in
-    record { till = Touch a ∷ rest.till; now = rest.now; leads = one_more _ _ rest.now both.0 rest.leads; moving = rest.moving; given = rest.given; accesses = ap (λ xs. a ∷ xs) rest.accesses; over = rest.over }
+    record { till = Touch a ∷ rest.till; now = rest.now; leads = one_more _ _ both.0 ∙ rest.leads; moving = rest.moving; given = rest.given; accesses = ap (λ xs. a ∷ xs) rest.accesses; over = rest.over }
 before_end (End ∷ events) m n moved h leads end =
     let both = allowed _ _ n leads in
     let all = (and_parts (is_moving m.phase) (list_all (λ (job : Job). is_given job.stage) m.jobs) both.0).1 in

@@ -17,7 +17,7 @@ use Rattle.nm_laws.proofs.InFlight.Accessing.{accessed_is}
 use Rattle.nm_laws.proofs.InFlight.Beginning.{begun_is}
 
 -- one event that is allowed
-one_more : (b : Bool) (o : Option RunMachine) → b ≡ true → cond b o None ≡ o
+pub one_more : (b : Bool) (o : Option RunMachine) → b ≡ true → cond b o None ≡ o
 one_more true o e = refl
 one_more false o e = cc
 

@@ -1,5 +1,5 @@
 -- What is done on the bytes that are home while others are out is done as well once those are back.
-use Rattle.std.proofs.Common.{◌≡◌, ◌≢◌, ℕ, ◌+◌, ◌≤◌, List, [], ◌∷◌, length, map, refl, sym, ap, subst, ◌∙◌, arith, length-set}
+use Rattle.std.proofs.Common.{◌≡◌, ◌≢◌, ℕ, ◌+◌, ◌≤◌, List, [], ◌∷◌, length, refl, sym, ap, subst, ◌∙◌, arith, length-set}
 use Rattle.std.specs.Prelude.{Option, Some, None, slice_index_or, slice_set}
 use Rattle.std.specs.Option.{unwrap_or}
 use Rattle.std.specs.List.{AllByRecursion}
@@ -8,16 +8,14 @@ use Rattle.nm_types.specs.declared.page.Page.{Page}
 use Rattle.nm_types.specs.Map.{Map}
 use Rattle.nm_types.proofs.Cases.{none_some}
 use Rattle.nm_frames.specs.declared.job.CopyJob.{CopyJob}
-use Rattle.nm_frames.specs.Job.{copied}
 use Rattle.nm_model.specs.definitions.Frames.{Store, IsHome, IsOut, bytes_of, overwrite}
-use Rattle.nm_types.specs.declared.taken.Taken.{Taken}
-use Rattle.nm_memory.specs.views.Copies.{with_buf, with_copies, with_job, emptied, jobs_of, refilled, CanCopy, CanRefill}
+use Rattle.nm_memory.specs.views.Copies.{with_buf, with_job, refilled, CanRefill}
 use Rattle.nm_model.specs.definitions.Memory.{stretch_of}
 use Rattle.nm_model.specs.definitions.Touch.{AccessAnswer, Bytes}
 use Rattle.nm_model.specs.definitions.BeforeCopy.{PendingAccess, Known, ToRead, ToWrite}
 use Rattle.nm_memory.specs.definitions.AfterCopy.{frame_at, store_after_copy, answer_from_store, StoreAfterCopy, all_stored_after_copy, CanDo}
 use Rattle.nm_memory.proofs.Copies.Home.{home_bytes}
-use Rattle.nm_memory.proofs.Copies.Copied.{can_refill, home_set, refilled_is}
+use Rattle.nm_memory.proofs.Copies.Copied.{home_set}
 use Rattle.nm_memory.proofs.Copies.Populated.{written_populated}
 
 abbrev at : Store → ℕ → Option (List ℕ)

@@ -8,7 +8,7 @@ use Rattle.std.proofs.lemmas.List.{get_or-set_same, get_or-set_other}
 use Rattle.nm_types.specs.declared.page.Page.{Page}
 use Rattle.nm_types.specs.declared.taken.Taken.{Taken}
 use Rattle.nm_types.specs.Map.{Map}
-use Rattle.nm_frames.specs.Populated.{IsPopulated}
+use Rattle.nm_memory.specs.views.Populated.{IsPopulated}
 use Rattle.nm_model.specs.definitions.Frames.{Store, IsHome, bytes_of, overwrite}
 use Rattle.nm_model.specs.definitions.BeforeCopy.{PendingAccess, Known, ToRead, ToWrite, IsInside}
 use Rattle.nm_memory.specs.views.Copies.{HasBoth, with_copy, with_copies}

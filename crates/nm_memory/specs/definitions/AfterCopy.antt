@@ -3,7 +3,7 @@ use Rattle.std.specs.Prelude.{◌≡◌, ℕ, ◌+◌, ◌≤◌, List, [], ◌�
 use Rattle.std.specs.Option.{unwrap_or}
 use Rattle.nm_types.specs.declared.page.Page.{Page}
 use Rattle.nm_types.specs.Map.{Map, get, page_cmp}
-use Rattle.nm_frames.specs.Populated.{IsPopulated}
+use Rattle.nm_memory.specs.views.Populated.{IsPopulated}
 use Rattle.nm_model.specs.definitions.Frames.{Store, IsHome, bytes_of, overwrite}
 use Rattle.nm_model.specs.definitions.Memory.{stretch_of}
 use Rattle.nm_model.specs.definitions.Touch.{AccessAnswer, Bytes, Done}

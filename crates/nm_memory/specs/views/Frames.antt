@@ -4,7 +4,7 @@ use Rattle.std.specs.List.{fold, zip}
 use Rattle.nm_types.specs.Layout.{Layout, node_count, frame_count, owner}
 use Rattle.nm_types.specs.Nodes.{is_in}
 use Rattle.nm_model.specs.definitions.Frames.{Store, IsHome, Pool, bytes_of, list_of, appended}
-use Rattle.nm_frames.specs.Populated.{IsPopulated}
+use Rattle.nm_memory.specs.views.Populated.{IsPopulated}
 use Rattle.nm_frames.specs.Stores.{StoreView}
 
 -- frames without their pages

@@ -3,7 +3,7 @@
 ghost use Rattle.std.specs.Prelude.{◌≡◌, ℕ, ◌+◌, ◌<◌, ◌≤◌, ◌++◌, [], Some, length, min, slice_set, vec_len, vec_capacity};
 ghost use Rattle.std.specs.List.{AllByRecursion};
 ghost use Rattle.nm_types.specs.Layout.{frame_count};
-ghost use Rattle.nm_frames.specs.Populated.{IsPopulated};
+ghost use Rattle.nm_memory.specs.views.Populated.{IsPopulated};
 ghost use Rattle.nm_model.specs.definitions.Frames.{IsHome, bytes_of, overwrite};
 ghost use Rattle.nm_model.specs.definitions.Memory.{stretch_of};
 ghost use Rattle.nm_memory.specs.views.Copies.{CanCopy, HasBoth, emptied, jobs_of, refilled, CanRefill};

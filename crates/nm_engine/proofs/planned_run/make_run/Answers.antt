@@ -24,6 +24,7 @@ use Rattle.nm_engine.specs.views.Runs.{accesses_shown, asked_by}
 use Rattle.nm_engine.proofs.Early.{early_state, early_dues, early_left, early_room}
 use Rattle.nm_engine.proofs.Runs.ByEvents.{goes_by_events}
 use Rattle.nm_engine.proofs.InFlight.Flights.{copied_twice}
+use Rattle.nm_engine.proofs.planned_run.make_run.Given.{Over}
 use Rattle.nm_engine.proofs.planned_run.make_run.Goals as goal
 
 -- a job's copy is between the same frames
@@ -111,12 +112,24 @@ finish-machine-requires-clause-done g c κs within =
 pub returns-in-Ok-clause-failed : goal.returns-in-Ok-clause-failed
 returns-in-Ok-clause-failed g c = c.finish-machine.ensures.failed ∙ ap failures (c.statuses.ensures ∙ sym c.into_statuses.ensures)
 
--- what is left to do for accesses is done where the pages have moved
-done_then : (r : State) (t : ℕ) (moves : List Taken) (accesses : List Access) (begun prepared : State) (dues : List PendingAccess) → begun ≡ with_moves (with_fronts prepared t (frames_taken moves)) t moves
-    → prepared ≡ (touched_all r t moves accesses).state → dues ≡ (touched_all r t moves accesses).dues
-    → all_after_copy begun dues ≡ all_after_copy (with_moves (given_back r t moves accesses) t moves) (touched_all r t moves accesses).dues
-done_then r t moves accesses begun prepared dues begins touched told =
-    ap (λ (x : State). all_after_copy x dues) begins ∙ (λ i. all_after_copy (with_moves (with_fronts (touched i) t (frames_taken moves)) t moves) (told i))
+-- what was left to do for accesses, done where the pages have moved, is what accesses in flight do
+as_in_flight : (g : Over) (c : goal.After-into_statuses g)
+    → all_after_copy (state_meanwhile c.begin-run.result.0 c.begin-run.result.1.items) (map pending_shown c.in-Ok.dues.items)
+    ≡ all_in_flight (with_moves c.of-run.result.state c.args.planned.requests.now.target c.moves-moves.result.now) (pages_of c.moves-moves.result.now) (accesses_shown {A = g.row.A.Denot} c.args.planned.accesses.now)
+as_in_flight g c =
+    let r = c.of-run.result.state in
+    let t = c.args.planned.requests.now.target in
+    let ws = c.args.planned.requests.now.wanted.items in
+    let moves : List Taken = c.moves-moves.result.now in
+    let accesses : List Access = accesses_shown {A = g.row.A.Denot} c.args.planned.accesses.now in
+    let at = c.of-run.ensures.state in
+    let touched = early_state c.of-run.result t moves accesses c.prepare.new.self c.in-Ok.dues c.in-Ok.ensures.prepared in
+    let told = early_dues c.of-run.result t moves accesses c.prepare.new.self c.in-Ok.dues c.in-Ok.ensures.prepared in
+    let left = early_left c.of-run.result t moves accesses c.prepare.new.self c.in-Ok.dues c.in-Ok.ensures.prepared in
+    let ready = (planned_phases r t moves accesses c.args.machine ws c.args.planned.plan at c.requires.plan c.moves-moves.ensures c.in-Ok.ensures.sound c.requires.target).1 in
+    let begun = c.begin-run.ensures.state t (ready_for c.prepare.new.self r c.args.machine t moves accesses at c.requires.target left touched ready.back ready.can) in
+    ap (λ (x : State). all_after_copy x (map pending_shown c.in-Ok.dues.items)) begun
+    ∙ (λ i. all_after_copy (with_moves (with_fronts (touched i) t (frames_taken moves)) t moves) (told i)) ∙ sym ready.flight
 
 pub returns-in-Ok-clause-run : goal.returns-in-Ok-clause-run
 returns-in-Ok-clause-run g c =
@@ -126,55 +139,39 @@ returns-in-Ok-clause-run g c =
     let moves : List Taken = c.moves-moves.result.now in
     let accesses : List Access = accesses_shown {A = g.row.A.Denot} c.args.planned.accesses.now in
     let at = c.of-run.ensures.state in
-    let touched = early_state c.of-run.result t moves accesses c.prepare.new.self c.in-Ok.dues c.in-Ok.ensures.prepared in
-    let told = early_dues c.of-run.result t moves accesses c.prepare.new.self c.in-Ok.dues c.in-Ok.ensures.prepared in
-    let left = early_left c.of-run.result t moves accesses c.prepare.new.self c.in-Ok.dues c.in-Ok.ensures.prepared in
-    let ready = planned_phases r t moves accesses c.args.machine ws c.args.planned.plan at c.requires.plan c.moves-moves.ensures c.in-Ok.ensures.sound c.requires.target in
-    let early = touched_all r t moves accesses in
-    let dues = map pending_shown c.in-Ok.dues.items in
+    let plan : IsPlanOf r t ws c.args.planned.plan = subst (λ (s : State). IsPlanOf s t ws c.args.planned.plan) (sym at) c.requires.plan in
+    let during = all_in_flight (with_moves r t moves) (pages_of moves) accesses in
     let flown = c.copy_beside-run.result.0 in
     let now = state_meanwhile flown c.copy_beside-run.result.1.items in
-    let during = all_after_copy (with_moves (given_back r t moves accesses) t moves) early.dues in
-    let begun = c.begin-run.ensures.state t (ready_for c.prepare.new.self r c.args.machine t moves accesses at c.requires.target left touched ready.1.back ready.1.can) in
-    let made = done_then r t moves accesses (state_meanwhile c.begin-run.result.0 c.begin-run.result.1.items) c.prepare.new.self.state dues begun touched told in
     let state =
     c.finish-machine.ensures.state
     ∙ ap (λ n. with_counts (with_all_free now (frames_left flown.moves)) n (failures c.statuses.result.now)) (sym (length-map flown.moves (λ (t : Taken). t.from)))
-    ∙ run_state r t ws c.args.planned.plan moves accesses during ready.0 c.moves-moves.ensures ready.1.flight now (frames_left flown.moves) c.statuses.result.now
-    (c.copy_beside-run.ensures.state ∙ ap (λ (x : AllAnswered). x.state) made)
+    ∙ run_state r t ws c.args.planned.plan moves accesses during plan c.moves-moves.ensures refl now (frames_left flown.moves) c.statuses.result.now
+    (c.copy_beside-run.ensures.state ∙ ap (λ (x : AllAnswered). x.state) (as_in_flight g c))
     (ap (λ (x : Flight). frames_left x.moves) c.copy_beside-run.ensures.run ∙ ap frames_left c.begin-run.ensures.moves) c.statuses.ensures
     ∙ ap (λ (s : State). (run s t ws accesses).state) at in
     let answers =
-    run_answers r t ws c.args.planned.plan moves accesses during ready.0 c.moves-moves.ensures ready.1.flight (map (answer_shown {A = g.row.A.Denot}) c.copy_beside-run.result.2.items)
-    (c.copy_beside-run.ensures.answers ∙ ap (λ (x : AllAnswered). x.answers) made)
+    run_answers r t ws c.args.planned.plan moves accesses during plan c.moves-moves.ensures refl (map (answer_shown {A = g.row.A.Denot}) c.copy_beside-run.result.2.items)
+    (c.copy_beside-run.ensures.answers ∙ ap (λ (x : AllAnswered). x.answers) (as_in_flight g c))
     ∙ ap (λ (s : State). (run s t ws accesses).answers) at in
     let statuses = c.into_statuses.ensures ∙ sym c.requires.plan.agrees.statuses in
     λ i. record { state = state i; statuses = statuses i; answers = answers i }
 
 pub returns-in-Ok-clause-events : goal.returns-in-Ok-clause-events
 returns-in-Ok-clause-events g c =
-    let r = c.of-run.result.state in
-    let t = c.args.planned.requests.now.target in
-    let ws = c.args.planned.requests.now.wanted.items in
     let moves : List Taken = c.moves-moves.result.now in
-    let accesses : List Access = accesses_shown {A = g.row.A.Denot} c.args.planned.accesses.now in
+    let asked = asked_by c.args.planned.requests.now c.args.planned.accesses.now in
     let at = c.of-run.ensures.state in
-    let ready = planned_phases r t moves accesses c.args.machine ws c.args.planned.plan at c.requires.plan c.moves-moves.ensures c.in-Ok.ensures.sound c.requires.target in
-    let touched = early_state c.of-run.result t moves accesses c.prepare.new.self c.in-Ok.dues c.in-Ok.ensures.prepared in
-    let told = early_dues c.of-run.result t moves accesses c.prepare.new.self c.in-Ok.dues c.in-Ok.ensures.prepared in
-    let left = early_left c.of-run.result t moves accesses c.prepare.new.self c.in-Ok.dues c.in-Ok.ensures.prepared in
-    let begun = c.begin-run.ensures.state t (ready_for c.prepare.new.self r c.args.machine t moves accesses at c.requires.target left touched ready.1.back ready.1.can) in
-    let made = done_then r t moves accesses (state_meanwhile c.begin-run.result.0 c.begin-run.result.1.items) c.prepare.new.self.state (map pending_shown c.in-Ok.dues.items) begun touched told in
     let x = c.copy_beside-run.result.0 in
     let jobs = c.copy_beside-run.result.1.items in
     let run = c.copy_beside-run.ensures.run in
     let pairs : map pair_of jobs ≡ _ = ap (map pair_of) c.copy_beside-run.ensures.jobs ∙ still_pairs c.begin-run.result.1.items ∙ c.begin-run.ensures.pairs in
-    let shows = c.copy_beside-run.ensures.state ∙ ap (λ (d : AllAnswered). d.state) (made ∙ sym ready.1.flight) ∙ ap (λ (s : State). (all_in_flight (with_moves s t moves) (pages_of moves) accesses).state) at in
+    let shows = c.copy_beside-run.ensures.state ∙ ap (λ (d : AllAnswered). d.state) (as_in_flight g c) ∙ ap (λ (s : State). (all_in_flight (with_moves s asked.target moves) (pages_of moves) asked.accesses).state) at in
     let ended = subst (λ zs. EndsAs x jobs zs c.finish-machine.result.0) (c.statuses.ensures ∙ sym c.into_statuses.ensures) c.finish-machine.ensures.event in (
       x,
       c.copy_beside-run.result.1,
       c.copy_beside-run.ensures.done,
-      goes_by_events c.args.machine (asked_by c.args.planned.requests.now c.args.planned.accesses.now) c.args.planned.plan moves x jobs _ (subst IsSound at c.in-Ok.ensures.sound) c.requires.alike c.requires.plan c.moves-moves.ensures
+      goes_by_events c.args.machine asked c.args.planned.plan moves x jobs _ (subst IsSound at c.in-Ok.ensures.sound) c.requires.alike c.requires.plan c.moves-moves.ensures
           (ap (λ (y : Flight). y.moves) run ∙ c.begin-run.ensures.moves) (subst HoldsMovingPages (sym run) c.begin-run.ensures.entries) shows pairs ended (returns-in-Ok-clause-run g c),
     )
 

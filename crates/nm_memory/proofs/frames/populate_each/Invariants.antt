@@ -1,6 +1,6 @@
 use Rattle.std.proofs.Common.{ℕ, ◌<◌, length, drop}
 use Rattle.std.specs.List.{AllByRecursion}
-use Rattle.nm_frames.specs.Populated.{IsPopulated}
+use Rattle.nm_memory.specs.views.Populated.{IsPopulated}
 use Rattle.nm_model.specs.definitions.BeforeCopy.{frames_taken}
 use Rattle.nm_model.specs.definitions.Frames.{Store, IsHome}
 use Rattle.nm_memory.specs.views.Frames.{KeepsBytes, in_memory}

@@ -5,7 +5,7 @@ use Rattle.std.specs.Ordering.{nat_cmp}
 use Rattle.nm_types.specs.Map.{get}
 use Rattle.nm_types.specs.State.{State}
 use Rattle.nm_frames.specs.Job.{copied}
-use Rattle.nm_frames.specs.Populated.{IsPopulated}
+use Rattle.nm_memory.specs.views.Populated.{IsPopulated}
 use Rattle.nm_laws.specs.Laws.{with_moves}
 use Rattle.nm_laws.specs.Midway.{entry_meanwhile}
 use Rattle.nm_model.specs.definitions.BeforeCopy.{with_fronts, frames_taken}

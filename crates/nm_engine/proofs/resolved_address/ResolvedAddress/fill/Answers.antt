@@ -10,7 +10,7 @@ use Rattle.nm_model.specs.definitions.Order.{first_touch_order}
 use Rattle.nm_model.specs.definitions.Touch.{allocated, filled, first_free}
 use Rattle.nm_types.specs.Layout.{frame_count, node_count}
 use Rattle.nm_types.specs.Map.{get}
-use Rattle.nm_frames.specs.Populated.{IsPopulated}
+use Rattle.nm_memory.specs.views.Populated.{IsPopulated}
 use Rattle.nm_spaces.specs.views.AddressSpaces.{AddressSpacesView, table_of, with_new_page}
 use Rattle.nm_memory.specs.views.Frames.{FramesView, free_on}
 use Rattle.nm_engine.specs.views.Shown.{shown, shown_by, paged_frames}

@@ -4,7 +4,7 @@ use Rattle.std.proofs.lemmas.List.{length-map}
 use Rattle.nm_types.specs.State.{State}
 use Rattle.nm_types.specs.declared.taken.Taken.{Taken}
 use Rattle.nm_frames.specs.declared.job.CopyJob.{CopyJob}
-use Rattle.nm_frames.specs.Populated.{IsPopulated}
+use Rattle.nm_memory.specs.views.Populated.{IsPopulated}
 use Rattle.nm_model.specs.definitions.Run.{failures, frames_left, total_after, with_all_free, with_counts}
 use Rattle.nm_memory.specs.views.Copies.{refilled, CanRefill}
 use Rattle.nm_memory.specs.views.Frames.{FramesView, HasAllFrames}

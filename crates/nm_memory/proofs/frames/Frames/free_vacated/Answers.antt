@@ -1,6 +1,6 @@
 use Rattle.std.proofs.Common.{◌≡◌, ℕ, List, [], min, length, vec_capacity, ap, sym, subst, ◌∙◌}
 use Rattle.std.specs.List.{AllByRecursion}
-use Rattle.nm_frames.specs.Populated.{IsPopulated}
+use Rattle.nm_memory.specs.views.Populated.{IsPopulated}
 use Rattle.nm_model.specs.definitions.Frames.{Pool}
 use Rattle.nm_memory.specs.views.Frames.{FramesView, CanFree, pool_of, with_freed, all_freed, in_memory}
 use Rattle.nm_memory.proofs.FreeLists.Freed.{lists_stay, sizes_stay}

@@ -1,6 +1,6 @@
 use Rattle.std.proofs.Common.{ℕ, List, ap, sym, subst, ◌∙◌}
 use Rattle.std.specs.List.{AllByRecursion}
-use Rattle.nm_frames.specs.Populated.{IsPopulated}
+use Rattle.nm_memory.specs.views.Populated.{IsPopulated}
 use Rattle.nm_model.specs.definitions.Frames.{Pool}
 use Rattle.nm_model.specs.definitions.BeforeCopy.{frames_taken}
 use Rattle.nm_memory.specs.views.Frames.{FramesView, HasAllFrames, CanReturn, pool_of, in_memory}

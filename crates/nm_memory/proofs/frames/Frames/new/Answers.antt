@@ -1,6 +1,6 @@
 use Rattle.std.proofs.Common.{ap, replicate, sym, subst, ◌∙◌}
 use Rattle.std.specs.List.{AllByRecursion}
-use Rattle.nm_frames.specs.Populated.{IsPopulated}
+use Rattle.nm_memory.specs.views.Populated.{IsPopulated}
 use Rattle.nm_model.specs.definitions.Frames.{Pool}
 use Rattle.nm_memory.specs.declared.frames.FrameParts.{FrameParts}
 use Rattle.nm_memory.specs.views.Frames.{HasAllFrames, in_memory}

@@ -1,7 +1,7 @@
 use Rattle.std.proofs.Common.{subst, ap}
 use Rattle.std.specs.Prelude.{OnErr}
 use Rattle.std.specs.List.{AllByRecursion}
-use Rattle.nm_frames.specs.Populated.{IsPopulated}
+use Rattle.nm_memory.specs.views.Populated.{IsPopulated}
 use Rattle.nm_model.specs.definitions.BeforeCopy.{frames_taken}
 use Rattle.nm_memory.specs.views.Frames.{FramesView, KeepsBytes, in_memory}
 use Rattle.nm_memory.proofs.Shelves.{all_below, every_home, store_kept}

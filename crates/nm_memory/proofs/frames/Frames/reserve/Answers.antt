@@ -1,6 +1,6 @@
 use Rattle.std.proofs.Common.{ℕ, List, min, ap, sym, subst, ◌∙◌, arith, vec_capacity}
 use Rattle.std.specs.List.{AllByRecursion}
-use Rattle.nm_frames.specs.Populated.{IsPopulated}
+use Rattle.nm_memory.specs.views.Populated.{IsPopulated}
 use Rattle.std.proofs.lemmas.Result.{on_ok_weaker}
 use Rattle.nm_memory.specs.views.Frames.{FramesView, in_memory}
 use Rattle.nm_memory.proofs.Boxed.{seen, held}

@@ -1,7 +1,7 @@
 use Rattle.std.proofs.Common.{◌≡◌, ◌++◌, length, ap, sym, subst, ◌∙◌, arith}
 use Rattle.std.specs.Prelude.{min, vec_capacity, vec_len}
 use Rattle.std.specs.List.{AllByRecursion}
-use Rattle.nm_frames.specs.Populated.{IsPopulated}
+use Rattle.nm_memory.specs.views.Populated.{IsPopulated}
 use Rattle.nm_model.specs.definitions.Frames.{Store}
 use Rattle.nm_memory.specs.views.Copies.{CanCopy, HasBoth, emptied, jobs_of}
 use Rattle.nm_memory.specs.views.Frames.{FramesView, HasAllFrames, in_memory}

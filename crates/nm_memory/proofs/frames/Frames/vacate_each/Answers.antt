@@ -1,6 +1,6 @@
 use Rattle.std.proofs.Common.{ℕ, List, ◌≤◌, ◌++◌, min, length, vec_capacity, ap, sym, subst, ◌∙◌, arith}
 use Rattle.std.specs.List.{AllByRecursion}
-use Rattle.nm_frames.specs.Populated.{IsPopulated}
+use Rattle.nm_memory.specs.views.Populated.{IsPopulated}
 use Rattle.nm_memory.specs.views.Frames.{FramesView, HasAllFrames, in_memory}
 use Rattle.nm_model.specs.definitions.Run.{frames_left}
 use Rattle.nm_memory.proofs.Boxed.{seen, held}

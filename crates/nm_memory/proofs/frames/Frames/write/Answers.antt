@@ -1,6 +1,6 @@
 use Rattle.std.proofs.Common.{sym, subst}
 use Rattle.std.specs.List.{AllByRecursion}
-use Rattle.nm_frames.specs.Populated.{IsPopulated}
+use Rattle.nm_memory.specs.views.Populated.{IsPopulated}
 use Rattle.std.specs.Prelude.{Some, slice_set}
 use Rattle.nm_model.specs.definitions.Frames.{Store, bytes_of, overwrite}
 use Rattle.nm_memory.specs.views.Frames.{FramesView, HasAllFrames, in_memory}

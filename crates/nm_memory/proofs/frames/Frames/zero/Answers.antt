@@ -2,7 +2,7 @@ use Rattle.std.proofs.Common.{ℕ, sym, subst}
 use Rattle.std.specs.Prelude.{Some, replicate, slice_set}
 use Rattle.std.specs.List.{AllByRecursion}
 use Rattle.std.proofs.lemmas.List.{length-replicate}
-use Rattle.nm_frames.specs.Populated.{IsPopulated}
+use Rattle.nm_memory.specs.views.Populated.{IsPopulated}
 use Rattle.nm_memory.specs.views.Frames.{FramesView, in_memory}
 use Rattle.nm_memory.proofs.Copies.Populated.{all_set}
 use Rattle.nm_model.specs.definitions.Frames.{Store}

@@ -2,7 +2,7 @@ use Rattle.std.proofs.Common.{ap, sym, subst, length, ◌<◌, ◌∙◌}
 use Rattle.std.specs.Prelude.{min, vec_capacity}
 use Rattle.std.specs.List.{AllByRecursion}
 use Rattle.nm_types.specs.Layout.{frame_count}
-use Rattle.nm_frames.specs.Populated.{IsPopulated}
+use Rattle.nm_memory.specs.views.Populated.{IsPopulated}
 use Rattle.nm_model.specs.definitions.Frames.{Store, IsHome}
 use Rattle.nm_memory.specs.views.Copies.{CanRefill, refilled}
 use Rattle.nm_memory.specs.views.Frames.{FramesView, in_memory}

@@ -1,6 +1,6 @@
 use Rattle.std.proofs.Common.{ap, sym, subst, length, length-set, ◌∙◌}
 use Rattle.std.specs.Prelude.{Some, slice_set}
-use Rattle.nm_frames.specs.Populated.{IsPopulated}
+use Rattle.nm_memory.specs.views.Populated.{IsPopulated}
 use Rattle.nm_model.specs.definitions.Frames.{Store, IsHome, bytes_of, overwrite}
 use Rattle.nm_memory.specs.views.Frames.{FramesView, HasAllPlaces, in_memory}
 use Rattle.nm_memory.proofs.Shelves.{frames_changed}

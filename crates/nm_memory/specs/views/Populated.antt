@@ -1,4 +1,4 @@
--- Frames that have bytes in memory, in a list that has no bytes of those without their buffer.
+-- Frames that have their bytes in memory, where one without its buffer has none.
 use Rattle.std.specs.Prelude.{◌≡◌, ℕ, length}
 use Rattle.nm_model.specs.definitions.Frames.{Store, bytes_of}
 
