@@ -10,7 +10,7 @@ use Rattle.nm_types.specs.Map.{Map, get, spot_cmp}
 use Rattle.nm_types.specs.State.{Placed, area_over, page_shown, page_at}
 use Rattle.nm_types.proofs.Cases.{true_false, some_is}
 use Rattle.nm_model.specs.definitions.Areas.{is_shared}
-use Rattle.nm_model.specs.definitions.Areas.{mapped, AreasAreApart, IsMapped, IsSomePages, PrivateIsOnce}
+use Rattle.nm_model.specs.definitions.Areas.{mapping_of, AreasAreApart, IsWellFormed, IsSomePages, PrivateIsOnce}
 use Rattle.nm_model.specs.definitions.Areas.{covers_page, is_covered}
 use Rattle.nm_model.specs.definitions.Areas.{split_at}
 use Rattle.nm_model.specs.definitions.Areas.{is_own, others, page_in}
@@ -32,7 +32,7 @@ side at pid q w own = elim (nat_lt w at) as (λ b. nat_lt w at ≡ b → (w < at
 split_shows : (pid at : ℕ) (areas : Map (ℕ × ℕ) Area) → AllByRecursion IsSomePages areas → AreasAreApart areas → (q w : ℕ) → page_at (split_at pid at areas) q w ≡ page_at areas q w
 split_shows pid at areas some apart q w = left_outside pid at at (omega arith) areas some apart q w (side at pid q w)
 
-module _ (t : Table) (place : Map Page ℕ) (h : IsMapped (mapped t place)) (pid first end : ℕ) (cut : Table) (was : cut ≡ with_areas t (split_at pid end (split_at pid first t.areas))) where
+module _ (t : Table) (place : Map Page ℕ) (h : IsWellFormed (mapping_of t place)) (pid first end : ℕ) (cut : Table) (was : cut ≡ with_areas t (split_at pid end (split_at pid first t.areas))) where
   pub cut_apart : AreasAreApart cut.areas
   cut_apart = subst (λ (u : Table). AreasAreApart u.areas) (sym was) (fine_split pid end (split_at pid first t.areas) (fine_split pid first t.areas (fine_here t place h))).apart
 

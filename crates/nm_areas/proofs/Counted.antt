@@ -14,7 +14,7 @@ use Rattle.nm_types.proofs.Cases.{true_false, some_none, none_some, some_is}
 use Rattle.nm_areas.specs.Coverage.{total, end_of, ends_of, covers_of, ends_at, covers_at, IsFlat, split_of, splits_at}
 use Rattle.nm_model.specs.definitions.Areas.{AreasAreApart, IsSomePages}
 use Rattle.nm_model.specs.definitions.Areas.{parts_outside, shows_page, covers_page, is_covered}
-use Rattle.nm_model.specs.definitions.Areas.{split_at, painted}
+use Rattle.nm_model.specs.definitions.Areas.{split_at, with_policy_in}
 use Rattle.nm_model.specs.definitions.Areas.{page_in, begins_in, is_own}
 use Rattle.nm_counts.specs.Shifted.{is_between}
 use Rattle.nm_model.proofs.areas.Apart.{behind_last, covers_parts, covers_from}
@@ -376,10 +376,10 @@ module _ (pid first end : ℕ) (less : first < end) (areas : Map (ℕ × ℕ) Ar
 -- a policy changes no count
 module _ (pid first end : ℕ) (policy : Policy) (p : Page) where
   pub painted_total : (number : Area → ℕ) → ((x : Area) → number (record x { policy = policy }) ≡ number x) → (areas : Map (ℕ × ℕ) Area)
-      → total (λ a. number a.1) (with_values (painted pid first end policy) areas) ≡ total (λ a. number a.1) areas
+      → total (λ a. number a.1) (with_values (with_policy_in pid first end policy) areas) ≡ total (λ a. number a.1) areas
   painted_total number same [] = refl
   painted_total number same (e ∷ areas) =
-      let here : number (painted pid first end policy e.0 e.1) ≡ number e.1 = elim (begins_in pid first end e.0) as (λ b. number (cond b (record (e.1) { policy = policy }) e.1) ≡ number e.1) [ true ↦ same e.1 | false ↦ refl ] in
+      let here : number (with_policy_in pid first end policy e.0 e.1) ≡ number e.1 = elim (begins_in pid first end e.0) as (λ b. number (cond b (record (e.1) { policy = policy }) e.1) ≡ number e.1) [ true ↦ same e.1 | false ↦ refl ] in
       let rest = painted_total number same areas in
       omega (arith, here, rest)
 

@@ -10,8 +10,8 @@ use Rattle.nm_types.specs.Map.{Map, get, set, spot_cmp, with_values}
 use Rattle.nm_counts.specs.declared.step.Step.{Step}
 use Rattle.nm_areas.specs.Coverage.{IsSteps, IsCoverage, IsWith, of_shared, ends_of, covers_of, ends_at, covers_at, splits_at}
 use Rattle.nm_model.specs.definitions.Areas.{is_shared}
-use Rattle.nm_model.specs.definitions.Areas.{IsMapped, IsSomePages, mapped, shows_segment}
-use Rattle.nm_model.specs.definitions.Areas.{split_at, painted, repoliced}
+use Rattle.nm_model.specs.definitions.Areas.{IsWellFormed, IsSomePages, mapping_of, shows_segment}
+use Rattle.nm_model.specs.definitions.Areas.{split_at, with_policy_in, parts_with_policy}
 use Rattle.nm_model.specs.views.Table.{Table}
 use Rattle.nm_areas.proofs.Counted.{both_ends, both_cover, painted_total}
 use Rattle.nm_areas.proofs.Masked.{masked_same, masked_add, more_covered}
@@ -25,11 +25,11 @@ came m t now s x y shared same free is kind old steps =
     subst (IsCoverage m now.segments) (sym is) (more_covered m t.segments now.segments t.areas s y shared free kind old (subst (λ z. IsWith m t.segments t.areas z shared) same steps))
 
 -- the area was not added after all
-module _ (t now : Table) (place : Map Page ℕ) (m back : Map Page Step) (x y : Area) (shared : Bool) (fine : IsMapped (mapped t place)) (same : x ≡ y) (steps : IsWith m t.segments t.areas x shared)
+module _ (t now : Table) (place : Map Page ℕ) (m back : Map Page Step) (x y : Area) (shared : Bool) (fine : IsWellFormed (mapping_of t place)) (same : x ≡ y) (steps : IsWith m t.segments t.areas x shared)
     (gone : (segments : Map ℕ Segment) (areas : Map (ℕ × ℕ) Area) → IsWith m segments areas y shared → IsCoverage back segments areas) (is : now ≡ t) where
-  pub stayed : IsMapped (mapped now place) × IsCoverage back now.segments now.areas
+  pub stayed : IsWellFormed (mapping_of now place) × IsCoverage back now.segments now.areas
   stayed = (
-    subst (λ (z : Table). IsMapped (mapped z place)) (sym is) fine,
+    subst (λ (z : Table). IsWellFormed (mapping_of z place)) (sym is) fine,
     subst (λ (z : Table). IsCoverage back z.segments z.areas) (sym is) (gone t.segments t.areas (subst (λ z. IsWith m t.segments t.areas z shared) same steps)),
   )
 
@@ -51,9 +51,9 @@ module _ (m : Map Page Step) (segments : Map ℕ Segment) (areas : Map (ℕ × �
   was_cut now is = subst (IsCoverage m segments) (sym is) cut_both
 
   -- and those between get a policy
-  pub was_policed : (policy : Policy) (now : Map (ℕ × ℕ) Area) → now ≡ flat_map (repoliced pid first end policy) areas → IsCoverage m segments now
+  pub was_policed : (policy : Policy) (now : Map (ℕ × ℕ) Area) → now ≡ flat_map (parts_with_policy pid first end policy) areas → IsCoverage m segments now
   was_policed policy now is =
       subst (IsCoverage m segments) (all_repoliced pid first end policy less areas some ∙ sym is)
       (steps_same m _ _ _ _ cut_both
-      (λ p. masked_same segments (ends_at both) (ends_at (with_values (painted pid first end policy) both)) p (λ k. sym (painted_total pid first end policy p (ends_of p) (λ x. refl) both)))
-      (λ p. masked_same segments (covers_at both) (covers_at (with_values (painted pid first end policy) both)) p (λ k. sym (painted_total pid first end policy p (covers_of p) (λ x. refl) both))))
+      (λ p. masked_same segments (ends_at both) (ends_at (with_values (with_policy_in pid first end policy) both)) p (λ k. sym (painted_total pid first end policy p (ends_of p) (λ x. refl) both)))
+      (λ p. masked_same segments (covers_at both) (covers_at (with_values (with_policy_in pid first end policy) both)) p (λ k. sym (painted_total pid first end policy p (covers_of p) (λ x. refl) both))))

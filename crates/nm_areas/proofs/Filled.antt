@@ -10,7 +10,7 @@ use Rattle.nm_types.specs.Map.{Map, get, spot_cmp}
 use Rattle.nm_types.specs.State.{Placed, covers, area_over}
 use Rattle.nm_types.proofs.Cases.{none_some, some_is, true_false}
 use Rattle.nm_model.specs.definitions.Areas.{AreasAreApart, IsSomePages}
-use Rattle.nm_model.specs.definitions.Areas.{is_mapped}
+use Rattle.nm_model.specs.definitions.Areas.{is_well_formed}
 use Rattle.nm_model.proofs.areas.Apart.{covers_parts, covers_from}
 use Rattle.nm_model.proofs.areas.Parted.{Among, All-among, among_over, over_among}
 use Rattle.nm_model.proofs.areas.Overs.{get_among, get_not_none}
@@ -83,19 +83,19 @@ begins_from areas pid from at start x none low there =
     ] refl
 
 -- a page number without an area
-pub hole_first : (areas : Map (ℕ × ℕ) Area) (pid at n : ℕ) → 0 < n → area_over areas pid at ≡ None → is_mapped areas pid at n ≡ false
+pub hole_first : (areas : Map (ℕ × ℕ) Area) (pid at n : ℕ) → 0 < n → area_over areas pid at ≡ None → is_well_formed areas pid at n ≡ false
 hole_first areas pid at zero some none = absurd (omega (arith, some))
-hole_first areas pid at (suc n) some none = ap (λ o. is_some o && is_mapped areas pid (at + 1) n) none
+hole_first areas pid at (suc n) some none = ap (λ o. is_some o && is_well_formed areas pid (at + 1) n) none
 
 -- .. or one further on
-pub hole_within : (areas : Map (ℕ × ℕ) Area) (pid at n v : ℕ) → at ≤ v → v < at + n → area_over areas pid v ≡ None → is_mapped areas pid at n ≡ false
+pub hole_within : (areas : Map (ℕ × ℕ) Area) (pid at n v : ℕ) → at ≤ v → v < at + n → area_over areas pid v ≡ None → is_well_formed areas pid at n ≡ false
 hole_within areas pid at zero v low high none = absurd (omega (arith, low, high))
 hole_within areas pid at (suc n) v low high none =
-    elim (nat_lt at v) as (λ b. nat_lt at v ≡ b → is_mapped areas pid at (suc n) ≡ false) [
+    elim (nat_lt at v) as (λ b. nat_lt at v ≡ b → is_well_formed areas pid at (suc n) ≡ false) [
       | true ↦ λ b. ap (λ rest. is_some (area_over areas pid at) && rest) (hole_within areas pid (at + 1) n v (omega (arith, ltb-true at v b)) (omega (arith, high)) none) ∙ and-false (is_some (area_over areas pid at))
       | false ↦ λ b.
           let same : at ≡ v = omega (arith, low, ltb-false at v b) in
-          ap (λ o. is_some o && is_mapped areas pid (at + 1) n) (ap (area_over areas pid) same ∙ none)
+          ap (λ o. is_some o && is_well_formed areas pid (at + 1) n) (ap (area_over areas pid) same ∙ none)
     ] refl
 
 -- what was looked up as no area is none
@@ -108,8 +108,8 @@ module _ (inside areas : Map (ℕ × ℕ) Area) (is : inside ≡ areas) (pid at 
   pub over_inside : (x : Area) → IsOver areas pid at x → IsOver inside pid at x
   over_inside x = subst (λ m. IsOver m pid at x) (sym is)
 
-  pub mapped_inside : (n : ℕ) → is_mapped inside pid at n ≡ is_mapped areas pid at n
-  mapped_inside n = ap (λ m. is_mapped m pid at n) is
+  pub mapped_inside : (n : ℕ) → is_well_formed inside pid at n ≡ is_well_formed areas pid at n
+  mapped_inside n = ap (λ m. is_well_formed m pid at n) is
 
 -- where an area covers a later page number, and begins no later than this one
 module _ (areas : Map (ℕ × ℕ) Area) (apart : AreasAreApart areas) (pid at v start : ℕ) (x : Area) (later : at ≤ v) (there : area_over areas pid v ≡ Some ((pid, start), x)) where

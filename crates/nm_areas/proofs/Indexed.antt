@@ -15,7 +15,7 @@ use Rattle.nm_types.specs.declared.area.Policy.{Policy}
 use Rattle.nm_types.specs.Map.{Map, get, replace, with_values, spot_cmp}
 use Rattle.nm_types.proofs.Cases.{true_false, some_is}
 use Rattle.nm_areas.specs.Index.{Key, key_cmp, is_of, is_key, IsIndex}
-use Rattle.nm_model.specs.definitions.Areas.{painted}
+use Rattle.nm_model.specs.definitions.Areas.{with_policy_in}
 use Rattle.nm_model.specs.definitions.Areas.{begins_in}
 use Rattle.nm_types.proofs.Maps.{equal, spot_cmp_total, get-values}
 use Rattle.nm_model.proofs.areas.Painted.{exact_spot, put_nowhere}
@@ -125,11 +125,11 @@ put_index keys areas new s x index same is =
     ] refl same)
 
 module _ (pid first end : ℕ) (policy : Policy) where
-  painted_of : (n : ℕ) (q : ℕ × ℕ) (o : Option Area) → is_of n (option_map (painted pid first end policy q) o) ≡ is_of n o
+  painted_of : (n : ℕ) (q : ℕ × ℕ) (o : Option Area) → is_of n (option_map (with_policy_in pid first end policy q) o) ≡ is_of n o
   painted_of n q None = refl
   painted_of n q (Some x) = elim (begins_in pid first end q) as (λ b. (cond b (record x { policy = policy }) x).page.segment == n ≡ (x.page.segment == n)) [ true ↦ refl | false ↦ refl ]
 
-  pub paint_index : (keys : List Key) (areas new : Map (ℕ × ℕ) Area) → IsIndex keys areas → new ≡ with_values (painted pid first end policy) areas → IsIndex keys new
+  pub paint_index : (keys : List Key) (areas new : Map (ℕ × ℕ) Area) → IsIndex keys areas → new ≡ with_values (with_policy_in pid first end policy) areas → IsIndex keys new
   paint_index keys areas new index is =
       subst (IsIndex keys) (sym is)
-      (λ q. index q ∙ sym (ap (is_of q.0) (get-values exact_spot (painted pid first end policy) areas (q.1, q.2)) ∙ painted_of q.0 (q.1, q.2) (get spot_cmp areas (q.1, q.2))))
+      (λ q. index q ∙ sym (ap (is_of q.0) (get-values exact_spot (with_policy_in pid first end policy) areas (q.1, q.2)) ∙ painted_of q.0 (q.1, q.2) (get spot_cmp areas (q.1, q.2))))

@@ -14,7 +14,7 @@ use Rattle.nm_types.specs.Map.{Map, get, set, spot_cmp}
 use Rattle.nm_types.specs.State.{Placed}
 use Rattle.nm_types.proofs.Cases.{true_false}
 use Rattle.nm_model.specs.views.Table.{Table, with_areas}
-use Rattle.nm_model.specs.definitions.Areas.{mapped, IsSomePages, EndsLow, HasIndices, shows_segment, AllShown, PrivateIsOnce, IsMapped}
+use Rattle.nm_model.specs.definitions.Areas.{mapping_of, IsSomePages, EndsLow, HasIndices, shows_segment, AllShown, PrivateIsOnce, IsWellFormed}
 use Rattle.nm_model.specs.definitions.AreaRefusal.{overlaps, is_stretch}
 use Rattle.nm_model.specs.definitions.Areas.{new_area}
 use Rattle.nm_model.specs.definitions.Areas.{is_shared}
@@ -52,7 +52,7 @@ not_true true h = cc
 not_true false h = refl
 
 -- another area
-module _ (t : Table) (place : Map Page ℕ) (h : IsMapped (mapped t place)) (pid first : ℕ) (new : Area) (some : 0 < new.pages) (low : first + new.pages ≤ 2 ^ 35) (index : new.page.index + new.pages < 2 ^ 64)
+module _ (t : Table) (place : Map Page ℕ) (h : IsWellFormed (mapping_of t place)) (pid first : ℕ) (new : Area) (some : 0 < new.pages) (low : first + new.pages ≤ 2 ^ 35) (index : new.page.index + new.pages < 2 ^ 64)
     (free : true ≡ not (list_any (overlaps pid first (first + new.pages)) t.areas)) where
   -- what an area showed is still shown
   any_more : (test : Placed → Bool) (areas : Map (ℕ × ℕ) Area) → AllByRecursion IsSomePages areas → NoneOverlaps pid first new areas → list_any test areas ≡ true → list_any test (set spot_cmp areas (pid, first) new) ≡ true
@@ -94,9 +94,9 @@ module _ (t : Table) (place : Map Page ℕ) (h : IsMapped (mapped t place)) (pid
       → PrivateIsOnce (set spot_cmp t.areas (pid, first) new) segments
   once_with segments same alone = once_more pid first new t.areas some h.whole none_overlaps t.segments segments t.next h.below same alone h.once
 
-  pub attached_mapped : (now : Table) → is_shared t.segments new.page.segment ≡ true → new.page.segment < t.next → now ≡ with_areas t (set spot_cmp t.areas (pid, first) new) → IsMapped (mapped now place)
+  pub attached_mapped : (now : Table) → is_shared t.segments new.page.segment ≡ true → new.page.segment < t.next → now ≡ with_areas t (set spot_cmp t.areas (pid, first) new) → IsWellFormed (mapping_of now place)
   attached_mapped now shared under is =
-      subst (λ (u : Table). IsMapped (mapped u place)) (sym is) (record {
+      subst (λ (u : Table). IsWellFormed (mapping_of u place)) (sym is) (record {
         ordered = fine_more.ordered;
         apart = fine_more.apart;
         whole = fine_more.whole;
@@ -131,18 +131,18 @@ all_with areas (e ∷ segments) n segment new h =
     ]
 
 -- another segment, and an area over it
-pub inserted_mapped : (t now : Table) (place : Map Page ℕ) (pid first pages : ℕ) (shared : Bool) → IsMapped (mapped t place) → 0 < pages → first + pages ≤ 2 ^ 35 → true ≡ not (list_any (overlaps pid first (first + pages)) t.areas)
+pub inserted_mapped : (t now : Table) (place : Map Page ℕ) (pid first pages : ℕ) (shared : Bool) → IsWellFormed (mapping_of t place) → 0 < pages → first + pages ≤ 2 ^ 35 → true ≡ not (list_any (overlaps pid first (first + pages)) t.areas)
     → now ≡ record {
       areas = set spot_cmp t.areas (pid, first) (new_area t.next 0 pages);
       segments = set nat_cmp t.segments t.next (record { pages = pages; shared = shared });
       next = suc t.next;
     }
-    → IsMapped (mapped now place)
+    → IsWellFormed (mapping_of now place)
 inserted_mapped t now place pid first pages shared h some low free is =
     let segment : Segment = record { pages = pages; shared = shared } in
     let new = new_area t.next 0 pages in
     let more = fine_more t place h pid first new some low (omega (arith, low)) free in
-    subst (λ (u : Table). IsMapped (mapped u place)) (sym is) (record {
+    subst (λ (u : Table). IsWellFormed (mapping_of u place)) (sym is) (record {
       ordered = more.ordered;
       apart = more.apart;
       whole = more.whole;

@@ -15,10 +15,10 @@ use Rattle.nm_types.specs.declared.area.Segment.{Segment}
 use Rattle.nm_types.specs.Map.{Map, with_values, without, page_cmp}
 use Rattle.nm_types.specs.State.{Placed}
 use Rattle.nm_model.specs.views.Table.{Table, with_areas}
-use Rattle.nm_model.specs.definitions.Areas.{Mapped, mapped, IsSomePages, EndsLow, HasIndices, shows_segment, AllShown, IsMapped}
+use Rattle.nm_model.specs.definitions.Areas.{Mapping, mapping_of, IsSomePages, EndsLow, HasIndices, shows_segment, AllShown, IsWellFormed}
 use Rattle.nm_model.specs.definitions.Areas.{pages_from, pages_between, before, behind, parts_outside, is_covered}
-use Rattle.nm_model.specs.definitions.Areas.{inside, repoliced, split_at, painted}
-use Rattle.nm_model.specs.definitions.Areas.{areas_left, segments_left, pages_gone, place_left, all_lost, removed, frames_lost, begins_in, is_own, others, without_own, pages_of_area, pages_of_own}
+use Rattle.nm_model.specs.definitions.Areas.{inside, parts_with_policy, split_at, with_policy_in}
+use Rattle.nm_model.specs.definitions.Areas.{areas_left, segments_left, pages_gone, place_left, all_lost, after_removal, frames_lost, begins_in, is_own, others, without_own, pages_of_area, pages_of_own}
 use Rattle.nm_types.proofs.Keys.{sorted-without}
 use Rattle.nm_model.proofs.areas.Parted.{All-among, all_from_among, among_flat, IsPart, part_of}
 use Rattle.nm_model.proofs.areas.Halves.{flat_apart, flat_sorted}
@@ -41,19 +41,19 @@ module _ (pid first end : ℕ) where
 
   -- ---- a policy makes no difference
 
-  others_painted : (areas : Map (ℕ × ℕ) Area) → others pid first end (with_values (painted pid first end Default) areas) ≡ others pid first end areas
+  others_painted : (areas : Map (ℕ × ℕ) Area) → others pid first end (with_values (with_policy_in pid first end Default) areas) ≡ others pid first end areas
   others_painted [] = refl
   others_painted (e ∷ areas) =
-      elim (begins_in pid first end e.0) as (λ b. cond (not b) ((e.0, cond b (record (e.1) { policy = Default }) e.1) ∷ others pid first end (with_values (painted pid first end Default) areas)) (others pid first end (with_values (painted pid first end Default) areas))
+      elim (begins_in pid first end e.0) as (λ b. cond (not b) ((e.0, cond b (record (e.1) { policy = Default }) e.1) ∷ others pid first end (with_values (with_policy_in pid first end Default) areas)) (others pid first end (with_values (with_policy_in pid first end Default) areas))
       ≡ cond (not b) (e ∷ others pid first end areas) (others pid first end areas)) [
         | true ↦ others_painted areas
         | false ↦ ap (λ l. e ∷ l) (others_painted areas)
       ]
 
-  own_painted : (areas : Map (ℕ × ℕ) Area) → pages_of_own pid first end (with_values (painted pid first end Default) areas) ≡ pages_of_own pid first end areas
+  own_painted : (areas : Map (ℕ × ℕ) Area) → pages_of_own pid first end (with_values (with_policy_in pid first end Default) areas) ≡ pages_of_own pid first end areas
   own_painted [] = refl
   own_painted (e ∷ areas) =
-      let rest = filter (is_own pid first end) (with_values (painted pid first end Default) areas) in
+      let rest = filter (is_own pid first end) (with_values (with_policy_in pid first end Default) areas) in
       elim (begins_in pid first end e.0) as (λ b. flat_map pages_of (cond b ((e.0, cond b (record (e.1) { policy = Default }) e.1) ∷ rest) rest) ≡ flat_map pages_of (cond b (e ∷ filter (is_own pid first end) areas) (filter (is_own pid first end) areas))) [
         | true ↦ ap (λ l. pages_of e ++ l) (own_painted areas)
         | false ↦ own_painted areas
@@ -116,14 +116,14 @@ module _ (pid first end : ℕ) where
       ap (flat_map pages_of) (filter-append (is_own pid first end) (xs ++ ys) zs ∙ ap (λ l. filter (is_own pid first end) (xs ++ ys) ++ l) z.1 ∙ append-nil (filter (is_own pid first end) (xs ++ ys))
       ∙ filter-append (is_own pid first end) xs ys ∙ ap (λ l. l ++ filter (is_own pid first end) ys) x.1)
 
-  one_other : (a : Placed) → filter is_other (repoliced pid first end Default a) ≡ parts_outside pid first end a
+  one_other : (a : Placed) → filter is_other (parts_with_policy pid first end Default a) ≡ parts_outside pid first end a
   one_other a =
       elim (a.0.0 == pid) as (λ b. (a.0.0 == pid) ≡ b → filter is_other (cond b (before first a ++ inside first end Default a ++ behind end a) (a ∷ [])) ≡ cond b (before first a ++ behind end a) (a ∷ [])) [
         | true ↦ λ b. three_others (before first a) (inside first end Default a) (behind end a) (before_kept a) (inside_goes a (eqb-true a.0.0 pid b)).0 (behind_kept a)
         | false ↦ λ b. (keep a (ap (λ c. c && (nat_le first a.0.1 && nat_lt a.0.1 end)) b)).0
       ] refl
 
-  one_own : (a : Placed) → flat_map pages_of (filter (is_own pid first end) (repoliced pid first end Default a)) ≡ cond (a.0.0 == pid) (pages_between first end a) []
+  one_own : (a : Placed) → flat_map pages_of (filter (is_own pid first end) (parts_with_policy pid first end Default a)) ≡ cond (a.0.0 == pid) (pages_between first end a) []
   one_own a =
       elim (a.0.0 == pid) as (λ b. (a.0.0 == pid) ≡ b → flat_map pages_of (filter (is_own pid first end) (cond b (before first a ++ inside first end Default a ++ behind end a) (a ∷ []))) ≡ cond b (pages_between first end a) []) [
         | true ↦ λ b. three_own (before first a) (inside first end Default a) (behind end a) (before_kept a) (behind_kept a) ∙ (inside_goes a (eqb-true a.0.0 pid b)).1
@@ -132,19 +132,19 @@ module _ (pid first end : ℕ) where
 
   -- ---- all areas
 
-  all_others : (areas : Map (ℕ × ℕ) Area) → others pid first end (flat_map (repoliced pid first end Default) areas) ≡ areas_left areas pid first end
+  all_others : (areas : Map (ℕ × ℕ) Area) → others pid first end (flat_map (parts_with_policy pid first end Default) areas) ≡ areas_left areas pid first end
   all_others [] = refl
   all_others (a ∷ areas) =
-      filter-append is_other (repoliced pid first end Default a) (flat_map (repoliced pid first end Default) areas)
-      ∙ ap (λ l. l ++ others pid first end (flat_map (repoliced pid first end Default) areas)) (one_other a) ∙ ap (λ l. parts_outside pid first end a ++ l) (all_others areas)
+      filter-append is_other (parts_with_policy pid first end Default a) (flat_map (parts_with_policy pid first end Default) areas)
+      ∙ ap (λ l. l ++ others pid first end (flat_map (parts_with_policy pid first end Default) areas)) (one_other a) ∙ ap (λ l. parts_outside pid first end a ++ l) (all_others areas)
 
-  all_own : (areas : Map (ℕ × ℕ) Area) → pages_of_own pid first end (flat_map (repoliced pid first end Default) areas) ≡ pages_gone areas pid first end
+  all_own : (areas : Map (ℕ × ℕ) Area) → pages_of_own pid first end (flat_map (parts_with_policy pid first end Default) areas) ≡ pages_gone areas pid first end
   all_own [] = refl
   all_own (a ∷ areas) =
       let gone = filter (λ x. x.0.0 == pid) areas in
-      ap (flat_map pages_of) (filter-append (is_own pid first end) (repoliced pid first end Default a) (flat_map (repoliced pid first end Default) areas))
-      ∙ flat_map-append pages_of (filter (is_own pid first end) (repoliced pid first end Default a)) (filter (is_own pid first end) (flat_map (repoliced pid first end Default) areas))
-      ∙ ap (λ l. l ++ pages_of_own pid first end (flat_map (repoliced pid first end Default) areas)) (one_own a) ∙ ap (λ l. cond (a.0.0 == pid) (pages_between first end a) [] ++ l) (all_own areas)
+      ap (flat_map pages_of) (filter-append (is_own pid first end) (parts_with_policy pid first end Default a) (flat_map (parts_with_policy pid first end Default) areas))
+      ∙ flat_map-append pages_of (filter (is_own pid first end) (parts_with_policy pid first end Default a)) (filter (is_own pid first end) (flat_map (parts_with_policy pid first end Default) areas))
+      ∙ ap (λ l. l ++ pages_of_own pid first end (flat_map (parts_with_policy pid first end Default) areas)) (one_own a) ∙ ap (λ l. cond (a.0.0 == pid) (pages_between first end a) [] ++ l) (all_own areas)
       ∙ elim (a.0.0 == pid) as (λ b. cond b (pages_between first end a) [] ++ flat_map (pages_between first end) gone ≡ flat_map (pages_between first end) (cond b (a ∷ gone) gone)) [ true ↦ refl | false ↦ refl ]
 
   abbrev cut_both : Map (ℕ × ℕ) Area → Map (ℕ × ℕ) Area
@@ -186,13 +186,13 @@ places_sorted areas (p ∷ pages) place h =
     places_sorted areas pages (place_left areas place p)
     (elim (is_covered areas p) as (λ b. IsStrictlySortedBy page_cmp (keys_of (if b then place else without page_cmp place p))) [ true ↦ h | false ↦ sorted-without page_cmp place p h ])
 
-module _ (m : Mapped) (h : IsMapped m) (pid first end : ℕ) (range : first ≤ end) where
+module _ (m : Mapping) (h : IsWellFormed m) (pid first end : ℕ) (range : first ≤ end) where
   each_part : (P : Placed → Type 0) → AllByRecursion P m.areas → ((a b : Placed) → P a → IsPart pid first end a b → P b) → AllByRecursion P (areas_left m.areas pid first end)
   each_part P all f = all_from_among P (areas_left m.areas pid first end) (λ b n.
       let from = among_flat (parts_outside pid first end) m.areas b n in
       f from.0 b (All-among P m.areas from.0 all from.1) (part_of pid first end from.0 (All-among IsSomePages m.areas from.0 h.whole from.1) b from.2))
 
-  pub removed_mapped : IsMapped (removed m pid first end)
+  pub removed_mapped : IsWellFormed (after_removal m pid first end)
   removed_mapped =
       let left = areas_left m.areas pid first end in
       let test : ℕ × Segment → Bool = λ e. list_any (shows_segment e.0) left in
@@ -212,7 +212,7 @@ module _ (m : Mapped) (h : IsMapped m) (pid first end : ℕ) (range : first ≤ 
       }
 
 -- the areas that are split at both ends
-module _ (t : Table) (place : Map Page ℕ) (h : IsMapped (mapped t place)) (pid first end : ℕ) (cut : Table) (was : cut ≡ with_areas t (split_at pid end (split_at pid first t.areas))) where
+module _ (t : Table) (place : Map Page ℕ) (h : IsWellFormed (mapping_of t place)) (pid first end : ℕ) (cut : Table) (was : cut ≡ with_areas t (split_at pid end (split_at pid first t.areas))) where
   pub cut_indices : AllByRecursion HasIndices cut.areas
   cut_indices = subst (λ (u : Table). AllByRecursion HasIndices u.areas) (sym was) (fine_split pid end (split_at pid first t.areas) (fine_split pid first t.areas (fine_here t place h))).indices
 
@@ -224,7 +224,7 @@ module _ (t : Table) (place : Map Page ℕ) (h : IsMapped (mapped t place)) (pid
       (all_shown t.areas (split_at pid end once) (λ n shown. shown_split pid end once some n (shown_split pid first t.areas h.whole n shown)) t.segments h.shown)
 
 -- the areas and the frames after the call
-module _ (t : Table) (place : Map Page ℕ) (h : IsMapped (mapped t place)) (pid first end : ℕ) (range : first < end) (cut now : Table) (places : Map Page ℕ) (was : cut ≡ with_areas t (split_at pid end (split_at pid first t.areas)))
+module _ (t : Table) (place : Map Page ℕ) (h : IsWellFormed (mapping_of t place)) (pid first end : ℕ) (range : first < end) (cut now : Table) (places : Map Page ℕ) (was : cut ≡ with_areas t (split_at pid end (split_at pid first t.areas)))
     (is : now ≡ without_own cut pid first end) (left : places ≡ fold (place_left (others pid first end cut.areas)) place (pages_of_own pid first end cut.areas)) where
   cut_left : others pid first end cut.areas ≡ areas_left t.areas pid first end
   cut_left = ap (λ (u : Table). others pid first end u.areas) was ∙ cut_others pid first end range t.areas h.whole
@@ -240,13 +240,13 @@ module _ (t : Table) (place : Map Page ℕ) (h : IsMapped (mapped t place)) (pid
   places_left : places ≡ fold (place_left (areas_left t.areas pid first end)) place (pages_gone t.areas pid first end)
   places_left = left ∙ ap (λ areas. fold (place_left areas) place (pages_of_own pid first end cut.areas)) cut_left ∙ ap (fold (place_left (areas_left t.areas pid first end)) place) cut_gone
 
-  pub after_is : mapped now places ≡ removed (mapped t place) pid first end
-  after_is = ap (λ (u : Table). mapped u places) now_left ∙ ap (mapped (record t { areas = areas_left t.areas pid first end; segments = segments_left t.segments (areas_left t.areas pid first end) })) places_left
+  pub after_is : mapping_of now places ≡ after_removal (mapping_of t place) pid first end
+  after_is = ap (λ (u : Table). mapping_of u places) now_left ∙ ap (mapping_of (record t { areas = areas_left t.areas pid first end; segments = segments_left t.segments (areas_left t.areas pid first end) })) places_left
 
-  pub after_mapped : IsMapped (mapped now places)
-  after_mapped = subst IsMapped (sym after_is) (removed_mapped (mapped t place) h pid first end (omega (arith, range)))
+  pub after_mapped : IsWellFormed (mapping_of now places)
+  after_mapped = subst IsWellFormed (sym after_is) (removed_mapped (mapping_of t place) h pid first end (omega (arith, range)))
 
-  pub lost_is : (none freed : List (Page × ℕ)) → none ≡ [] → freed ≡ none ++ all_lost (others pid first end cut.areas) place (pages_of_own pid first end cut.areas) → freed ≡ frames_lost (mapped t place) pid first end
+  pub lost_is : (none freed : List (Page × ℕ)) → none ≡ [] → freed ≡ none ++ all_lost (others pid first end cut.areas) place (pages_of_own pid first end cut.areas) → freed ≡ frames_lost (mapping_of t place) pid first end
   lost_is none freed empty e =
       e ∙ ap (λ l. l ++ all_lost (others pid first end cut.areas) place (pages_of_own pid first end cut.areas)) empty
       ∙ ap (λ areas. all_lost areas place (pages_of_own pid first end cut.areas)) cut_left ∙ ap (all_lost (areas_left t.areas pid first end) place) cut_gone

@@ -11,7 +11,7 @@ use Rattle.nm_types.specs.declared.area.Area.{Area}
 use Rattle.nm_types.specs.Map.{Map, get, without, page_cmp, spot_cmp}
 use Rattle.nm_types.proofs.Cases.{some_none}
 use Rattle.nm_model.specs.definitions.Areas.{pages_from, is_covered}
-use Rattle.nm_model.specs.definitions.Areas.{place_left, with_its_frame, lost, all_lost, pages_of_area, pages_of_own, page_in}
+use Rattle.nm_model.specs.definitions.Areas.{place_left, with_its_frame, lost_page, all_lost, pages_of_area, pages_of_own, page_in}
 use Rattle.nm_areas.proofs.Own.{NoneBegins, own_next, own_none}
 
 pub without_none : (place : Map Page ℕ) (p : Page) → get page_cmp place p ≡ None → without page_cmp place p ≡ place
@@ -26,14 +26,14 @@ module _ (areas : Map (ℕ × ℕ) Area) where
   pub lost_append : (place : Map Page ℕ) (xs ys : List Page) → all_lost areas place (xs ++ ys) ≡ all_lost areas place xs ++ all_lost areas (fold (place_left areas) place xs) ys
   lost_append place [] ys = refl
   lost_append place (p ∷ xs) ys =
-      ap (λ l. lost areas place p ++ l) (lost_append (place_left areas place p) xs ys)
-      ∙ sym (append_assoc (lost areas place p) (all_lost areas (place_left areas place p) xs) (all_lost areas (fold (place_left areas) (place_left areas place p) xs) ys))
+      ap (λ l. lost_page areas place p ++ l) (lost_append (place_left areas place p) xs ys)
+      ∙ sym (append_assoc (lost_page areas place p) (all_lost areas (place_left areas place p) xs) (all_lost areas (fold (place_left areas) (place_left areas place p) xs) ys))
 
   -- a page without a frame
   absent_left : (place : Map Page ℕ) (p : Page) → get page_cmp place p ≡ None → place_left areas place p ≡ place
   absent_left place p h = elim (is_covered areas p) as (λ b. (if b then place else without page_cmp place p) ≡ place) [ true ↦ refl | false ↦ without_none place p h ]
 
-  absent_lost : (place : Map Page ℕ) (p : Page) → get page_cmp place p ≡ None → lost areas place p ≡ []
+  absent_lost : (place : Map Page ℕ) (p : Page) → get page_cmp place p ≡ None → lost_page areas place p ≡ []
   absent_lost place p h = elim (is_covered areas p) as (λ b. (if b then [] else with_its_frame p (get page_cmp place p)) ≡ []) [ true ↦ refl | false ↦ ap (with_its_frame p) h ]
 
   -- no page of a stretch has a frame
@@ -83,7 +83,7 @@ module _ (areas : Map (ℕ × ℕ) Area) where
     none_there i from to = none i from (omega (arith, to, there))
 
     pub next_lost : all_lost areas place (pages_from segment at (past - at))
-        ≡ lost areas place (page_in segment s) ++ all_lost areas (place_left areas place (page_in segment s)) (pages_from segment (s + 1) (past - (s + 1)))
+        ≡ lost_page areas place (page_in segment s) ++ all_lost areas (place_left areas place (page_in segment s)) (pages_from segment (s + 1) (past - (s + 1)))
     next_lost =
         ap (λ k. all_lost areas place (pages_from segment at k)) parts_add ∙ skip_lost place segment (s - at) (suc (past - (s + 1))) at none_there
         ∙ ap (λ k. all_lost areas place (pages_from segment k (suc (past - (s + 1))))) there
@@ -124,12 +124,12 @@ module _ (areas : Map (ℕ × ℕ) Area) where
 
   -- one page
   module _ (place new : Map Page ℕ) (segment at s past : ℕ) (low : at ≤ s) (high : s < past) (none : NoneHas place segment at s) (is : new ≡ place_left areas place (page_in segment s)) where
-    pub freed_next : (before after total : List (Page × ℕ)) → after ≡ before ++ lost areas place (page_in segment s) → before ++ all_lost areas place (pages_from segment at (past - at)) ≡ total
+    pub freed_next : (before after total : List (Page × ℕ)) → after ≡ before ++ lost_page areas place (page_in segment s) → before ++ all_lost areas place (pages_from segment at (past - at)) ≡ total
         → after ++ all_lost areas new (pages_from segment (s + 1) (past - (s + 1))) ≡ total
     freed_next before after total more so_far =
         let rest = pages_from segment (s + 1) (past - (s + 1)) in
-        ap (λ l. l ++ all_lost areas new rest) more ∙ append_assoc before (lost areas place (page_in segment s)) (all_lost areas new rest)
-        ∙ ap (λ m. before ++ (lost areas place (page_in segment s) ++ all_lost areas m rest)) is
+        ap (λ l. l ++ all_lost areas new rest) more ∙ append_assoc before (lost_page areas place (page_in segment s)) (all_lost areas new rest)
+        ∙ ap (λ m. before ++ (lost_page areas place (page_in segment s) ++ all_lost areas m rest)) is
         ∙ ap (λ l. before ++ l) (sym (next_lost place segment at s past low high none)) ∙ so_far
 
     pub left_next : (total : Map Page ℕ) → fold (place_left areas) place (pages_from segment at (past - at)) ≡ total → fold (place_left areas) new (pages_from segment (s + 1) (past - (s + 1))) ≡ total

@@ -14,7 +14,7 @@ use Rattle.nm_types.specs.Map.{Map, get, spot_cmp}
 use Rattle.nm_types.specs.State.{Placed, covers}
 use Rattle.nm_types.proofs.Cases.{true_false}
 use Rattle.nm_model.specs.views.Table.{Table, with_areas}
-use Rattle.nm_model.specs.definitions.Areas.{mapped, AreasAreApart, IsSomePages, IsMapped}
+use Rattle.nm_model.specs.definitions.Areas.{mapping_of, AreasAreApart, IsSomePages, IsWellFormed}
 use Rattle.nm_model.specs.definitions.Areas.{pages_from, pages_between}
 use Rattle.nm_model.specs.definitions.Areas.{split_at}
 use Rattle.nm_model.specs.definitions.Areas.{pages_gone, pages_of_area, pages_of_own}
@@ -67,7 +67,7 @@ module _ (pid first end : ℕ) (range : first ≤ end) where
       ] refl
 
 -- in a range, no more than its page numbers
-pub few_own : (t cut : Table) (place : Map Page ℕ) (pid first end : ℕ) → IsMapped (mapped t place) → first < end → cut ≡ with_areas t (split_at pid end (split_at pid first t.areas)) → length (pages_of_own pid first end cut.areas) ≤ end - first
+pub few_own : (t cut : Table) (place : Map Page ℕ) (pid first end : ℕ) → IsWellFormed (mapping_of t place) → first < end → cut ≡ with_areas t (split_at pid end (split_at pid first t.areas)) → length (pages_of_own pid first end cut.areas) ≤ end - first
 few_own t cut place pid first end h range was =
     let few = few_gone pid first end (omega (arith, range)) 0 t.areas (all_from_among _ t.areas (λ a m own. omega arith)) h.whole h.apart h.ordered in
     let is : length (pages_of_own pid first end cut.areas) ≡ length (pages_gone t.areas pid first end) = ap (λ (u : Table). length (pages_of_own pid first end u.areas)) was ∙ ap length (cut_own pid first end range t.areas h.whole) in

@@ -10,7 +10,7 @@ use Rattle.nm_counts.specs.declared.step.Step.{Step}
 use Rattle.nm_areas.specs.Coverage.{step_of, IsCoverage, ends_at, covers_at}
 use Rattle.nm_model.specs.definitions.Areas.{is_shared}
 use Rattle.nm_model.specs.definitions.Areas.{pages_from, is_covered}
-use Rattle.nm_model.specs.definitions.Areas.{place_left, with_its_frame, lost, all_lost, page_in, pages_of_area}
+use Rattle.nm_model.specs.definitions.Areas.{place_left, with_its_frame, lost_page, all_lost, page_in, pages_of_area}
 use Rattle.nm_areas.proofs.Counted.{areas_flat, not_covered, some_cover}
 use Rattle.nm_areas.proofs.Lost.{NoneHas, all_freed_next, all_left_next, freed_next, left_next, to_lost, to_left}
 use Rattle.nm_areas.proofs.Steps.{none_ends, flat_same}
@@ -46,8 +46,8 @@ module _ (left : Map (ℕ × ℕ) Area) (s : ℕ) where
       let p = page_in s at in
       let none = sym (h at (omega arith) (omega arith)) in
       ap (λ b. (if b then [] else with_its_frame p (get page_cmp place p)) ++ all_lost [] (place_left [] place p) (pages_from s (at + 1) n)) none
-      ∙ ap (λ b. lost left place p ++ all_lost [] (if b then place else without page_cmp place p) (pages_from s (at + 1) n)) none
-      ∙ ap (λ l. lost left place p ++ l) (free_lost (place_left left place p) (at + 1) n (λ i low high. h i (omega (arith, low)) (omega (arith, high))))
+      ∙ ap (λ b. lost_page left place p ++ all_lost [] (if b then place else without page_cmp place p) (pages_from s (at + 1) n)) none
+      ∙ ap (λ l. lost_page left place p ++ l) (free_lost (place_left left place p) (at + 1) n (λ i low high. h i (omega (arith, low)) (omega (arith, high))))
 
   -- each page of a stretch is covered
   kept_left : (place : Map Page ℕ) (at n : ℕ) → ((i : ℕ) → at ≤ i → i < at + n → is_covered left (page_in s i) ≡ true) → fold (place_left left) place (pages_from s at n) ≡ place
@@ -105,7 +105,7 @@ module _ (m : Map Page Step) (segments : Map ℕ Segment) (left : Map (ℕ × �
     gone_left : new ≡ place_left left place (page_in s found)
     gone_left = gone ∙ ap (λ b. if b then place else without page_cmp place (page_in s found)) (sym uncovered)
 
-    pub free_freed : (after total : List (Page × ℕ)) → after ≡ before ++ lost [] place (page_in s found) → before ++ all_lost left place (pages_from s at (past - at)) ≡ total → after ++ all_lost left new (pages_from s (found + 1) (past - (found + 1))) ≡ total
+    pub free_freed : (after total : List (Page × ℕ)) → after ≡ before ++ lost_page [] place (page_in s found) → before ++ all_lost left place (pages_from s at (past - at)) ≡ total → after ++ all_lost left new (pages_from s (found + 1) (past - (found + 1))) ≡ total
     free_freed after total more so_far =
         freed_next left place new s at found past low high absent gone_left before after total
         (more ∙ ap (λ b. before ++ (if b then [] else with_its_frame (page_in s found) (get page_cmp place (page_in s found)))) (sym uncovered)) so_far

@@ -11,7 +11,7 @@ use Rattle.nm_types.specs.State.{Placed, page_at}
 use Rattle.nm_types.proofs.Cases.{true_false}
 use Rattle.nm_model.specs.views.Table.{Table}
 use Rattle.nm_model.specs.definitions.AreaRefusal.{overlaps}
-use Rattle.nm_model.specs.definitions.Areas.{mapped, IsMapped, IsSomePages, before, behind, parts_outside, pages_from, pages_between, areas_left, segments_left, pages_gone, place_left, all_lost, removed, frames_lost, page_outside}
+use Rattle.nm_model.specs.definitions.Areas.{mapping_of, IsWellFormed, IsSomePages, before, behind, parts_outside, pages_from, pages_between, areas_left, segments_left, pages_gone, place_left, all_lost, after_removal, frames_lost, page_outside}
 use Rattle.nm_model.proofs.areas.Apart.{behind_last, all_from_none}
 use Rattle.nm_model.proofs.areas.Cut.{same_placed, one, front_of, rest_of, before_none, before_some, behind_none, behind_some}
 use Rattle.nm_model.proofs.areas.Shown.{left_shows}
@@ -73,7 +73,7 @@ module _ (pid first end : ℕ) (range : first < end) where
         | false ↦ λ b. none_gone areas none.1
       ] refl
 
-module _ (t : Table) (place : Map Page ℕ) (h : IsMapped (mapped t place)) (pid first end : ℕ) (range : first < end) (free : true ≡ not (list_any (overlaps pid first end) t.areas)) where
+module _ (t : Table) (place : Map Page ℕ) (h : IsWellFormed (mapping_of t place)) (pid first end : ℕ) (range : first < end) (free : true ≡ not (list_any (overlaps pid first end) t.areas)) where
   none_overlaps : AllByRecursion (λ a. overlaps pid first end a ≡ false) t.areas
   none_overlaps = all_from_none t.areas (overlaps pid first end) (not_true _ free)
 
@@ -83,14 +83,14 @@ module _ (t : Table) (place : Map Page ℕ) (h : IsMapped (mapped t place)) (pid
   no_pages : pages_gone t.areas pid first end ≡ []
   no_pages = none_gone pid first end range t.areas none_overlaps
 
-  pub same_removed : mapped t place ≡ removed (mapped t place) pid first end
+  pub same_removed : mapping_of t place ≡ after_removal (mapping_of t place) pid first end
   same_removed = sym (
-      ap (λ (areas : Map (ℕ × ℕ) Area). record (mapped t place) { areas = areas; segments = segments_left t.segments areas; place = fold (place_left areas) place (pages_gone t.areas pid first end) }) same_areas
-      ∙ ap (λ (segments : Map ℕ Segment). record (mapped t place) { segments = segments; place = fold (place_left t.areas) place (pages_gone t.areas pid first end) }) (sym (all_left t.areas t.segments h.shown))
-      ∙ ap (λ (pages : List Page). record (mapped t place) { place = fold (place_left t.areas) place pages }) no_pages
+      ap (λ (areas : Map (ℕ × ℕ) Area). record (mapping_of t place) { areas = areas; segments = segments_left t.segments areas; place = fold (place_left areas) place (pages_gone t.areas pid first end) }) same_areas
+      ∙ ap (λ (segments : Map ℕ Segment). record (mapping_of t place) { segments = segments; place = fold (place_left t.areas) place (pages_gone t.areas pid first end) }) (sym (all_left t.areas t.segments h.shown))
+      ∙ ap (λ (pages : List Page). record (mapping_of t place) { place = fold (place_left t.areas) place pages }) no_pages
       )
 
-  pub none_lost : [] ≡ frames_lost (mapped t place) pid first end
+  pub none_lost : [] ≡ frames_lost (mapping_of t place) pid first end
   none_lost = sym (ap (all_lost (areas_left t.areas pid first end) place) no_pages)
 
   pub none_hidden : (q v : ℕ) → page_at t.areas q v ≡ page_outside t.areas pid first end q v

@@ -3,10 +3,10 @@
 ghost use Rattle.std.specs.Prelude.{ℕ, OnOk, Some, ◌≡◌, ◌≤◌, ◌<◌, ◌+◌, ◌/◌, true, IfOk, IfSome, option_map};
 ghost use Rattle.nm_types.specs.State.{Placed, area_over};
 ghost use Rattle.nm_types.specs.Does.{Makes};
-ghost use Rattle.nm_model.specs.definitions.Areas.{no_areas, new_area, inserted, attached, over_with};
+ghost use Rattle.nm_model.specs.definitions.Areas.{no_areas, new_area, with_segment, with_area, over_with};
 ghost use Rattle.nm_model.specs.definitions.Areas.{is_shared};
 ghost use Rattle.nm_areas.specs.Lines.{line_of};
-ghost use Rattle.nm_model.specs.definitions.Areas.{IsMapped};
+ghost use Rattle.nm_model.specs.definitions.Areas.{IsWellFormed};
 ghost use Rattle.nm_model.specs.definitions.AreaRefusal.{insert_refusal, stretch_refusal};
 
 use crate::area_table::{AreaTable, new_area};
@@ -34,13 +34,13 @@ pub struct Areas<A: Allocator + Copy> {
 
 impl<A: Allocator + Copy> Model for Areas<A> {
     ghost use Rattle.nm_areas.specs.Coverage.{IsCoverage};
-    ghost use Rattle.nm_model.specs.definitions.Areas.{Mapped, IsMapped, mapped};
+    ghost use Rattle.nm_model.specs.definitions.Areas.{Mapping, IsWellFormed, mapping_of};
 
-    ghost Value = { Mapped };
+    ghost Value = { Mapping };
 
-    ghost view = { λ a. mapped a.table a.places.entries };
+    ghost view = { λ a. mapping_of a.table a.places.entries };
 
-    ghost invariant = { λ a. IsMapped (mapped a.table a.places.entries) × IsCoverage a.steps a.table.segments a.table.areas };
+    ghost invariant = { λ a. IsWellFormed (mapping_of a.table a.places.entries) × IsCoverage a.steps a.table.segments a.table.areas };
 }
 
 impl<A: Allocator + Copy> Areas<A> {
@@ -76,7 +76,7 @@ impl<A: Allocator + Copy> Areas<A> {
             a.0 ≤ v →
             v < a.0 + a.1.pages →
             area_over self.now.areas pid v ≡ Some ((pid, a.0), a.1)) }
-        ensures kept { IsMapped self.now }
+        ensures kept { IsWellFormed self.now }
     {
         self.table.over(pid, vpn)
     }
@@ -103,7 +103,7 @@ impl<A: Allocator + Copy> Areas<A> {
     ) -> Result<u32, MachineError>
         // In any case
         ensures done { Makes result self.old self.new (insert_refusal self.old pid addr pages)
-            (inserted self.old pid addr pages shared) }
+            (with_segment self.old pid addr pages shared) }
 
         // Without memory
         ensures memory { result ≡ Err MachineError.HostMemory →
@@ -157,7 +157,7 @@ impl<A: Allocator + Copy> Areas<A> {
     ) -> Result<(), MachineError>
         ensures done { Makes result self.old self.new
             (stretch_refusal self.old pid addr segment offset pages)
-            (attached self.old pid addr segment offset pages) }
+            (with_area self.old pid addr segment offset pages) }
         ensures memory { result ≡ Err MachineError.HostMemory →
             stretch_refusal self.old pid addr segment offset pages ≡ None }
         ensures over { OnOk result

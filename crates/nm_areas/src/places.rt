@@ -6,8 +6,8 @@ ghost use Rattle.std.specs.Map.{keys_of, values_of};
 ghost use Rattle.nm_types.specs.declared.page.Page.{Page};
 ghost use Rattle.nm_types.specs.Map.{get, page_cmp};
 ghost use Rattle.nm_types.specs.State.{page_of, page_at};
-ghost use Rattle.nm_model.specs.definitions.Areas.{with_frame, moved, without_frame};
-ghost use Rattle.nm_model.specs.definitions.Areas.{IsMapped, mapped};
+ghost use Rattle.nm_model.specs.definitions.Areas.{with_frame, with_frame_of, without_frame};
+ghost use Rattle.nm_model.specs.definitions.Areas.{IsWellFormed, mapping_of};
 ghost use Rattle.nm_model.specs.definitions.Areas.{page_in};
 
 use crate::area_table::AreaTable;
@@ -40,7 +40,7 @@ impl<A: Allocator + Copy> Areas<A> {
             page_at self.now.areas pid v ≡ Some p →
             get page_cmp self.now.place p ≡ Some frame →
             slice_index_or counts.now frame 0 ≡ 0 }
-        ensures kept { IsMapped self.now }
+        ensures kept { IsWellFormed self.now }
     {
         shows_counted(&self.table, &self.places, pid, first, end, counts)
     }
@@ -78,7 +78,7 @@ impl<A: Allocator + Copy> Areas<A> {
     /// Replaces the frame of a page that has one. Does not allocate.
     pub fn move_page(&mut self, page: Page, frame: FrameId)
         requires { IsSome (get page_cmp self.old.place page) }
-        ensures { self.new ≡ moved self.old page frame }
+        ensures { self.new ≡ with_frame_of self.old page frame }
     {
         if let Some(there) = self.places.get_mut(&page) {
             *there = frame;
@@ -104,7 +104,7 @@ fn shows_counted<A: Allocator + Copy>(
     end: Vpn,
     counts: &[u32],
 ) -> bool
-    requires { IsMapped (mapped table.now places.now.entries) }
+    requires { IsWellFormed (mapping_of table.now places.now.entries) }
     ensures shown { result ≡ true →
         (v : ℕ) × (p : Page) × (frame : ℕ) × (first ≤ v) × (v < end)
         × (page_at table.now.areas pid v ≡ Some p)

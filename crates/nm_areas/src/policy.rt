@@ -8,7 +8,7 @@ ghost use Rattle.nm_types.specs.Does.{Makes};
 ghost use Rattle.nm_areas.specs.Splits.{HasSplit};
 ghost use Rattle.nm_model.specs.definitions.Areas.{with_policy};
 ghost use Rattle.nm_model.specs.definitions.Areas.{AreasAreApart, EndsLow, HasIndices, IsSomePages};
-ghost use Rattle.nm_model.specs.definitions.Areas.{is_mapped, pages_of, painted, repoliced};
+ghost use Rattle.nm_model.specs.definitions.Areas.{is_well_formed, page_count, with_policy_in, parts_with_policy};
 ghost use Rattle.nm_model.specs.definitions.AreaRefusal.{range_refusal};
 ghost use Rattle.nm_model.specs.views.Table.{with_areas};
 ghost use Rattle.nm_types.specs.Map.{spot_cmp, with_values};
@@ -29,7 +29,7 @@ impl<A: Allocator + Copy> Areas<A> {
     pub fn check_policy(&self, pid: Pid, addr: u64, len: u64) -> Result<PageRange, Errno>
         ensures ok { OnOk result (range_refusal self.now pid addr len ≡ None) }
         ensures range { IfOk result
-            (λ range. (range.first ≡ addr / 4096) × (range.end ≡ addr / 4096 + pages_of len)) }
+            (λ range. (range.first ≡ addr / 4096) × (range.end ≡ addr / 4096 + page_count len)) }
         ensures err { IfErr result (λ e. range_refusal self.now pid addr len ≡ Some e) }
     {
         let Some(range) = PageRange::of_bytes(addr, len) else {
@@ -90,12 +90,12 @@ impl<A: Allocator + Copy> Areas<A> {
         policy: Policy,
     ) -> Result<(), MachineError>
         ensures done { Makes result self.old self.new (range_refusal self.old pid addr len)
-            (with_policy self.old pid (addr / 4096) (addr / 4096 + pages_of len) policy) }
+            (with_policy self.old pid (addr / 4096) (addr / 4096 + page_count len) policy) }
         ensures memory { result ≡ Err MachineError.HostMemory →
             (range_refusal self.old pid addr len ≡ None) × (0 < len) }
         ensures asked { result ≡ Err MachineError.HostMemory →
             HasSplit self.old.areas pid (addr / 4096)
-            ⊎ HasSplit self.old.areas pid (addr / 4096 + pages_of len) }
+            ⊎ HasSplit self.old.areas pid (addr / 4096 + page_count len) }
         ensures pages { (q v : ℕ) → page_at self.new.areas q v ≡ page_at self.old.areas q v }
     {
         let range = self.check_policy(pid, addr, len)?;
@@ -111,7 +111,7 @@ impl<A: Allocator + Copy> AreaTable<A> {
         requires low { AllByRecursion EndsLow self.now.areas }
         requires order { range.now.first ≤ range.now.end }
         ensures { result
-            ≡ is_mapped self.now.areas pid range.now.first (range.now.end - range.now.first) }
+            ≡ is_well_formed self.now.areas pid range.now.first (range.now.end - range.now.first) }
     {
         let PageRange { first, end } = *range;
         match self.over(pid, first) {
@@ -148,7 +148,7 @@ impl<A: Allocator + Copy> AreaTable<A> {
         ensures ok { OnOk result
             (self.new
             ≡ with_areas self.old
-            (flat_map (repoliced pid range.first range.end policy) self.old.areas)) }
+            (flat_map (parts_with_policy pid range.first range.end policy) self.old.areas)) }
 
         // Without memory
         ensures err { OnErr result (self.new ≡ self.old) }
@@ -180,7 +180,7 @@ fn goes_on<A: Allocator + Copy>(
         v < first + area.pages →
         area_over areas.now.entries pid v ≡ Some ((pid, first), area) }
     ensures { result
-        ≡ is_mapped areas.now.entries pid (first + area.pages) (end - (first + area.pages)) }
+        ≡ is_well_formed areas.now.entries pid (first + area.pages) (end - (first + area.pages)) }
 {
     let mut at = first.number() + area.pages;
     let mut rest = areas.range((pid, Vpn::new(at))..);
@@ -202,7 +202,7 @@ fn paint<A: Allocator + Copy>(
     policy: &Policy,
 )
     requires { first ≤ end }
-    ensures { areas.new.entries ≡ with_values (painted pid first end policy.now) areas.old.entries }
+    ensures { areas.new.entries ≡ with_values (with_policy_in pid first end policy.now) areas.old.entries }
 {
     let policy = *policy;
     // Each area is changed in place, and none is removed.

@@ -1,7 +1,7 @@
 //! Ranges of page numbers.
 
 ghost use Rattle.std.specs.Prelude.{IfNone, IfSome, false, true, ◌%◌, ◌*◌, ◌+◌, ◌/◌, ◌<◌, ◌^◌, ◌≡◌, ◌≤◌};
-ghost use Rattle.nm_model.specs.definitions.Areas.{pages_of};
+ghost use Rattle.nm_model.specs.definitions.Areas.{page_count};
 ghost use Rattle.nm_model.specs.definitions.AreaRefusal.{is_range};
 
 use nm_types::Vpn;
@@ -41,9 +41,9 @@ impl PageRange {
     /// 4,096 or the pages end at 2^64 or past it.
     pub(crate) fn of_bytes(addr: u64, len: u64) -> Option<PageRange>
         ensures some { IfSome result
-            (λ r. (r.first ≡ addr / 4096) × (r.end ≡ addr / 4096 + pages_of len) × (addr % 4096 ≡ 0)
-            × (addr + 4096 * pages_of len < 2 ^ 64)) }
-        ensures none { IfNone result (addr % 4096 ≡ 0 → 2 ^ 64 ≤ addr + 4096 * pages_of len) }
+            (λ r. (r.first ≡ addr / 4096) × (r.end ≡ addr / 4096 + page_count len) × (addr % 4096 ≡ 0)
+            × (addr + 4096 * page_count len < 2 ^ 64)) }
+        ensures none { IfNone result (addr % 4096 ≡ 0 → 2 ^ 64 ≤ addr + 4096 * page_count len) }
     {
         let bytes = PAGE_BYTES as u64;
         let count = len.div_ceil(bytes);

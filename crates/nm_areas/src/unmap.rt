@@ -11,7 +11,7 @@ ghost use Rattle.nm_model.specs.definitions.Areas.{is_shared};
 ghost use Rattle.nm_model.specs.definitions.Areas.{AllShown, AreasAreApart, HasIndices, PrivateIsOnce, shows_segment};
 ghost use Rattle.nm_model.specs.definitions.Areas.{pages_from};
 ghost use Rattle.nm_model.specs.definitions.AreaRefusal.{overlaps};
-ghost use Rattle.nm_model.specs.definitions.Areas.{IsAlone, all_lost, frames_lost, lost, others, page_outside, pages_of_area, pages_of_own, place_left, removed, without_own};
+ghost use Rattle.nm_model.specs.definitions.Areas.{IsAlone, all_lost, frames_lost, lost_page, others, page_outside, pages_of_area, pages_of_own, place_left, after_removal, without_own};
 ghost use Rattle.nm_types.specs.declared.area.Segment.{Segment};
 ghost use Rattle.nm_types.specs.Map.{Map, get, page_cmp, spot_cmp, without};
 ghost use Rattle.nm_types.specs.State.{page_at};
@@ -44,7 +44,7 @@ impl<A: Allocator + Copy> Areas<A> {
         requires some { range.first < range.end }
 
         // On success
-        ensures ok { OnOk result (self.new ≡ removed self.old pid range.first range.end) }
+        ensures ok { OnOk result (self.new ≡ after_removal self.old pid range.first range.end) }
         ensures pages { OnOk result
             ((q v : ℕ) →
             page_at self.new.areas q v
@@ -294,7 +294,7 @@ fn lose_page<A: Allocator + Copy>(
 
     // The page loses its frame and joins the list
     ensures places { places.new.entries ≡ place_left [] places.old.entries page }
-    ensures freed { freed.new.items ≡ freed.old.items ++ lost [] places.old.entries page }
+    ensures freed { freed.new.items ≡ freed.old.items ++ lost_page [] places.old.entries page }
 
     // The list grows by one, and keeps its capacity
     ensures counted { vec_len freed.new + length places.new.entries

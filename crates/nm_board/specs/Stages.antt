@@ -3,7 +3,7 @@ use Rattle.std.specs.Prelude.{◌≡◌, ◌≢◌, ℕ, ◌+◌, ◌<◌, ◌�
 use mathlib.Core.Option.{some}
 use lib.ListN.{get_elem?}
 use Rattle.atomic_table.specs.Table.{State, Step, rest}
-use Rattle.nm_model.specs.definitions.Events.{drawn, given}
+use Rattle.nm_model.specs.definitions.Events.{draw_job, give_job}
 use Rattle.nm_model.specs.definitions.RunMachine.{Job, Stage, Laid, InHand, Given}
 use Rattle.nm_frames.specs.declared.job.CopyJob.{CopyJob}
 use Rattle.nm_board.specs.declared.view.View.{View}
@@ -83,14 +83,14 @@ pub record Shows {A : Type 0} (jobs : List (CopyJob A)) (s : Moment A) (shown : 
 abbrev pub DrawIsTheMachines : Type 0 → Type 0
 DrawIsTheMachines A = (jobs : List (CopyJob A)) (hand : ℕ) (old new : Moment A) (me now : Mine A) (s : Step (Option (CopyJob A)))
     → (shown : List Job) → Moves jobs hand 0 (next_of old + 1) old new me now → Draws s me (next_of old) now
-    → Shows jobs old shown → Shows jobs new (drawn hand shown)
+    → Shows jobs old shown → Shows jobs new (draw_job hand shown)
 
 -- giving a job back is the run machine's
 abbrev pub GiveIsTheMachines : Type 0 → Type 0
 GiveIsTheMachines A = (jobs : List (CopyJob A)) (hand t : ℕ) (job : Option (CopyJob A)) (old new : Moment A) (me now : Mine A)
     → (s : Step (Option (CopyJob A))) (shown : List Job)
     → Moves jobs hand 8 (given_of old + 1) old new me now → Gives s me (given_of old) now → me.1 ≡ (t, job) ∷ rest me.1
-    → Shows jobs old shown → Shows jobs new (given t shown)
+    → Shows jobs old shown → Shows jobs new (give_job t shown)
 
 -- a split changes no job's stage
 abbrev pub SplitChangesNone : Type 0 → Type 0

@@ -6,7 +6,7 @@ ghost use Rattle.nm_types.specs.Layout.{node_count};
 ghost use Rattle.nm_types.specs.Nodes.{is_in};
 ghost use Rattle.nm_model.specs.definitions.Order.{zonelist};
 ghost use Rattle.nm_types.specs.declared.request.Wanted.TheVariants.{At};
-ghost use Rattle.nm_model.specs.definitions.Areas.{Mapped};
+ghost use Rattle.nm_model.specs.definitions.Areas.{Mapping};
 ghost use Rattle.nm_model.specs.definitions.Effect.{with_areas_of};
 ghost use Rattle.nm_calls.specs.definitions.Mbind.{requests_at, runs_by, nodes_tried};
 ghost use Rattle.nm_calls.specs.views.Runs.{runs_in, CanGo, nodes_named, MakesRuns};
@@ -116,7 +116,7 @@ pub(crate) fn way_of<A: Allocator + Copy + Send + Sync>(
     requires few { length pages.now ≤ 2 ^ 52 }
 
     // On success
-    ensures runs { IfOk result (λ way. (limit : ℕ) (m : Mapped) → runs_in limit (with_areas_of machine.now m) way
+    ensures runs { IfOk result (λ way. (limit : ℕ) (m : Mapping) → runs_in limit (with_areas_of machine.now m) way
         ≡ runs_by limit (with_areas_of machine.now m) binding.now.policy home binding.now.pid all pages.now) }
     ensures can_go { IfOk result (CanGo (node_count (machine.now.layout))) }
 

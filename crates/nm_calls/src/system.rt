@@ -3,7 +3,7 @@
 ghost use Rattle.std.specs.Prelude.{Err, IfOk, OnErr, [], length, true, ◌+◌, ◌<◌, ◌≡◌, ◌≤◌};
 ghost use Rattle.nm_types.specs.State.{free_list};
 ghost use Rattle.nm_model.specs.definitions.PageTables.{entries_of};
-ghost use Rattle.nm_model.specs.definitions.Sound.{audited};
+ghost use Rattle.nm_model.specs.definitions.Sound.{each_frame_is_once};
 ghost use Rattle.nm_model.specs.definitions.Sound.{IsSound};
 ghost use Rattle.nm_steps.specs.Calls.{Unmap, Exit, Pin, Unpin, ReadBytes, WriteBytes, Offline, Online, FreeList, Pagemap, Vmstat, NumaMaps, default_limit};
 ghost use Rattle.nm_calls.specs.definitions.Answers.{Done, NewSegment, TheBytes, Statuses, Failed, Frames, Entries, TheTotals, Lines};
@@ -449,7 +449,7 @@ impl<A: Allocator + Copy + Send + Sync> System<A> {
     /// Whether each frame is in exactly one place: once in its own node's free list, or the frame of one page. True,
     /// since a system is always sound. An error means that the host is out of memory.
     pub fn audit(&self) -> Result<bool, AllocError>
-        ensures told { IfOk result (λ b. b ≡ audited self.now.state) }
+        ensures told { IfOk result (λ b. b ≡ each_frame_is_once self.now.state) }
         ensures sound { IfOk result (λ b. b ≡ true) }
     {
         self.machine.audit()

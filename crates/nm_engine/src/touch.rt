@@ -6,7 +6,7 @@ ghost use Rattle.nm_types.specs.declared.sight.Sight.TheVariants.{Sees, ZeroPage
 ghost use Rattle.nm_types.specs.Map.{get, page_cmp};
 ghost use Rattle.nm_model.specs.definitions.Seen.{frame_of};
 ghost use Rattle.nm_model.specs.definitions.Order.{first_touch_order};
-ghost use Rattle.nm_model.specs.definitions.Touch.{first_free, filled, joined};
+ghost use Rattle.nm_model.specs.definitions.Touch.{first_free, fill_page, share_page};
 ghost use Rattle.nm_engine.specs.views.Parts.{AreKept, HasSite, TouchesBoth, TouchesLast, noted_by, seen_by, touched_by};
 ghost use Rattle.nm_engine.specs.definitions.Undo.{noted, touched_at};
 
@@ -146,9 +146,9 @@ impl ResolvedAddress {
 
         // In any case
         ensures touches { TouchesBoth result self spaces.old frames.old spaces.new frames.new online
-            (λ s p at. joined s at (get page_cmp spaces.old.place self.page)) }
+            (λ s p at. share_page s at (get page_cmp spaces.old.place self.page)) }
         ensures memory { TouchesLast result self spaces.old frames.old online
-            (λ s p at. joined s at (get page_cmp spaces.old.place self.page)) }
+            (λ s p at. share_page s at (get page_cmp spaces.old.place self.page)) }
         ensures kept { AreKept spaces.new frames.new online }
         ensures left { frames.new.vacated ≡ frames.old.vacated }
         ensures room { frames.new.room ≡ frames.old.room }
@@ -185,8 +185,8 @@ impl ResolvedAddress {
 
         // In any case
         ensures touches { TouchesBoth result self spaces.old frames.old spaces.new frames.new online
-            (λ s p at. filled s at) }
-        ensures memory { TouchesLast result self spaces.old frames.old online (λ s p at. filled s at) }
+            (λ s p at. fill_page s at) }
+        ensures memory { TouchesLast result self spaces.old frames.old online (λ s p at. fill_page s at) }
         ensures kept { AreKept spaces.new frames.new online }
         ensures left { frames.new.vacated ≡ frames.old.vacated }
         ensures room { frames.new.room ≡ frames.old.room }

@@ -8,8 +8,8 @@ use Rattle.nm_types.specs.declared.entry.Entry.{Entry}
 use Rattle.nm_model.specs.definitions.Frames.{IsHome}
 use Rattle.nm_types.specs.declared.request.Wanted.{Wanted}
 use Rattle.nm_model.specs.definitions.PageTables.{entry_at, sight_of, entry_of}
-use Rattle.nm_model.specs.definitions.Touch.{Access, Held, site_of_access, is_held, in_flight}
-use Rattle.nm_model.specs.definitions.Run.{Ran, HasOneAll, each_request, run}
+use Rattle.nm_model.specs.definitions.Touch.{Access, Held, site_of_access, is_held, access_during}
+use Rattle.nm_model.specs.definitions.Run.{RunResult, HasOneAll, each_request, run}
 use Rattle.nm_model.specs.definitions.Seen.{sight_at}
 use Rattle.nm_model.specs.definitions.Sound.{IsSound}
 use Rattle.nm_laws.specs.Midway.{entry_meanwhile}
@@ -48,7 +48,7 @@ EveryRunCanEnd =
     (events : List Event) × (n : RunMachine) × Unfolds m target wanted events n × (n.phase ≡ Ended) × (accesses_in events ≡ accesses)
 
 -- the run that a machine is in
-pub record IsRun (n : RunMachine) (r : Ran) : Type 0 where
+pub record IsRun (n : RunMachine) (r : RunResult) : Type 0 where
   pub state : state_of n ≡ r.state
   pub statuses : n.statuses ≡ r.statuses
   pub answers : n.answers ∷ [] ≡ r.answers
@@ -79,4 +79,4 @@ EveryEntryOfAMovingPageIsHeld =
 abbrev pub HeldIsExact : Type 0
 HeldIsExact =
     (s : State) (moved : List Page) (a : Access) →
-    ((in_flight s moved a).answer ≡ Held) ↔ IsTrue (is_held moved (site_of_access s a))
+    ((access_during s moved a).answer ≡ Held) ↔ IsTrue (is_held moved (site_of_access s a))

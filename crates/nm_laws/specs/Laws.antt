@@ -21,13 +21,13 @@ use Rattle.nm_model.specs.definitions.Decide.{Decisions, decide}
 use Rattle.nm_model.specs.definitions.Memory.{mem}
 use Rattle.nm_model.specs.definitions.Touch.{Access, Write, AccessAnswer, Done, read, write, access}
 use Rattle.nm_model.specs.definitions.Run.{Progress, HasOneAll, each_request, with_all_free, run, accesses_of, runs_from, batch}
-use Rattle.nm_model.specs.definitions.Sound.{audited, OwnsItsFree, IsSoundMidRun, IsSound}
+use Rattle.nm_model.specs.definitions.Sound.{each_frame_is_once, OwnsItsFree, IsSoundInFlight, IsSound}
 use Rattle.nm_model.specs.definitions.Effect.{new_machine, spawn, map_new, attach, pin, unpin, unmap, exit}
 use Rattle.nm_model.specs.definitions.Effect.{spawn_refusal, map_refusal, attach_refusal, pin_refusal, set_policy}
 
 -- on a sound machine each frame is in exactly one place
 abbrev pub SoundIsAudited : Type 0
-SoundIsAudited = (s : State) → IsSound s → audited s ≡ true
+SoundIsAudited = (s : State) → IsSound s → each_frame_is_once s ≡ true
 
 -- a look that counts the processes is enough to decide what to do with a request
 abbrev pub LooksSuffice : Type 0
@@ -62,7 +62,7 @@ BatchKeepsMemory =
 abbrev pub ReadingKeepsMemory : Type 0
 ReadingKeepsMemory =
     (s : State) (left : List ℕ) (pid address len q at : ℕ) →
-    IsSoundMidRun s left → mem (read s pid address len).state q at ≡ mem s q at
+    IsSoundInFlight s left → mem (read s pid address len).state q at ≡ mem s q at
 
 -- whether two addresses show one page
 abbrev pub is_one_page : Option Page → Option Page → Bool
@@ -102,7 +102,7 @@ runs_written areas q at byte accesses k (answers ∷ rest) =
 abbrev pub WritingIsExact : Type 0
 WritingIsExact =
     (s : State) (left : List ℕ) (pid address : ℕ) (new : List ℕ) (q at : ℕ) →
-    IsSoundMidRun s left → (write s pid address new).answer ≡ Done →
+    IsSoundInFlight s left → (write s pid address new).answer ≡ Done →
     mem (write s pid address new).state q at ≡ written s.areas q at (mem s q at) (Write pid address new) Done
 
 -- a run keeps every byte except those of its own writes in flight that are made: held and refused writes, and reads,
@@ -152,7 +152,7 @@ PlanIsOneByOne =
 
 -- reads and writes keep a machine sound, also during a run that has left these frames
 abbrev pub AccessIsSound : Type 0
-AccessIsSound = (s : State) (left : List ℕ) (a : Access) → IsSoundMidRun s left → IsSoundMidRun (access s a).state left
+AccessIsSound = (s : State) (left : List ℕ) (a : Access) → IsSoundInFlight s left → IsSoundInFlight (access s a).state left
 
 -- so does a run with accesses in flight
 abbrev pub RunIsSound : Type 0

@@ -12,7 +12,7 @@ use Rattle.nm_types.specs.Map.{Map, get, page_cmp, same_page}
 use Rattle.nm_model.specs.definitions.Events.{hands, held_by, is_given}
 use Rattle.nm_model.specs.definitions.PageTables.{entry_at, sight_of, entry_of}
 use Rattle.nm_model.specs.definitions.RunMachine.{RunMachine, Job, Moving, goes_to, job_from, state_of}
-use Rattle.nm_model.specs.definitions.Sound.{IsSoundMidRun}
+use Rattle.nm_model.specs.definitions.Sound.{IsSoundInFlight}
 
 -- the frames that the pages of these jobs leave
 abbrev pub sources : List Job → List ℕ
@@ -54,7 +54,7 @@ entry_meanwhile place moved (Sees p) =
 -- these pages are moving
 pub record IsMidway (m : RunMachine) (moved : List Page) : Type 0 where
   pub moving : m.phase ≡ Moving
-  pub sound : IsSoundMidRun (state_of m) (sources m.jobs)
+  pub sound : IsSoundInFlight (state_of m) (sources m.jobs)
   -- an entry names the frame of its page, or is held and names the frame to which the page goes
   pub entries : (pid v : ℕ) (e : Entry) → entry_at m.tasks pid v ≡ Some e → e ≡ held_by m.jobs (entry_of m.place (sight_of m.areas pid v e))
   -- the pages that move are those in the sources of jobs

@@ -4,7 +4,7 @@ use Rattle.nm_types.specs.Layout.{node_of}
 use Rattle.nm_types.specs.Map.{get, page_cmp}
 use Rattle.nm_types.specs.State.{State, free_list}
 use Rattle.nm_types.specs.declared.taken.Taken.{Taken}
-use Rattle.nm_model.specs.definitions.Decide.{Planned, planned}
+use Rattle.nm_model.specs.definitions.Decide.{RunPlan, plan_run}
 use Rattle.nm_types.specs.declared.request.Wanted.{Wanted}
 use Rattle.nm_model.specs.definitions.Status.{status_or_move}
 use Rattle.nm_model.specs.definitions.Run.{each_request}
@@ -18,7 +18,7 @@ CanMove s target (t ∷ taken) =
     × (node_of s.layout t.from ≢ target) × CanMove (with_move target s t) target taken
 
 -- the plan of requests from their classes at the start, which gives what deciding them one after another does
-pub record IsPlanOf (s : State) (target : ℕ) (ws : List Wanted) (p : Planned) : Type 0 where
-  pub planned : p ≡ planned (map (status_or_move s target) ws) (free_list s target) target
+pub record IsPlanOf (s : State) (target : ℕ) (ws : List Wanted) (p : RunPlan) : Type 0 where
+  pub planned : p ≡ plan_run (map (status_or_move s target) ws) (free_list s target) target
   pub agrees : Agrees s target (each_request s target ws) (record { statuses = p.statuses; taken = p.taken })
   pub can : CanMove s target p.taken

@@ -7,14 +7,14 @@ use Rattle.nm_types.specs.declared.taken.Taken.{Taken}
 use Rattle.nm_model.specs.definitions.Touch.{Access, all_in_flight}
 use Rattle.nm_laws.specs.Laws.{with_moves}
 use Rattle.nm_laws.specs.Moves.{CanMove}
-use Rattle.nm_model.specs.definitions.Sound.{IsSound, IsSoundMidRun}
+use Rattle.nm_model.specs.definitions.Sound.{IsSound, IsSoundInFlight}
 use Rattle.nm_model.specs.definitions.BeforeCopy.{all_before_copy, all_after_copy, without_fronts, with_fronts, frames_taken, IsPending}
 
 -- touching all pages and then reading and writing the bytes is the same as making one access after another
 abbrev pub TouchesComeFirst : Type 0
 TouchesComeFirst =
     (s : State) (left : List ℕ) (moved : List Page) (accesses : List Access) →
-    IsSoundMidRun s left →
+    IsSoundInFlight s left →
     let early = all_before_copy s moved accesses in all_in_flight s moved accesses ≡ all_after_copy early.state early.dues
 
 -- the touches may also come before the moves, once the run's frames are taken: all that is left to do is inside pages

@@ -4,7 +4,7 @@ ghost use Rattle.std.specs.Prelude.{◌≡◌, ◌<◌, ◌≤◌, ◌==◌, ℕ
 ghost use Rattle.std.specs.List.{list_all};
 ghost use Rattle.nm_model.specs.definitions.Frames.{list_of};
 ghost use Rattle.nm_model.specs.definitions.Sound.{times};
-ghost use Rattle.nm_model.specs.definitions.Sound.{is_own, is_audited, numbered};
+ghost use Rattle.nm_model.specs.definitions.Sound.{is_on_its_node, is_audited, with_numbers};
 
 use nm_nodes::NodePool;
 use nm_types::{FrameId, Geometry, NodeId};
@@ -12,7 +12,7 @@ use std::alloc::{AllocError, Allocator};
 
 /// Whether each frame belongs to the machine, and to the node that it is paired with.
 fn are_own<A: Allocator + Copy>(geometry: &Geometry<A>, free: &[(NodeId, FrameId)]) -> bool
-    ensures { result ≡ list_all (is_own geometry.now) free.now }
+    ensures { result ≡ list_all (is_on_its_node geometry.now) free.now }
 {
     let count = geometry.frame_count();
     for (node, frame) in free {
@@ -82,7 +82,7 @@ pub(crate) fn is_each_once<A: Allocator + Copy>(
     placed: &[FrameId],
 ) -> Result<bool, AllocError>
     ensures audited { IfOk result (λ b. b ≡ is_audited geometry.now free.now placed.now) }
-    ensures own { OnErr result (list_all (is_own geometry.now) free.now ≡ true) }
+    ensures own { OnErr result (list_all (is_on_its_node geometry.now) free.now ≡ true) }
 {
     if !are_own(geometry, free) {
         return Ok(false);
@@ -124,7 +124,7 @@ pub(crate) fn free_frames<A: Allocator + Copy>(
 ) -> Result<Vec<(NodeId, FrameId), A>, AllocError>
     requires count { count ≡ length nodes.now.lists }
     requires few { count ≤ 64 }
-    ensures { IfOk result (λ free. free.items ≡ numbered 0 nodes.now.lists) }
+    ensures { IfOk result (λ free. free.items ≡ with_numbers 0 nodes.now.lists) }
 {
     let mut free = Vec::new(alloc);
     for node in 0..count {

@@ -4,14 +4,14 @@ ghost use Rattle.std.specs.Prelude.{◌≡◌, ℕ, false, ◌+◌, ◌<◌, ◌
 ghost use Rattle.nm_types.specs.Layout.{node_count, frame_count};
 ghost use Rattle.nm_types.specs.Nodes.{is_in};
 ghost use Rattle.nm_model.specs.definitions.Touch.{has_free};
-ghost use Rattle.nm_model.specs.definitions.Frames.{list_of, with_list, appended, prepended};
+ghost use Rattle.nm_model.specs.definitions.Frames.{list_of, with_list, with_back, with_front};
 ghost use Rattle.std.specs.Cow.{cow_slice_items};
 ghost use Rattle.std.specs.List.{AllByRecursion};
 ghost use Rattle.nm_memory.specs.views.Copies.{CanCopy, HasBoth, emptied, jobs_of};
 ghost use Rattle.nm_model.specs.definitions.BeforeCopy.{frames_taken};
 ghost use Rattle.nm_model.specs.definitions.Run.{frames_left};
 ghost use Rattle.nm_model.specs.definitions.Frames.{IsHome, bytes_of, overwrite};
-ghost use Rattle.nm_model.specs.definitions.Sound.{is_audited, numbered};
+ghost use Rattle.nm_model.specs.definitions.Sound.{is_audited, with_numbers};
 ghost use Rattle.nm_model.specs.definitions.Frames.{all_frames};
 ghost use Rattle.nm_memory.specs.views.Frames.{HasAllFrames, KeepsBytes, free_on, pool_of, all_freed, CanFree, CanReturn, with_freed, in_memory};
 ghost use Rattle.nm_memory.specs.views.Populated.{IsPopulated};
@@ -355,7 +355,7 @@ impl<A: Allocator + Copy> Frames<A> {
     /// Frees a frame, at the end of its own node's list.
     pub fn free(&mut self, frame: FrameId)
         requires { CanFree (pool_of self.old) (frame ∷ []) }
-        ensures { self.new ≡ record (self.old) { free = (appended (pool_of self.old) frame).lists } }
+        ensures { self.new ≡ record (self.old) { free = (with_back (pool_of self.old) frame).lists } }
     {
         let parts = &mut *self.parts;
         parts.nodes.append(frame);
@@ -364,7 +364,7 @@ impl<A: Allocator + Copy> Frames<A> {
     /// Frees a frame, at the front of its own node's list. Does not allocate.
     pub fn free_first(&mut self, frame: FrameId)
         requires { CanFree (pool_of self.old) (frame ∷ []) }
-        ensures { self.new ≡ record (self.old) { free = (prepended (pool_of self.old) frame).lists } }
+        ensures { self.new ≡ record (self.old) { free = (with_front (pool_of self.old) frame).lists } }
     {
         let parts = &mut *self.parts;
         parts.nodes.prepend(frame);
@@ -373,7 +373,7 @@ impl<A: Allocator + Copy> Frames<A> {
     /// Whether each frame is in exactly one place: its own node's list, or the places of pages.
     pub fn audit(&self, alloc: A, places: &[FrameId]) -> Result<bool, AllocError>
         ensures { IfOk result
-            (λ b. b ≡ is_audited self.now.layout (numbered 0 self.now.free) places.now) }
+            (λ b. b ≡ is_audited self.now.layout (with_numbers 0 self.now.free) places.now) }
     {
         let parts = &*self.parts;
         let free = audit::free_frames(alloc, &parts.nodes, self.node_count())?;

@@ -14,7 +14,7 @@ use Rattle.nm_types.specs.Map.{get, page_cmp}
 use Rattle.nm_types.specs.State.{State, page_at}
 use Rattle.nm_types.proofs.Cases.{none_is_not}
 use Rattle.nm_model.specs.definitions.Seen.{sight_at, page_or_error, page_seen, look, look_at_place, look_behind}
-use Rattle.nm_model.specs.definitions.Sound.{IsSoundMidRun}
+use Rattle.nm_model.specs.definitions.Sound.{IsSoundInFlight}
 use Rattle.nm_model.specs.definitions.Status.{code, node_or_error, node_status}
 
 -- the node of the page that a look shows, or why it shows none
@@ -55,10 +55,10 @@ page_behind s (Some shown) (Some ZeroPage) h = refl
 page_behind s (Some shown) (Some (Sees p)) h = page_placed s p (get page_cmp s.place p) (h p refl)
 
 -- every page that is seen has a frame
-pub look_tells_page : (s : State) (l : List ℕ) (pid v : ℕ) → IsSoundMidRun s l → page_of_look (look s pid v) ≡ page_seen s pid v
+pub look_tells_page : (s : State) (l : List ℕ) (pid v : ℕ) → IsSoundInFlight s l → page_of_look (look s pid v) ≡ page_seen s pid v
 look_tells_page s l pid v h = page_behind s (page_at s.areas pid v) (sight_at s pid v) (λ p e. (h.shown pid v p e).1)
 
 -- the page that a process sees at a page number
-pub sees_page : (s : State) (l : List ℕ) (pid v : ℕ) (p : Page) → IsSoundMidRun s l → sight_at s pid v ≡ Some (Sees p) → page_seen s pid v ≡ Ok p
+pub sees_page : (s : State) (l : List ℕ) (pid v : ℕ) (p : Page) → IsSoundInFlight s l → sight_at s pid v ≡ Some (Sees p) → page_seen s pid v ≡ Ok p
 sees_page s l pid v p h seen =
     ap (λ o. page_or_error o (sight_at s pid v)) (h.shown pid v p seen).0 ∙ ap (page_or_error (Some p)) seen

@@ -14,7 +14,7 @@ use Rattle.nm_types.specs.declared.request.Wanted.TheVariants.{At as Spot}
 use Rattle.nm_model.specs.definitions.Cut.{Request}
 use Rattle.nm_model.specs.definitions.Touch.{read, write}
 use Rattle.nm_model.specs.definitions.Seen.{frame_seen}
-use Rattle.nm_model.specs.definitions.Run.{Ran, batch, answer_of}
+use Rattle.nm_model.specs.definitions.Run.{RunResult, batch, batch_answer}
 use Rattle.nm_model.specs.definitions.Effect.{new_machine, spawn, map_new, attach}
 
 -- five addresses, one page apart
@@ -117,11 +117,11 @@ on_two_of_three =
     (batch limit (wrote (wrote (map_new one 1 A 2 false) 1 A 0x61) 1 B 0x62) (to (B ∷ []) 1) []).state
 
 -- the frame of the page that a process sees at an address
-abbrev pub frame_at : State → ℕ → ℕ → Option ℕ
-frame_at s pid address = frame_seen s pid (address / 4096)
+abbrev pub frame_shown_at : State → ℕ → ℕ → Option ℕ
+frame_shown_at s pid address = frame_seen s pid (address / 4096)
 
 -- what an example shows of a batch: the answer and the statuses, then the free lists and totals of the state
-pub record Told : Type 0 where
+pub record BatchOutline : Type 0 where
   pub answer : ℕ
   pub statuses : List ℤ
   pub free : List (List ℕ)
@@ -129,10 +129,10 @@ pub record Told : Type 0 where
   pub failed : ℕ
 
 -- what is shown of this batch
-abbrev pub told : Ran → Told
-told r =
+abbrev pub batch_outline : RunResult → BatchOutline
+batch_outline r =
     record {
-      answer = answer_of r;
+      answer = batch_answer r;
       statuses = r.statuses;
       free = r.state.free;
       moved = r.state.moved;

@@ -10,7 +10,7 @@ use Rattle.std.proofs.lemmas.Map.Made.{length-le_from_is_member}
 use Rattle.std.proofs.lemmas.Cmp.{nat_eq_equiv}
 use Rattle.nm_types.specs.Layout.{owner}
 use Rattle.nm_types.specs.Nodes.{up_from, is_in}
-use Rattle.nm_model.specs.definitions.Frames.{Pool, IsPool, all_frames, list_of, with_list, new_pool, appended, prepended, without_front}
+use Rattle.nm_model.specs.definitions.Frames.{Pool, IsPool, all_frames, list_of, with_list, new_pool, with_back, with_front, without_front}
 use Rattle.nm_nodes.specs.Lists.{sizes_of, lists_of, pool_of}
 use Rattle.nm_nodes.proofs.Stretches.{sum-cons, owner_first, owner_later, length-all_frames, length_of_stretch, distinct_stretch, owner_is, owner_has, owner-lt, is_in-cons}
 
@@ -77,7 +77,7 @@ is_in-push ns n q h =
     ⊎_elim (λ l. inl l) (λ r. ⊎_elim (λ e. inr (eqb-true n q e)) (λ none. absurd (false≢true none)) (or_cases (eqb n q) false r))
     (or_cases (is_in ns q) (is_in (n ∷ []) q) (sym (list_any-append (λ m. eqb m q) ns (n ∷ [])) ∙ h))
 
-pub IsPool-appended : (p : Pool) (frame : ℕ) → IsPool p → frame < sum p.sizes → is_in (list_of p (owner p.sizes frame)) frame ≡ false → IsPool (appended p frame)
+pub IsPool-appended : (p : Pool) (frame : ℕ) → IsPool p → frame < sum p.sizes → is_in (list_of p (owner p.sizes frame)) frame ≡ false → IsPool (with_back p frame)
 IsPool-appended p frame is within apart =
     let node : ℕ = owner p.sizes frame in
     let ns : List ℕ = list_of p node in
@@ -92,7 +92,7 @@ apart_from n [] h = tt
 apart_from n (m ∷ ns) h = let parts = or_parts (eqb m n) (is_in ns n) h in (nat_eq_equiv.symm n m ∙ parts.0, apart_from n ns parts.1)
 
 -- one more frame at the front
-pub IsPool-prepended : (p : Pool) (frame : ℕ) → IsPool p → frame < sum p.sizes → is_in (list_of p (owner p.sizes frame)) frame ≡ false → IsPool (prepended p frame)
+pub IsPool-prepended : (p : Pool) (frame : ℕ) → IsPool p → frame < sum p.sizes → is_in (list_of p (owner p.sizes frame)) frame ≡ false → IsPool (with_front p frame)
 IsPool-prepended p frame is within apart =
     let node : ℕ = owner p.sizes frame in
     let ns : List ℕ = list_of p node in

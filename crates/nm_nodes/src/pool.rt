@@ -3,7 +3,7 @@
 ghost use Rattle.std.specs.Prelude.{◌≡◌, ◌<◌, ◌≤◌, ◌+◌, ◌++◌, ◌↔◌, false, length, sum, take, drop, slice_get, vec_len, vec_capacity, IfOk};
 ghost use Rattle.nm_types.specs.Layout.{owner};
 ghost use Rattle.nm_types.specs.Nodes.{is_in};
-ghost use Rattle.nm_model.specs.definitions.Frames.{Pool, IsPool, list_of, new_pool, with_list, without_front, appended, prepended};
+ghost use Rattle.nm_model.specs.definitions.Frames.{Pool, IsPool, list_of, new_pool, with_list, without_front, with_back, with_front};
 ghost use Rattle.nm_nodes.specs.Lists.{sizes_of};
 
 use crate::list::FreeList;
@@ -101,7 +101,7 @@ impl<A: Allocator + Copy> NodePool<A> {
     pub fn append(&mut self, frame: FrameId)
         requires in_machine { frame < sum self.old.sizes }
         requires taken { is_in (list_of self.old (owner self.old.sizes frame)) frame ≡ false }
-        ensures { self.new ≡ appended self.old frame }
+        ensures { self.new ≡ with_back self.old frame }
     {
         let node = owner_of(self.lists.as_slice(), frame);
         self.lists[node].append(frame);
@@ -111,7 +111,7 @@ impl<A: Allocator + Copy> NodePool<A> {
     pub fn prepend(&mut self, frame: FrameId)
         requires in_machine { frame < sum self.old.sizes }
         requires taken { is_in (list_of self.old (owner self.old.sizes frame)) frame ≡ false }
-        ensures { self.new ≡ prepended self.old frame }
+        ensures { self.new ≡ with_front self.old frame }
     {
         let node = owner_of(self.lists.as_slice(), frame);
         self.lists[node].prepend(frame);

@@ -13,7 +13,7 @@ use Rattle.nm_types.specs.declared.request.Class.{Class}
 use Rattle.nm_types.specs.declared.request.Class.TheVariants.{Status, Move}
 use Rattle.nm_model.specs.definitions.Status.{code}
 use Rattle.nm_types.specs.declared.taken.Taken.{Taken}
-use Rattle.nm_model.specs.definitions.Decide.{Choice, Decisions, Planned, choose, decide, has_moved, is_short, take_front, shortage, planned}
+use Rattle.nm_model.specs.definitions.Decide.{Choice, Decisions, RunPlan, choose, decide, has_moved, is_short, take_front, shortage, plan_run}
 
 abbrev pub choice : ℤ → List Taken → List ℕ → Choice
 choice status taken front = record { status = status; taken = taken; front = front }
@@ -143,11 +143,11 @@ module _ (classes : List Class) (free : List ℕ) (target : ℕ) where
   -- at the end
   pub end_planned : (i : ℕ) (ss : List ℤ) (ts : List Taken) (shown : List ℤ) (place : Option ℕ) → length classes ≤ i
       → ss ++ (after (drop i classes) ts).statuses ≡ (decide classes [] free target).statuses → ts ++ (after (drop i classes) ts).taken ≡ (decide classes [] free target).taken
-      → shown ≡ ss → place ≡ position is_short (zip classes shown) → record { statuses = ss; taken = ts; shortage = place } ≡ planned classes free target
+      → shown ≡ ss → place ≡ position is_short (zip classes shown) → record { statuses = ss; taken = ts; shortage = place } ≡ plan_run classes free target
   end_planned i ss ts shown place past s_are t_are same found =
       let none : drop i classes ≡ [] = drop_all i classes past in
       let all_s : ss ≡ (decide classes [] free target).statuses = sym (append-nil ss) ∙ ap (λ (cs : List Class). ss ++ (after cs ts).statuses) (sym none) ∙ s_are in
       let all_t : ts ≡ (decide classes [] free target).taken = sym (append-nil ts) ∙ ap (λ (cs : List Class). ts ++ (after cs ts).taken) (sym none) ∙ t_are in
-      let made : List ℤ → List Taken → Option ℕ → Planned = λ xs us o. record { statuses = xs; taken = us; shortage = o } in
+      let made : List ℤ → List Taken → Option ℕ → RunPlan = λ xs us o. record { statuses = xs; taken = us; shortage = o } in
       ap (made ss ts) (found ∙ ap (λ (xs : List ℤ). position is_short (zip classes xs)) (same ∙ all_s)) ∙ ap (λ (us : List Taken). made ss us (shortage classes (decide classes [] free target))) all_t
       ∙ ap (λ (xs : List ℤ). made xs (decide classes [] free target).taken (shortage classes (decide classes [] free target))) all_s

@@ -16,9 +16,9 @@ pub struct Plan<A: Allocator + Copy> {
 }
 
 impl<A: Allocator + Copy> Model for Plan<A> {
-    ghost use Rattle.nm_model.specs.definitions.Decide.{Planned};
+    ghost use Rattle.nm_model.specs.definitions.Decide.{RunPlan};
 
-    ghost Value = { Planned };
+    ghost Value = { RunPlan };
 
     ghost view = { λ p. record { statuses = p.statuses.items; taken = p.moves.items; shortage = p.shortage } };
 }

@@ -2,7 +2,7 @@
 
 ghost use Rattle.std.specs.Prelude.{◌≡◌, ◌<◌, ◌≤◌, ◌+◌, ◌^◌, ◌++◌, drop, length, position, vec_len, vec_capacity, IfOk, OnOk, OnErr};
 ghost use Rattle.std.specs.List.{zip};
-ghost use Rattle.nm_model.specs.definitions.Decide.{choose, is_short, planned};
+ghost use Rattle.nm_model.specs.definitions.Decide.{choose, is_short, plan_run};
 ghost use Rattle.nm_plan.specs.Found.{Finds};
 
 use crate::Taken;
@@ -104,7 +104,7 @@ pub fn plan<A: Allocator + Copy>(
     target: NodeId,
 ) -> Result<Plan<A>, AllocError>
     requires { target < 2 ^ 31 }
-    ensures plan { IfOk result (λ plan. plan ≡ planned classes.now free_front.now target) }
+    ensures plan { IfOk result (λ plan. plan ≡ plan_run classes.now free_front.now target) }
     ensures asked { OnErr result (0 < length classes.now) }
 {
     let mut moves = Vec::with_capacity(alloc, classes.len())?;

@@ -4,7 +4,7 @@ use Rattle.std.specs.Prelude.{◌==◌, ◌≢◌, if◌then◌else◌}
 use Rattle.std.specs.List.{AllByRecursion}
 use Rattle.std.proofs.lemmas.Bool.{eqb-true, eqb-false, eq-eqb, ne_eqb}
 use Rattle.nm_types.specs.declared.request.Wanted.{Wanted}
-use Rattle.nm_model.specs.definitions.Cut.{Request, Stretch, in_front, cut, all_to, joined, size_of, OfFirst, AllNeighbours, EachBatchHasOneCut}
+use Rattle.nm_model.specs.definitions.Cut.{Request, Stretch, in_front, cut, all_to, all_requests, size_of, OfFirst, AllNeighbours, EachBatchHasOneCut}
 
 -- some requests
 abbrev pub IsSome : Stretch → Type 0
@@ -14,17 +14,17 @@ IsSome r = 0 < size_of r
 abbrev pub GoesApart : Stretch → Stretch → Type 0
 GoesApart r next = r.target ≢ next.target
 
-in_front_joined : (e : Request) (rs : List Stretch) → joined (in_front e rs) ≡ e ∷ joined rs
+in_front_joined : (e : Request) (rs : List Stretch) → all_requests (in_front e rs) ≡ e ∷ all_requests rs
 in_front_joined e [] = refl
 in_front_joined e (r ∷ rs) =
     let with_it : List Stretch = record { target = r.target; wanted = e.wanted ∷ r.wanted } ∷ rs in
     let alone : List Stretch = record { target = e.target; wanted = e.wanted ∷ [] } ∷ r ∷ rs in
-    elim (e.target == r.target) as (λ b. (e.target == r.target) ≡ b → joined (if b then with_it else alone) ≡ e ∷ joined (r ∷ rs)) [
-      | true ↦ λ h. ap (λ t. all_to t (e.wanted ∷ []) ++ joined (r ∷ rs)) (sym (eqb-true e.target r.target h))
+    elim (e.target == r.target) as (λ b. (e.target == r.target) ≡ b → all_requests (if b then with_it else alone) ≡ e ∷ all_requests (r ∷ rs)) [
+      | true ↦ λ h. ap (λ t. all_to t (e.wanted ∷ []) ++ all_requests (r ∷ rs)) (sym (eqb-true e.target r.target h))
       | false ↦ λ h. refl
     ] refl
 
-pub cut_joined : (es : List Request) → joined (cut es) ≡ es
+pub cut_joined : (es : List Request) → all_requests (cut es) ≡ es
 cut_joined [] = refl
 cut_joined (e ∷ es) = in_front_joined e (cut es) ∙ ap (λ fs. e ∷ fs) (cut_joined es)
 
@@ -61,9 +61,9 @@ abbrev pub FirstGoes : (ℕ → Type 0) → List Request → Type 0
 FirstGoes P es = OfFirst (λ (e : Request). P e.target) es
 
 -- the first of some runs goes where their first request does
-pub joined_goes : (P : ℕ → Type 0) (rs : List Stretch) → AllByRecursion IsSome rs → OfFirst (λ (r : Stretch). P r.target) rs → FirstGoes P (joined rs)
+pub joined_goes : (P : ℕ → Type 0) (rs : List Stretch) → AllByRecursion IsSome rs → OfFirst (λ (r : Stretch). P r.target) rs → FirstGoes P (all_requests rs)
 joined_goes P [] some h = tt
-joined_goes P (r ∷ rs) some h = first_goes P r.target r.wanted (joined rs) some.0 h
+joined_goes P (r ∷ rs) some h = first_goes P r.target r.wanted (all_requests rs) some.0 h
   where
     first_goes : (P : ℕ → Type 0) (t : ℕ) (ws : List Wanted) (es : List Request) → 0 < length ws → P t → FirstGoes P (all_to t ws ++ es)
     first_goes P t [] es some h = let z : ⊥ = omega (arith, some) in absurd z
@@ -109,11 +109,11 @@ cut_other t (w ∷ v ∷ ws) es some apart =
     let more : 0 < length (v ∷ ws) = omega arith in
     ap (in_front (record { target = t; wanted = w })) (cut_other t (v ∷ ws) es more apart) ∙ in_front_same t w (v ∷ ws) (cut es)
 
-only_joined : (rs : List Stretch) → AllByRecursion IsSome rs → AllNeighbours GoesApart rs → rs ≡ cut (joined rs)
+only_joined : (rs : List Stretch) → AllByRecursion IsSome rs → AllNeighbours GoesApart rs → rs ≡ cut (all_requests rs)
 only_joined [] some apart = refl
 only_joined (r ∷ rs) some apart =
     ap (λ l. r ∷ l) (only_joined rs some.1 apart.1)
-    ∙ sym (cut_other r.target r.wanted (joined rs) some.0 (joined_goes (λ n. r.target ≢ n) rs some.1 apart.0))
+    ∙ sym (cut_other r.target r.wanted (all_requests rs) some.0 (joined_goes (λ n. r.target ≢ n) rs some.1 apart.0))
 
 pub each_batch_has_one_cut : EachBatchHasOneCut
 each_batch_has_one_cut requests = record {

@@ -8,9 +8,9 @@ use Rattle.std.proofs.lemmas.List.Concat.{flat_map-append}
 use Rattle.nm_types.specs.declared.request.Wanted.{Wanted}
 use Rattle.nm_types.specs.declared.request.Wanted.TheVariants.{Whole}
 use Rattle.nm_runs.specs.declared.Run.{Run}
-use Rattle.nm_model.specs.definitions.Cut.{Request, Stretch, in_front, cut, all_to, joined, size_of, OfFirst, AllNeighbours, IsFirst, first_target, wanted_of, same_front}
+use Rattle.nm_model.specs.definitions.Cut.{Request, Stretch, in_front, cut, all_to, all_requests, size_of, OfFirst, AllNeighbours, IsFirst, first_target, wanted_of, same_front}
 use Rattle.nm_runs.specs.Stretches.{stretches_of}
-use Rattle.nm_model.specs.definitions.Cut.{pieces_in, pieces, within, cut_within, CutIsOldCut, IsFullBefore, EachLimitCuts, targets_of, for_nodes, run_count, RunCountCountsRuns}
+use Rattle.nm_model.specs.definitions.Cut.{pieces_in, pieces, pieces_within, cut_within, CutIsOldCut, IsFullBefore, EachLimitCuts, targets_of, for_nodes, run_count, RunCountCountsRuns}
 use Rattle.nm_runs.proofs.Stretches.{nodes_first}
 use Rattle.nm_runs.proofs.Cuts.{IsSome, GoesApart, FirstGoes, cut_joined, cut_some, cut_apart, cut_more, cut_other, joined_goes}
 
@@ -40,7 +40,7 @@ abbrev to_node : ℕ → List (List Wanted) → List Stretch
 to_node t wss = map (λ ws. record { target = t; wanted = ws }) wss
 
 -- what is as long as the limit is the first piece
-within_full : (limit t : ℕ) (ws vs : List Wanted) → 0 < limit → length ws ≡ limit → within limit (record { target = t; wanted = ws ++ vs }) ≡ record { target = t; wanted = ws } ∷ within limit (record { target = t; wanted = vs })
+within_full : (limit t : ℕ) (ws vs : List Wanted) → 0 < limit → length ws ≡ limit → pieces_within limit (record { target = t; wanted = ws ++ vs }) ≡ record { target = t; wanted = ws } ∷ pieces_within limit (record { target = t; wanted = vs })
 within_full limit t ws vs some full =
     let has : 0 < length (ws ++ vs) = omega (arith, length-append ws vs, some, full) in
     let le : limit ≤ length ws = omega (arith, full) in
@@ -51,7 +51,7 @@ within_full limit t ws vs some full =
     ∙ ap (λ l. record { target = t; wanted = ws } ∷ to_node t (pieces limit l)) rest
 
 -- what is no longer than the limit is one piece
-within_short : (limit : ℕ) (r : Stretch) → 0 < limit → 0 < size_of r → size_of r ≤ limit → within limit r ≡ r ∷ []
+within_short : (limit : ℕ) (r : Stretch) → 0 < limit → 0 < size_of r → size_of r ≤ limit → pieces_within limit r ≡ r ∷ []
 within_short limit r some has short =
     ap (to_node r.target) (pieces_first limit r.wanted some has)
     ∙ ap (λ l. record { target = r.target; wanted = l } ∷ to_node r.target (pieces limit (drop limit r.wanted))) (take_all limit r.wanted short)
@@ -60,7 +60,7 @@ within_short limit r some has short =
 -- requests for another node, no more than the limit, are a run in front
 cut_within_other : (limit t : ℕ) (ws : List Wanted) (es : List Request) → 0 < limit → 0 < length ws → length ws ≤ limit → FirstGoes (λ n. t ≢ n) es → cut_within limit (all_to t ws ++ es) ≡ record { target = t; wanted = ws } ∷ cut_within limit es
 cut_within_other limit t ws es some has short apart =
-    ap (flat_map (within limit)) (cut_other t ws es has apart)
+    ap (flat_map (pieces_within limit)) (cut_other t ws es has apart)
     ∙ ap (λ l. l ++ cut_within limit es) (within_short limit (record { target = t; wanted = ws }) some has short)
 
 -- as many requests as the limit are a run at the front, whatever follows
@@ -78,9 +78,9 @@ cut_within_full limit t ws es some full = by_first (cut es) refl
         ⊎_elim
         (λ same.
         let here : cut es ≡ record { target = t; wanted = r.wanted } ∷ cs = is ∙ ap (λ n. record { target = n; wanted = r.wanted } ∷ cs) (sym same) in
-        ap (flat_map (within limit)) (cut_more t ws es r.wanted cs here)
-        ∙ ap (λ l. l ++ flat_map (within limit) cs) (within_full limit t ws r.wanted some full)
-        ∙ sym (ap (λ l. record { target = t; wanted = ws } ∷ flat_map (within limit) l) here))
+        ap (flat_map (pieces_within limit)) (cut_more t ws es r.wanted cs here)
+        ∙ ap (λ l. l ++ flat_map (pieces_within limit) cs) (within_full limit t ws r.wanted some full)
+        ∙ sym (ap (λ l. record { target = t; wanted = ws } ∷ flat_map (pieces_within limit) l) here))
         (λ other.
         let goes : OfFirst (λ (s : Stretch). t ≢ s.target) (cut es) = subst (λ (l : List Stretch). OfFirst (λ (s : Stretch). t ≢ s.target) l) (sym is) other in
         let apart : FirstGoes (λ n. t ≢ n) es = subst (λ (l : List Request). FirstGoes (λ n. t ≢ n) l) (cut_joined es) (joined_goes (λ n. t ≢ n) (cut es) (cut_some es) goes) in
@@ -88,7 +88,7 @@ cut_within_full limit t ws es some full = by_first (cut es) refl
 
     by_first : (cs : List Stretch) → cut es ≡ cs → cut_within limit (all_to t ws ++ es) ≡ record { target = t; wanted = ws } ∷ cut_within limit es
     by_first [] is =
-        let none : es ≡ [] = sym (cut_joined es) ∙ ap joined is in
+        let none : es ≡ [] = sym (cut_joined es) ∙ ap all_requests is in
         cut_within_other limit t ws es some has short (subst (λ (l : List Request). FirstGoes (λ n. t ≢ n) l) (sym none) tt)
     by_first (r ∷ cs) is = by_target r cs is (cases_eq t r.target)
 
@@ -96,7 +96,7 @@ of_first_map : {X : Type 0} (P Q : X → Type 0) (xs : List X) → ((x : X) → 
 of_first_map P Q [] f h = tt
 of_first_map P Q (x ∷ xs) f h = f x h
 
-only_within : (limit : ℕ) (rs : List Stretch) → 0 < limit → AllByRecursion IsSome rs → AllByRecursion (IsShort limit) rs → AllNeighbours (IsFullBefore limit) rs → rs ≡ cut_within limit (joined rs)
+only_within : (limit : ℕ) (rs : List Stretch) → 0 < limit → AllByRecursion IsSome rs → AllByRecursion (IsShort limit) rs → AllNeighbours (IsFullBefore limit) rs → rs ≡ cut_within limit (all_requests rs)
 only_within limit [] some has short full = refl
 only_within limit (r ∷ rs) some has short full =
     ap (λ l. r ∷ l) (only_within limit rs some has.1 short.1 full.1)
@@ -104,8 +104,8 @@ only_within limit (r ∷ rs) some has short full =
     (λ less.
     let apart : OfFirst (λ (s : Stretch). r.target ≢ s.target) rs =
     of_first_map (IsFullBefore limit r) (λ s. r.target ≢ s.target) rs (λ s f same. let z = f same in let w : ⊥ = omega (arith, z, less) in w) full.0 in
-    sym (cut_within_other limit r.target r.wanted (joined rs) some has.0 short.0 (joined_goes (λ n. r.target ≢ n) rs has.1 apart)))
-    (λ more. let all : length r.wanted ≡ limit = omega (arith, more, short.0) in sym (cut_within_full limit r.target r.wanted (joined rs) some all)) (cases_lt (size_of r) limit)
+    sym (cut_within_other limit r.target r.wanted (all_requests rs) some has.0 short.0 (joined_goes (λ n. r.target ≢ n) rs has.1 apart)))
+    (λ more. let all : length r.wanted ≡ limit = omega (arith, more, short.0) in sym (cut_within_full limit r.target r.wanted (all_requests rs) some all)) (cases_lt (size_of r) limit)
 
 follow : (P : ℕ → Type 0) (rest behind : List Request) → FirstGoes P rest → (rest ≡ [] → behind ≡ []) → FirstGoes P (rest ++ behind)
 follow P [] behind h e = subst (λ (l : List Request). FirstGoes P l) (sym (e refl)) tt
@@ -114,7 +114,7 @@ follow P (f ∷ fs) behind h e = h
 -- what is first cut of a batch, and what is after it
 first_parts : (es : List Request) (t : ℕ) (ws : List Wanted) → IsFirst es t ws → es ≡ all_to t ws ++ drop (length ws) es
 first_parts es t ws first =
-    sym (cut_joined es) ∙ ap joined first ∙ ap (λ l. all_to t ws ++ l) (cut_joined (drop (length ws) es))
+    sym (cut_joined es) ∙ ap all_requests first ∙ ap (λ l. all_to t ws ++ l) (cut_joined (drop (length ws) es))
 
 first_apart : (es : List Request) (t : ℕ) (ws : List Wanted) → IsFirst es t ws → FirstGoes (λ n. t ≢ n) (drop (length ws) es)
 first_apart es t ws first =
@@ -183,21 +183,21 @@ one_more_to limit made now run ws piece rest is has some more parts size =
     ∙ ap (λ (l : List Wanted). stretches_of made ++ record { target = t; wanted = l } ∷ left) has
     ∙ sym (ap (λ l. stretches_of made ++ l) (piece_within limit t ws piece rest some more parts size))
 
-joined_pieces : (t : ℕ) (wss : List (List Wanted)) → joined (to_node t wss) ≡ all_to t (flat_map (λ ws. ws) wss)
+joined_pieces : (t : ℕ) (wss : List (List Wanted)) → all_requests (to_node t wss) ≡ all_to t (flat_map (λ ws. ws) wss)
 joined_pieces t [] = refl
 joined_pieces t (ws ∷ wss) =
     ap (λ es. all_to t ws ++ es) (joined_pieces t wss) ∙ sym (all_to-append t ws (flat_map (λ vs. vs) wss))
 
-joined_within : (limit : ℕ) (r : Stretch) → 0 < limit → joined (within limit r) ≡ all_to r.target r.wanted
+joined_within : (limit : ℕ) (r : Stretch) → 0 < limit → all_requests (pieces_within limit r) ≡ all_to r.target r.wanted
 joined_within limit r some =
     let enough : length r.wanted ≤ length r.wanted = omega arith in
     joined_pieces r.target (pieces limit r.wanted) ∙ ap (all_to r.target) (pieces_joined limit r.wanted (length r.wanted) some enough)
 
-joined_all : (limit : ℕ) (rs : List Stretch) → 0 < limit → joined (flat_map (within limit) rs) ≡ joined rs
+joined_all : (limit : ℕ) (rs : List Stretch) → 0 < limit → all_requests (flat_map (pieces_within limit) rs) ≡ all_requests rs
 joined_all limit [] some = refl
 joined_all limit (r ∷ rs) some =
-    flat_map-append (λ (s : Stretch). all_to s.target s.wanted) (within limit r) (flat_map (within limit) rs)
-    ∙ ap (λ es. es ++ joined (flat_map (within limit) rs)) (joined_within limit r some)
+    flat_map-append (λ (s : Stretch). all_to s.target s.wanted) (pieces_within limit r) (flat_map (pieces_within limit) rs)
+    ∙ ap (λ es. es ++ all_requests (flat_map (pieces_within limit) rs)) (joined_within limit r some)
     ∙ ap (λ es. all_to r.target r.wanted ++ es) (joined_all limit rs some)
 
 -- each piece has something, and no more than the limit
@@ -219,9 +219,9 @@ all-append : {X : Type 0} (P : X → Type 0) (xs ys : List X) → AllByRecursion
 all-append P [] ys h k = k
 all-append P (x ∷ xs) ys h k = (h.0, all-append P xs ys h.1 k)
 
-all_within : (P : Stretch → Type 0) (limit : ℕ) (rs : List Stretch) → ((t : ℕ) (ws : List Wanted) (n : ℕ) → AllByRecursion P (to_node t (pieces_in limit ws n))) → AllByRecursion P (flat_map (within limit) rs)
+all_within : (P : Stretch → Type 0) (limit : ℕ) (rs : List Stretch) → ((t : ℕ) (ws : List Wanted) (n : ℕ) → AllByRecursion P (to_node t (pieces_in limit ws n))) → AllByRecursion P (flat_map (pieces_within limit) rs)
 all_within P limit [] f = tt
-all_within P limit (r ∷ rs) f = all-append P (within limit r) (flat_map (within limit) rs) (f r.target r.wanted (length r.wanted)) (all_within P limit rs f)
+all_within P limit (r ∷ rs) f = all-append P (pieces_within limit r) (flat_map (pieces_within limit) rs) (f r.target r.wanted (length r.wanted)) (all_within P limit rs f)
 
 -- a first piece is full where something is left, and another target follows where nothing is
 first_full : (limit t : ℕ) (ws rest : List Wanted) (n : ℕ) (us : List Stretch) → drop limit ws ≡ rest → OfFirst (λ (u : Stretch). t ≢ u.target) us → OfFirst (IsFullBefore limit (record { target = t; wanted = take limit ws })) (to_node t (pieces_in limit rest n) ++ us)
@@ -246,14 +246,14 @@ first_piece_apart : (limit target t : ℕ) (ws : List Wanted) (us : List Stretch
 first_piece_apart limit target t [] us some apart = let z : ⊥ = omega (arith, some) in absurd z
 first_piece_apart limit target t (w ∷ ws) us some apart = apart
 
-all_apart : (limit t : ℕ) (rs : List Stretch) → AllByRecursion IsSome rs → OfFirst (λ (r : Stretch). t ≢ r.target) rs → OfFirst (λ (u : Stretch). t ≢ u.target) (flat_map (within limit) rs)
+all_apart : (limit t : ℕ) (rs : List Stretch) → AllByRecursion IsSome rs → OfFirst (λ (r : Stretch). t ≢ r.target) rs → OfFirst (λ (u : Stretch). t ≢ u.target) (flat_map (pieces_within limit) rs)
 all_apart limit t [] some apart = tt
-all_apart limit t (r ∷ rs) some apart = first_piece_apart limit r.target t r.wanted (flat_map (within limit) rs) some.0 apart
+all_apart limit t (r ∷ rs) some apart = first_piece_apart limit r.target t r.wanted (flat_map (pieces_within limit) rs) some.0 apart
 
-all_full : (limit : ℕ) (rs : List Stretch) → AllByRecursion IsSome rs → AllNeighbours GoesApart rs → AllNeighbours (IsFullBefore limit) (flat_map (within limit) rs)
+all_full : (limit : ℕ) (rs : List Stretch) → AllByRecursion IsSome rs → AllNeighbours GoesApart rs → AllNeighbours (IsFullBefore limit) (flat_map (pieces_within limit) rs)
 all_full limit [] some apart = tt
 all_full limit (r ∷ rs) some apart =
-    pieces_full limit r.target r.wanted (length r.wanted) (flat_map (within limit) rs) (all_apart limit r.target rs some.1 apart.0)
+    pieces_full limit r.target r.wanted (length r.wanted) (flat_map (pieces_within limit) rs) (all_apart limit r.target rs some.1 apart.0)
     (all_full limit rs some.1 apart.1)
 
 pub each_limit_cuts : EachLimitCuts
@@ -268,12 +268,12 @@ each_limit_cuts limit requests some = record {
 }
 
 -- stretches of no more requests than the batch are cut no further
-all_in_limit : (limit : ℕ) (rs : List Stretch) → 0 < limit → AllByRecursion IsSome rs → length (joined rs) ≤ limit → flat_map (within limit) rs ≡ rs
+all_in_limit : (limit : ℕ) (rs : List Stretch) → 0 < limit → AllByRecursion IsSome rs → length (all_requests rs) ≤ limit → flat_map (pieces_within limit) rs ≡ rs
 all_in_limit limit [] some has short = refl
 all_in_limit limit (r ∷ rs) some has short =
-    let parts = length-append (all_to r.target r.wanted) (joined rs) in
+    let parts = length-append (all_to r.target r.wanted) (all_requests rs) in
     let own = length-map {B = Request} r.wanted (λ w. record { target = r.target; wanted = w }) in
-    ap (λ l. l ++ flat_map (within limit) rs) (within_short limit r some has.0 (omega (arith, parts, own, short)))
+    ap (λ l. l ++ flat_map (pieces_within limit) rs) (within_short limit r some has.0 (omega (arith, parts, own, short)))
     ∙ ap (λ l. r ∷ l) (all_in_limit limit rs some has.1 (omega (arith, parts, own, short)))
 
 -- a limit that is as long as the batch is none
@@ -322,14 +322,14 @@ cut_alike : (requests : List Request) → AreAlike (cut requests) (cut (for_node
 cut_alike [] = tt
 cut_alike (e ∷ es) = in_front_alike e.target e.wanted _ (cut es) (cut (for_nodes (targets_of es))) (cut_alike es)
 
-within_alike : (limit : ℕ) (rs ts : List Stretch) → AreAlike rs ts → length (flat_map (within limit) rs) ≡ length (flat_map (within limit) ts)
+within_alike : (limit : ℕ) (rs ts : List Stretch) → AreAlike rs ts → length (flat_map (pieces_within limit) rs) ≡ length (flat_map (pieces_within limit) ts)
 within_alike limit [] [] h = refl
 within_alike limit [] (t ∷ ts) h = absurd h
 within_alike limit (r ∷ rs) [] h = absurd h
 within_alike limit (r ∷ rs) (t ∷ ts) h =
-    let left = length-append (within limit r) (flat_map (within limit) rs) in
-    let right = length-append (within limit t) (flat_map (within limit) ts) in
-    let one : length (within limit r) ≡ length (within limit t) =
+    let left = length-append (pieces_within limit r) (flat_map (pieces_within limit) rs) in
+    let right = length-append (pieces_within limit t) (flat_map (pieces_within limit) ts) in
+    let one : length (pieces_within limit r) ≡ length (pieces_within limit t) =
     length-map (pieces limit r.wanted) (λ ws. record { target = r.target; wanted = ws })
     ∙ ap (λ n. length (pieces_in limit r.wanted n)) h.1
     ∙ pieces_counted limit r.wanted t.wanted (length t.wanted) h.1

@@ -9,7 +9,7 @@ ghost use Rattle.nm_types.specs.declared.sight.Sight.TheVariants.{ZeroPage, Sees
 ghost use Rattle.nm_types.specs.Map.{get, set, with_values, page_cmp};
 ghost use Rattle.nm_types.specs.State.{Process, page_at};
 ghost use Rattle.nm_model.specs.definitions.Seen.{sight_in, frame_of, look_at_place};
-ghost use Rattle.nm_model.specs.definitions.Effect.{info_of, untouched};
+ghost use Rattle.nm_model.specs.definitions.Effect.{info_of, new_process};
 ghost use Rattle.nm_model.specs.definitions.PageTables.{entry_of};
 ghost use Rattle.nm_spaces.specs.views.AddressSpaces.{mapped_of, no_spaces, with_seen, with_new_page, pins_here, with_pins_of};
 
@@ -167,7 +167,7 @@ impl<A: Allocator + Copy> AddressSpaces<A> {
             (self.new
             ≡ record (self.old) {
               processes = set nat_cmp self.old.processes pid
-                  (untouched info);
+                  (new_process info);
             }) }
         ensures err { OnErr result (self.new ≡ self.old) }
     {

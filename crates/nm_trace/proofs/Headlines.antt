@@ -4,7 +4,7 @@ use Rattle.std.specs.Prelude.{Option, Some, slice_get, Result, Ok, length}
 use Rattle.std.specs.Io.KnownBytes.{Appends}
 use Rattle.nm_types.proofs.Cases.{some_is, none_some}
 use Rattle.nm_model.specs.definitions.Memory.{mem}
-use Rattle.nm_model.specs.definitions.Sound.{IsSound, audited}
+use Rattle.nm_model.specs.definitions.Sound.{IsSound, each_frame_is_once}
 use Rattle.nm_laws.proofs.Soundness.New.{new_sound}
 use Rattle.nm_laws.proofs.Soundness.Sounded.{sound_is_audited}
 use Rattle.nm_steps.specs.Calls.{Call}
@@ -49,6 +49,6 @@ played plan s t calls old new result summary start same done p =
       whole = q.0 ∙ ap length same;
       report = subst (Appends old new) (λ j. report_from 0 (start j) (same j)) q.2;
       state = state;
-      frames = ap (λ (u : SystemState). audited u.state) state ∙ sound_is_audited (state_after first plan.calls).state (states_are_sound plan.layout plan.run_limit plan.calls);
+      frames = ap (λ (u : SystemState). each_frame_is_once u.state) state ∙ sound_is_audited (state_after first plan.calls).state (states_are_sound plan.layout plan.run_limit plan.calls);
       memory = keep_memory first plan.calls (new_sound plan.layout);
     }

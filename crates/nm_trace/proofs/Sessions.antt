@@ -5,7 +5,7 @@ use Rattle.std.specs.Option.{ok_or}
 use Rattle.serde_json.specs.Data.{Data}
 use Rattle.nm_types.specs.declared.errno.Errno.{Errno}
 use Rattle.nm_types.specs.State.{State}
-use Rattle.nm_model.specs.definitions.Run.{Ran}
+use Rattle.nm_model.specs.definitions.Run.{RunResult}
 use Rattle.nm_model.specs.definitions.Run.{runs_from}
 use Rattle.nm_steps.specs.Calls.{Call, Spawn, MapPages, Attach, Unmap, Exit, Pin, Unpin, ReadBytes, WriteBytes, MovePages, MigratePages, Query, FreeList, Pagemap, Vmstat, NumaMaps, Mbind, Offline, Online}
 use Rattle.nm_calls.specs.definitions.Outcome.{Outcome, outcome, ended, emptied, unless, refused, start, runs_asked, accesses_asked}
@@ -26,7 +26,7 @@ emptied_limit : (y : SystemState) (node : ℕ) (s : State) (stays : Bool) → (e
 emptied_limit y node s true = refl
 emptied_limit y node s false = refl
 
-ended_limit : (y : SystemState) (call : Call) (made : Ran) → (ended y call made).system.run_limit ≡ y.run_limit
+ended_limit : (y : SystemState) (call : Call) (made : RunResult) → (ended y call made).system.run_limit ≡ y.run_limit
 unfolding ended
 ended_limit y (Spawn pid uid home allowed privileged) made = refl
 ended_limit y (MapPages pid addr pages shared) made = refl

@@ -3,7 +3,7 @@ use Rattle.std.specs.Prelude.{◌≡◌, ℕ, ◌+◌, ◌<◌, true, false, Lis
 use Rattle.std.specs.Io.KnownBytes.{Appends}
 use Rattle.nm_types.specs.Layout.{Layout}
 use Rattle.nm_model.specs.definitions.Memory.{mem}
-use Rattle.nm_model.specs.definitions.Sound.{IsSound, audited}
+use Rattle.nm_model.specs.definitions.Sound.{IsSound, each_frame_is_once}
 use Rattle.nm_steps.specs.Calls.{Call}
 use Rattle.nm_calls.specs.laws.Calls.{writes_or_maps, byte_after}
 use Rattle.nm_calls.specs.definitions.Outcome.{runs_of}
@@ -36,7 +36,7 @@ pub record IsPlayed (plan : Plan) (steps : ℕ) (system : SystemState) (old new 
   -- the system is in the state of its calls, made one after another, each as one request after another
   pub state : system ≡ state_after (system_with plan.layout plan.run_limit) plan.calls
   -- each frame of the machine is in exactly one place: its own node's free list, or one page's
-  pub frames : audited system.state ≡ true
+  pub frames : each_frame_is_once system.state ≡ true
   -- no move changed a byte that a process reads
   pub memory : KeepMemory (system_with plan.layout plan.run_limit) plan.calls
 

@@ -9,7 +9,7 @@ use Rattle.nm_types.specs.declared.page.Page.{Page}
 use Rattle.nm_types.specs.State.{State}
 use Rattle.nm_model.specs.definitions.Cut.{Stretch}
 use Rattle.nm_model.specs.definitions.Touch.{Access, AccessAnswer}
-use Rattle.nm_model.specs.definitions.Touch.{in_flight, all_in_flight}
+use Rattle.nm_model.specs.definitions.Touch.{access_during, all_in_flight}
 use Rattle.nm_model.specs.definitions.Run.{each_request, run}
 use Rattle.nm_model.specs.definitions.Run.{accesses_of, runs_from}
 use Rattle.nm_steps.specs.Calls.{Call, MovePages}
@@ -25,7 +25,7 @@ use Rattle.nm_calls.proofs.Trails.{runs_unless}
 
 all_length : (s : State) (moved : List Page) (accesses : List Access) → length (all_in_flight s moved accesses).answers ≡ length accesses
 all_length s moved [] = refl
-all_length s moved (a ∷ accesses) = ap suc (all_length (in_flight s moved a).state moved accesses)
+all_length s moved (a ∷ accesses) = ap suc (all_length (access_during s moved a).state moved accesses)
 
 -- there are answers for each run ..
 runs_count : (k : ℕ) (s : State) (rs : List Stretch) (accesses : List (ℕ × Access)) → length (runs_from k s rs accesses).answers ≡ length rs

@@ -6,7 +6,7 @@ use Rattle.std.proofs.lemmas.List.Sums.{sum_by-cons}
 use Rattle.std.specs.List.{AllByRecursion, sum_by}
 use Rattle.nm_runs.specs.declared.Run.{Run}
 use Rattle.nm_types.specs.declared.request.Wanted.{Wanted}
-use Rattle.nm_model.specs.definitions.Cut.{Request, Stretch, all_to, joined, size_of, wanted_of}
+use Rattle.nm_model.specs.definitions.Cut.{Request, Stretch, all_to, all_requests, size_of, wanted_of}
 use Rattle.nm_runs.specs.Stretches.{stretches_of}
 use Rattle.nm_model.specs.definitions.Cut.{cut_within, requests_of}
 use Rattle.nm_runs.proofs.Pieces.{each_limit_cuts}
@@ -25,10 +25,10 @@ back_of P [] ys h = h
 back_of P (x ∷ xs) ys h = back_of P xs ys h.1
 
 -- what holds of each request of some runs, one after another, holds of each run's
-each_run : (Q : Request → Type 0) (rs : List Stretch) → AllByRecursion Q (joined rs) → AllByRecursion (OfRun Q) rs
+each_run : (Q : Request → Type 0) (rs : List Stretch) → AllByRecursion Q (all_requests rs) → AllByRecursion (OfRun Q) rs
 each_run Q [] h = tt
 each_run Q (r ∷ rs) h =
-    (front_of Q (all_to r.target r.wanted) (joined rs) h, each_run Q rs (back_of Q (all_to r.target r.wanted) (joined rs) h))
+    (front_of Q (all_to r.target r.wanted) (all_requests rs) h, each_run Q rs (back_of Q (all_to r.target r.wanted) (all_requests rs) h))
 
 -- what holds of each request of a batch holds of each of its runs'
 pub of_runs : (Q : Request → Type 0) (limit : ℕ) (es : List Request) → 0 < limit → AllByRecursion Q es → AllByRecursion (OfRun Q) (cut_within limit es)
@@ -63,10 +63,10 @@ runs_below n [] hs k d lt = absurd (omega (arith, lt))
 runs_below n (run ∷ runs) hs zero d lt = hs.0
 runs_below n (run ∷ runs) hs (suc k) d lt = runs_below n runs hs.1 k d (omega (arith, lt))
 
-runs_entries : {A : Type 0} (runs : List (Run A)) → sum_by (λ (run : Run A). length run.wanted.items) runs ≡ length (joined (stretches_of runs))
+runs_entries : {A : Type 0} (runs : List (Run A)) → sum_by (λ (run : Run A). length run.wanted.items) runs ≡ length (all_requests (stretches_of runs))
 runs_entries [] = refl
 runs_entries {A = A} (run ∷ runs) =
-    let parts = length-append (all_to run.target run.wanted.items) (joined (stretches_of runs)) in
+    let parts = length-append (all_to run.target run.wanted.items) (all_requests (stretches_of runs)) in
     let own = length-map {B = Request} run.wanted.items (λ w. record { target = run.target; wanted = w }) in
     let rest = runs_entries runs in
     let first = sum_by-cons (λ (r : Run A). length r.wanted.items) run runs in
@@ -79,7 +79,7 @@ run_targets n limit es runs some e h =
 
 -- .. and how many requests they have
 pub run_entries : {A : Type 0} (limit : ℕ) (es : List Request) (runs : List (Run A)) → 0 < limit → stretches_of runs ≡ cut_within limit es → sum_by (λ (run : Run A). length run.wanted.items) runs ≡ length es
-run_entries limit es runs some e = runs_entries runs ∙ ap (λ rs. length (joined rs)) e ∙ ap length (each_limit_cuts limit es some).is.same
+run_entries limit es runs some e = runs_entries runs ∙ ap (λ rs. length (all_requests rs)) e ∙ ap length (each_limit_cuts limit es some).is.same
 
 -- runs that have some requests are some ..
 pub entries_some : {A : Type 0} (runs : List (Run A)) (count : ℕ) → sum_by (λ (run : Run A). length run.wanted.items) runs ≡ count → 0 < count → 0 < length runs

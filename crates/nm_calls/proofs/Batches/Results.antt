@@ -5,7 +5,7 @@ use Rattle.std.specs.Result.{IsErrAnd}
 use Rattle.std.proofs.lemmas.Result.{err_from_is_err_and}
 use Rattle.nm_types.specs.State.{State}
 use Rattle.nm_model.specs.definitions.Cut.{Request, Stretch, cut_within}
-use Rattle.nm_model.specs.definitions.Run.{Ran}
+use Rattle.nm_model.specs.definitions.Run.{RunResult}
 use Rattle.nm_model.specs.definitions.Touch.{Access}
 use Rattle.nm_model.specs.definitions.Run.{runs_from}
 use Rattle.nm_calls.specs.declared.call_error.CallError.{CallError}
@@ -47,7 +47,7 @@ none_lacks s rs during = (refl, omega arith, first_state s rs during)
 pub none_ran : {A : Type 0} (r : Result (Moved A) CallError) (s : State) (rs : List Stretch) (during : List (ℕ × Access)) → IsErrAnd r (λ e. e ≡ out_of_memory 0) → MovesRuns r s s rs during
 none_ran r s rs during h = subst (λ r. MovesRuns r s s rs during) (sym (err_of r (out_of_memory 0) h)) (none_lacks s rs during)
 
-pub none_given : {T : Type 0} (r : Result T CallError) (s : State) (rs : List Stretch) (Gives : T → Ran → Type 0) → IsErrAnd r (λ e. e ≡ out_of_memory 0) → RunsGive r s s rs Gives
+pub none_given : {T : Type 0} (r : Result T CallError) (s : State) (rs : List Stretch) (Gives : T → RunResult → Type 0) → IsErrAnd r (λ e. e ≡ out_of_memory 0) → RunsGive r s s rs Gives
 none_given r s rs Gives h = subst (λ r. RunsGive r s s rs Gives) (sym (err_of r (out_of_memory 0) h)) (none_lacks s rs [])
 
 -- .. and of a batch
@@ -55,7 +55,7 @@ pub none_moved : {A : Type 0} (r : Result (Moved A) CallError) (s : State) (limi
 none_moved r s limit es during h =
     subst (λ r. Moves r s s limit es during) (sym (err_of r (out_of_memory 0) h)) (none_lacks s (cut_within limit es) during)
 
-pub none_batched : {T : Type 0} (r : Result T CallError) (s : State) (limit : ℕ) (es : List Request) (Gives : T → Ran → Type 0) → IsErrAnd r (λ e. e ≡ out_of_memory 0) → Batches r s s limit es Gives
+pub none_batched : {T : Type 0} (r : Result T CallError) (s : State) (limit : ℕ) (es : List Request) (Gives : T → RunResult → Type 0) → IsErrAnd r (λ e. e ≡ out_of_memory 0) → Batches r s s limit es Gives
 none_batched r s limit es Gives h =
     subst (λ r. Batches r s s limit es Gives) (sym (err_of r (out_of_memory 0) h)) (none_lacks s (cut_within limit es) [])
 
@@ -73,7 +73,7 @@ pub batch_moved : {A : Type 0} (r : Result (Moved A) CallError) (old new : State
 batch_moved r old new rs limit es during asked runs same h =
     by_batch r old new limit es asked (ran_same r old new rs (cut_within limit es) during asked runs same h)
 
-pub batch_given : {T : Type 0} (r : Result T CallError) (old new : State) (rs : List Stretch) (limit : ℕ) (es : List Request) (Gives : T → Ran → Type 0) → rs ≡ cut_within limit es → RunsGive r old new rs Gives → Batches r old new limit es Gives
+pub batch_given : {T : Type 0} (r : Result T CallError) (old new : State) (rs : List Stretch) (limit : ℕ) (es : List Request) (Gives : T → RunResult → Type 0) → rs ≡ cut_within limit es → RunsGive r old new rs Gives → Batches r old new limit es Gives
 batch_given (Ok value) old new rs limit es Gives runs h = subst (λ l. RunsGive (Ok value) old new l Gives) runs h
 batch_given {T = T} (Err e) old new rs limit es Gives runs h = subst (λ l. RunsGive {T = T} (Err e) old new l Gives) runs h
 
@@ -85,13 +85,13 @@ ran_without moved old new rs qs during runs none h =
     (all.3, all.0)
 
 -- no memory for one of them ..
-pub runs_stopped : {A T : Type 0} (m : Result (Moved A) CallError) (r : Result T CallError) (e : CallError) (old new : State) (rs qs : List Stretch) (during : List (ℕ × Access)) (Gives : T → Ran → Type 0) → m ≡ Err e → IsErrAnd r (λ x. x ≡ e) → rs ≡ qs → during ≡ [] → MovesRuns m old new rs during → RunsGive r old new qs Gives
+pub runs_stopped : {A T : Type 0} (m : Result (Moved A) CallError) (r : Result T CallError) (e : CallError) (old new : State) (rs qs : List Stretch) (during : List (ℕ × Access)) (Gives : T → RunResult → Type 0) → m ≡ Err e → IsErrAnd r (λ x. x ≡ e) → rs ≡ qs → during ≡ [] → MovesRuns m old new rs during → RunsGive r old new qs Gives
 runs_stopped m r e old new rs qs during Gives is err runs none h =
     let all = ran_same m old new rs qs during [] runs none h in
     subst (λ r. RunsGive r old new qs Gives) (sym (err_of r e err)) (subst (λ m. MovesRuns m old new qs []) is all)
 
 -- .. as the function that makes a batch of them reports
-pub batch_stopped : {T U : Type 0} (m : Result T CallError) (r : Result U CallError) (e : CallError) (old new : State) (rs : List Stretch) (limit : ℕ) (es : List Request) (Gives : T → Ran → Type 0) (Tells : U → Ran → Type 0) → m ≡ Err e → IsErrAnd r (λ x. x ≡ e) → rs ≡ cut_within limit es → RunsGive m old new rs Gives → Batches r old new limit es Tells
+pub batch_stopped : {T U : Type 0} (m : Result T CallError) (r : Result U CallError) (e : CallError) (old new : State) (rs : List Stretch) (limit : ℕ) (es : List Request) (Gives : T → RunResult → Type 0) (Tells : U → RunResult → Type 0) → m ≡ Err e → IsErrAnd r (λ x. x ≡ e) → rs ≡ cut_within limit es → RunsGive m old new rs Gives → Batches r old new limit es Tells
 batch_stopped m r e old new rs limit es Gives Tells is err runs h =
     subst (λ r. Batches r old new limit es Tells) (sym (err_of r e err))
     (subst (λ l. LacksMemory e old new l []) runs (subst (λ m. RunsGive m old new rs Gives) is h))

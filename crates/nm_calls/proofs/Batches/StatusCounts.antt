@@ -16,8 +16,8 @@ use Rattle.nm_types.specs.declared.request.Class.TheVariants.{Status, Move}
 use Rattle.nm_types.specs.declared.request.Wanted.{Wanted}
 use Rattle.nm_model.specs.definitions.Status.{code, status_or_move}
 use Rattle.nm_model.specs.definitions.Seen.{sight_at}
-use Rattle.nm_model.specs.definitions.Touch.{Access, Read, Write, Held, Answered, access, touch, read_after, write_after, with_bytes}
-use Rattle.nm_model.specs.definitions.Touch.{is_held, site_of_access, in_flight, all_in_flight}
+use Rattle.nm_model.specs.definitions.Touch.{Access, Read, Write, Held, AccessResult, access, touch, read_after, write_after, with_bytes}
+use Rattle.nm_model.specs.definitions.Touch.{is_held, site_of_access, access_during, all_in_flight}
 use Rattle.nm_laws.proofs.Early.Seen.{Shows, touch_shows}
 use Rattle.nm_model.specs.definitions.Run.{one_request, each_request, run, decision, moved_page, with_free, with_all_free, frames_left, failures}
 
@@ -77,14 +77,14 @@ access_layout : (s : State) (a : Access) → (access s a).state.layout ≡ s.lay
 access_layout s (Read pid address len) = read_layout s pid address len (touch s pid address len false) (touch_shows s pid address len false)
 access_layout s (Write pid address new) = write_layout s pid address new (touch s pid address (length new) true) (touch_shows s pid address (length new) true)
 
-abbrev state_of : Answered → State
+abbrev state_of : AccessResult → State
 state_of a = a.state
 
 -- accesses in flight keep the nodes
 flight_layout : (moved : List Page) (accesses : List Access) (s : State) → (all_in_flight s moved accesses).state.layout ≡ s.layout
 flight_layout moved [] s = refl
 flight_layout moved (a ∷ accesses) s =
-    flight_layout moved accesses (in_flight s moved a).state
+    flight_layout moved accesses (access_during s moved a).state
     ∙ elim (is_held moved (site_of_access s a)) as (λ b. (state_of (if b then record { state = s; answer = Held } else access s a)).layout ≡ s.layout) [ true ↦ refl | false ↦ access_layout s a ]
 
 -- a run keeps the nodes

@@ -11,8 +11,8 @@ use Rattle.nm_model.specs.definitions.Cut.{Stretch}
 use Rattle.nm_model.specs.definitions.Seen.{sight_at}
 use Rattle.nm_model.specs.definitions.Memory.{mem}
 use Rattle.nm_model.specs.definitions.Touch.{Access, AccessAnswer}
-use Rattle.nm_model.specs.definitions.Effect.{pages_of, with_pins}
-use Rattle.nm_model.specs.definitions.Run.{Ran}
+use Rattle.nm_model.specs.definitions.Effect.{page_count, with_pins}
+use Rattle.nm_model.specs.definitions.Run.{RunResult}
 use Rattle.nm_model.specs.definitions.Run.{runs_from}
 use Rattle.nm_model.specs.definitions.Sound.{IsSound}
 use Rattle.nm_laws.specs.Laws.{runs_written}
@@ -61,7 +61,7 @@ module _ (y : SystemState) (q at : ℕ) where
   runs_kept (MigratePages caller pid old new) runs h k = quiet y.state runs refl
   runs_kept (Query caller pid pages flags) runs h k = quiet y.state runs refl
   runs_kept (Mbind caller addr len mode nodes flags) runs h k =
-      quiet (policed y.state caller addr len mode nodes) runs (policy_keeps y.state [] caller (addr / 4096) (addr / 4096 + pages_of len) (binding y.state caller addr len mode nodes).policy q at h)
+      quiet (policed y.state caller addr len mode nodes) runs (policy_keeps y.state [] caller (addr / 4096) (addr / 4096 + page_count len) (binding y.state caller addr len mode nodes).policy q at h)
   runs_kept (Offline node) runs h k = quiet y.state runs refl
   runs_kept (Online node) runs h k = quiet y.state runs refl
   runs_kept (FreeList node) runs h k = quiet y.state runs refl
@@ -70,7 +70,7 @@ module _ (y : SystemState) (q at : ℕ) where
   runs_kept (NumaMaps pid) runs h k = quiet y.state runs refl
 
   -- runs that are asked for, and made where the call is not refused
-  made_of : Call → Ran
+  made_of : Call → RunResult
   made_of call = runs_from 0 (start y call) (runs_asked y call) (accesses_asked call)
 
   emptied_kept : (node : ℕ) (s : State) (stays : Bool) → mem (emptied y node s stays).system.state q at ≡ mem s q at

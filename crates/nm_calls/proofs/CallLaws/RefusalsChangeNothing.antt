@@ -4,7 +4,7 @@ use Rattle.std.proofs.lemmas.Bool.{true≢false}
 use Rattle.nm_types.specs.declared.errno.Errno.{Errno}
 use Rattle.nm_model.specs.definitions.Touch as engine
 use Rattle.nm_model.specs.definitions.Touch.{read, write}
-use Rattle.nm_model.specs.definitions.Run.{Ran}
+use Rattle.nm_model.specs.definitions.Run.{RunResult}
 use Rattle.nm_model.specs.definitions.Run.{runs_from}
 use Rattle.nm_steps.specs.Calls.{Call, Spawn, MapPages, Attach, Unmap, Exit, Pin, Unpin, ReadBytes, WriteBytes, MovePages, MigratePages, Query, FreeList, Pagemap, Vmstat, NumaMaps, Mbind, Offline, Online}
 use Rattle.nm_calls.specs.definitions.Answers.{Answer, Refusal, Done, Held, Failed, NewSegment, TheBytes, Statuses, Frames, Entries, TheTotals, Lines}
@@ -72,7 +72,7 @@ busy_error y node s true e h = ap error_of h
 busy_error y node s false e h = absurd (no_error Done e refl h)
 
 -- the answer of a call that is not refused at first is no refusal, but for the late one
-call_answers : (y : SystemState) (call : Call) (made : Ran) (e : Errno) → refused y.state call ≡ None → (ended y call made).answer ≡ Refusal e → late_refusal call ≡ Some e
+call_answers : (y : SystemState) (call : Call) (made : RunResult) (e : Errno) → refused y.state call ≡ None → (ended y call made).answer ≡ Refusal e → late_refusal call ≡ Some e
 unfolding ended refused
 call_answers y (Spawn pid uid home allowed privileged) made e h is = absurd (no_error Done e refl is)
 call_answers y (MapPages pid addr pages shared) made e h is = absurd (no_error (NewSegment y.state.next_segment) e refl is)
@@ -95,7 +95,7 @@ call_answers y (Pagemap pid) made e h is = absurd (no_error _ e refl is)
 call_answers y Vmstat made e h is = absurd (no_error _ e refl is)
 call_answers y (NumaMaps pid) made e h is = absurd (no_error _ e refl is)
 
-by_refusal : (y : SystemState) (call : Call) (made : Ran) (o : Option Errno) (e : Errno) → refused y.state call ≡ o → (unless o y (ended y call made)).answer ≡ Refusal e → ((unless o y (ended y call made)).system ≡ y) ⊎ (late_refusal call ≡ Some e)
+by_refusal : (y : SystemState) (call : Call) (made : RunResult) (o : Option Errno) (e : Errno) → refused y.state call ≡ o → (unless o y (ended y call made)).answer ≡ Refusal e → ((unless o y (ended y call made)).system ≡ y) ⊎ (late_refusal call ≡ Some e)
 by_refusal y call made (Some d) e r h = inl refl
 by_refusal y call made None e r h = inr (call_answers y call made e r h)
 

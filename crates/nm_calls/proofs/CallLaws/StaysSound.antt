@@ -18,8 +18,8 @@ use Rattle.nm_types.specs.State.{State}
 use Rattle.nm_types.proofs.Cases.{some_none}
 use Rattle.nm_model.specs.definitions.Cut.{Stretch}
 use Rattle.nm_model.specs.definitions.Run.{accesses_of, runs_from}
-use Rattle.nm_model.specs.definitions.Effect.{list_refusal, pages_of, set_online}
-use Rattle.nm_model.specs.definitions.Run.{Ran, run}
+use Rattle.nm_model.specs.definitions.Effect.{list_refusal, page_count, set_online}
+use Rattle.nm_model.specs.definitions.Run.{RunResult, run}
 use Rattle.nm_model.specs.definitions.Sound.{IsSound}
 use Rattle.nm_model.specs.definitions.Touch.{Access, Read, Write}
 use Rattle.nm_laws.proofs.Soundness.Called.{spawn_sound, map_sound, attach_sound, pin_sound, unpin_sound}
@@ -86,10 +86,10 @@ runs_sound k s (r ∷ runs) accesses h =
 module _ (y : SystemState) (h : IsSound y.state) where
   start_sound : (call : Call) → IsSound (start y call)
   unfolding start
-  start_sound (Mbind caller addr len mode nodes flags) = policy_sound y.state [] caller (addr / 4096) (addr / 4096 + pages_of len) (binding y.state caller addr len mode nodes).policy h
+  start_sound (Mbind caller addr len mode nodes flags) = policy_sound y.state [] caller (addr / 4096) (addr / 4096 + page_count len) (binding y.state caller addr len mode nodes).policy h
   start_sound call = h
 
-  made_of : Call → Ran
+  made_of : Call → RunResult
   made_of call = runs_from 0 (start y call) (runs_asked y call) (accesses_asked call)
 
   made_sound : (call : Call) → IsSound (made_of call).state

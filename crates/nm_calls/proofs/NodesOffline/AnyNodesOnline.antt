@@ -8,7 +8,7 @@ use Rattle.nm_types.specs.declared.request.Wanted.{Wanted}
 use Rattle.nm_types.specs.declared.request.Wanted.TheVariants.{At as Spot, Whole}
 use Rattle.nm_model.specs.definitions.Status.{status_or_move}
 use Rattle.nm_model.specs.definitions.Cut.{Stretch, all_to}
-use Rattle.nm_model.specs.definitions.Run.{Decision, moved_page, decision, one_request, Progress, each_request, with_free, with_all_free, frames_left, failures, with_counts, Ran, run}
+use Rattle.nm_model.specs.definitions.Run.{Decision, moved_page, decision, one_request, Progress, each_request, with_free, with_all_free, frames_left, failures, with_counts, RunResult, run}
 use Rattle.nm_model.specs.definitions.Run.{runs_from}
 use Rattle.nm_model.specs.definitions.Cut.{cut_within}
 use Rattle.nm_calls.specs.definitions.Passes.{without_frame, passes}
@@ -20,7 +20,7 @@ decision_with online o = record o { state = with_online online o.state }
 abbrev progress_with : List ℕ → Progress → Progress
 progress_with online p = record p { state = with_online online p.state }
 
-abbrev ran_with : List ℕ → Ran → Ran
+abbrev ran_with : List ℕ → RunResult → RunResult
 ran_with online r = record r { state = with_online online r.state }
 
 class_same : (online : List ℕ) (s : State) (target : ℕ) (w : Wanted) → status_or_move (with_online online s) target w ≡ status_or_move s target w
@@ -57,7 +57,7 @@ freed_same online s [] = refl
 freed_same online s (frame ∷ frames) = freed_same online (with_free s frame) frames
 
 -- what follows the requests of a run
-abbrev then_run : Progress → Ran
+abbrev then_run : Progress → RunResult
 then_run moves =
     record {
       state = with_counts (with_all_free moves.state (frames_left moves.taken)) (length moves.taken) (failures moves.statuses);
@@ -68,11 +68,11 @@ then_run moves =
 run_same : (online : List ℕ) (s : State) (target : ℕ) (ws : List Wanted) → run (with_online online s) target ws [] ≡ ran_with online (run s target ws [])
 run_same online s target ws =
     let moves = each_request s target ws in
-    let total : State → Ran = λ t. record { state = with_counts t (length moves.taken) (failures moves.statuses); statuses = moves.statuses; answers = [] ∷ [] } in
+    let total : State → RunResult = λ t. record { state = with_counts t (length moves.taken) (failures moves.statuses); statuses = moves.statuses; answers = [] ∷ [] } in
     ap then_run (each_same online s target ws) ∙ ap total (freed_same online moves.state (frames_left moves.taken))
 
 -- what follows a run
-abbrev then_runs : ℕ → List Stretch → Ran → Ran
+abbrev then_runs : ℕ → List Stretch → RunResult → RunResult
 then_runs k rs now =
     let rest = runs_from (k + 1) now.state rs [] in
     record { state = rest.state; statuses = now.statuses ++ rest.statuses; answers = now.answers ++ rest.answers }
@@ -81,11 +81,11 @@ runs_same : (k : ℕ) (online : List ℕ) (s : State) (rs : List Stretch) → ru
 runs_same k online s [] = refl
 runs_same k online s (r ∷ rs) =
     let now = run s r.target r.wanted [] in
-    let add : Ran → Ran = λ rest. record { state = rest.state; statuses = now.statuses ++ rest.statuses; answers = now.answers ++ rest.answers } in
+    let add : RunResult → RunResult = λ rest. record { state = rest.state; statuses = now.statuses ++ rest.statuses; answers = now.answers ++ rest.answers } in
     ap (then_runs k rs) (run_same online s r.target r.wanted) ∙ ap add (runs_same (k + 1) online now.state rs)
 
 -- what follows a pass
-abbrev then_passes : ℕ → List Stretch → List ℕ → List Wanted → Ran → List Stretch
+abbrev then_passes : ℕ → List Stretch → List ℕ → List Wanted → RunResult → List Stretch
 then_passes limit runs nodes wanted made = runs ++ passes limit made.state nodes (without_frame wanted made.statuses)
 
 passes_same : (limit : ℕ) (s : State) (online : List ℕ) (nodes : List ℕ) (wanted : List Wanted) → passes limit (with_online online s) nodes wanted ≡ passes limit s nodes wanted

@@ -22,8 +22,8 @@ use Rattle.nm_types.specs.declared.request.Wanted.TheVariants.{At as Spot, Whole
 use Rattle.nm_model.specs.definitions.Seen.{sight_at, is_pinned, page_or_error, page_seen}
 use Rattle.nm_model.specs.definitions.Status.{code, others_see, page_status, seen_status, status_or_move}
 use Rattle.nm_model.specs.definitions.Cut.{Stretch, in_front, cut, all_to}
-use Rattle.nm_model.specs.definitions.Cut.{pieces_in, pieces, within, cut_within}
-use Rattle.nm_model.specs.definitions.Run.{Decision, moved_page, decision, one_request, Progress, each_request, with_free, with_all_free, frames_left, failures, total_after, with_counts, Ran, run}
+use Rattle.nm_model.specs.definitions.Cut.{pieces_in, pieces, pieces_within, cut_within}
+use Rattle.nm_model.specs.definitions.Run.{Decision, moved_page, decision, one_request, Progress, each_request, with_free, with_all_free, frames_left, failures, total_after, with_counts, RunResult, run}
 use Rattle.nm_model.specs.definitions.Run.{runs_from}
 use Rattle.nm_laws.proofs.InFlight.Elsewhere.{IsElsewhere, status_elsewhere}
 use Rattle.nm_calls.specs.definitions.Passes.{without_frame}
@@ -224,7 +224,7 @@ cut_one node w (v ∷ vs) =
 pub pass_runs : (limit node : ℕ) (ws : List Wanted) → cut_within limit (all_to node ws) ≡ to_node node (pieces limit ws)
 pass_runs limit node [] = refl
 pass_runs limit node (w ∷ ws) =
-    ap (flat_map (within limit)) (cut_one node w ws) ∙ append-nil (within limit (record { target = node; wanted = w ∷ ws }))
+    ap (flat_map (pieces_within limit)) (cut_one node w ws) ∙ append-nil (pieces_within limit (record { target = node; wanted = w ∷ ws }))
 
 -- the pieces of a list are all of it
 pieces_flat : (limit : ℕ) (ws : List Wanted) (n : ℕ) → 0 < limit → length ws ≤ n → flat (pieces_in limit ws n) ≡ ws
@@ -306,7 +306,7 @@ each_fails s node (w ∷ ws) none h =
     ap (then_each node ws) short ∙ ap add (each_fails s node ws none h.1)
 
 -- what follows the requests of a run
-abbrev then_run : Progress → Ran
+abbrev then_run : Progress → RunResult
 then_run moves =
     record {
       state = with_counts (with_all_free moves.state (frames_left moves.taken)) (length moves.taken) (failures moves.statuses);
@@ -316,7 +316,7 @@ then_run moves =
 
 run_fails : (s : State) (node : ℕ) (ws : List Wanted) → free_list s node ≡ [] → AllByRecursion (WouldMove s node) ws → run s node ws [] ≡ record { state = with_counts s 0 (length ws); statuses = no_frame ws; answers = [] ∷ [] }
 run_fails s node ws none h =
-    let total : ℕ → Ran = λ n. record { state = with_counts s 0 n; statuses = no_frame ws; answers = [] ∷ [] } in
+    let total : ℕ → RunResult = λ n. record { state = with_counts s 0 n; statuses = no_frame ws; answers = [] ∷ [] } in
     ap then_run (each_fails s node ws none h) ∙ ap total (all_fail ws)
 
 counted_again : (s : State) (n m : ℕ) → with_counts (with_counts s 0 n) 0 m ≡ with_counts s 0 (n + m)
@@ -326,15 +326,15 @@ counted_again s n m =
     ap (λ x. record s { moved = x; failed = total_after (total_after s.failed n) m }) moved ∙ ap (λ x. record s { moved = total_after s.moved 0; failed = x }) failed
 
 -- this many have failed, and these of them last
-abbrev Fail : State → ℕ → List Wanted → Ran → Type 0
+abbrev Fail : State → ℕ → List Wanted → RunResult → Type 0
 Fail s n ws made = (made.state ≡ with_counts s 0 n) × (made.statuses ≡ no_frame ws)
 
 then_fail : (k : ℕ) (s t : State) (node n m : ℕ) (ws : List Wanted) (wss : List (List Wanted)) → run t node ws [] ≡ record { state = with_counts s 0 n; statuses = no_frame ws; answers = [] ∷ [] }
     → Fail s m (flat wss) (runs_from (k + 1) (with_counts s 0 n) (to_node node wss) []) → Fail s m (ws ++ flat wss) (runs_from k t (to_node node (ws ∷ wss)) [])
 then_fail k s t node n m ws wss first rest =
-    let after : Ran → Ran = λ now. runs_from (k + 1) now.state (to_node node wss) [] in (
-      ap (λ (now : Ran). (after now).state) first ∙ rest.0,
-      ap (λ (now : Ran). now.statuses ++ (after now).statuses) first ∙ ap (λ l. no_frame ws ++ l) rest.1 ∙ sym (map-append {B = ℤ} (λ w. code Enomem) ws (flat wss)),
+    let after : RunResult → RunResult = λ now. runs_from (k + 1) now.state (to_node node wss) [] in (
+      ap (λ (now : RunResult). (after now).state) first ∙ rest.0,
+      ap (λ (now : RunResult). now.statuses ++ (after now).statuses) first ∙ ap (λ l. no_frame ws ++ l) rest.1 ∙ sym (map-append {B = ℤ} (λ w. code Enomem) ws (flat wss)),
     )
 
 all_front : (P : Wanted → Type 0) (xs ys : List Wanted) → AllByRecursion P (xs ++ ys) → AllByRecursion P xs × AllByRecursion P ys
@@ -348,7 +348,7 @@ runs_fail k s node n (ws ∷ wss) none h =
     let t = with_counts s 0 n in
     let still = all_still (WouldMove s node) (WouldMove t node) ws (λ w e. (e.0, e.1, class_counted s 0 n node w ∙ e.2)) parts.0 in
     let m = length ws in
-    let count : State → Ran = λ u. record { state = u; statuses = no_frame ws; answers = [] ∷ [] } in
+    let count : State → RunResult = λ u. record { state = u; statuses = no_frame ws; answers = [] ∷ [] } in
     let first = run_fails t node ws none still ∙ ap count (counted_again s n m) in
     let e : n + m + length (flat wss) ≡ n + length (ws ++ flat wss) = omega (arith, length-append ws (flat wss)) in
     subst (λ j. Fail s j (ws ++ flat wss) (runs_from k t (to_node node (ws ∷ wss)) [])) e

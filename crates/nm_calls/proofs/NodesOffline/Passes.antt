@@ -7,7 +7,7 @@ use Rattle.nm_types.specs.declared.errno.Errno.TheVariants.{Enomem}
 use Rattle.nm_types.specs.State.{State}
 use Rattle.nm_types.specs.declared.request.Wanted.{Wanted}
 use Rattle.nm_model.specs.definitions.Status.{code}
-use Rattle.nm_model.specs.definitions.Cut.{Request, Stretch, all_to, joined, size_of, wanted_of}
+use Rattle.nm_model.specs.definitions.Cut.{Request, Stretch, all_to, all_requests, size_of, wanted_of}
 use Rattle.nm_model.specs.definitions.Cut.{cut_within}
 use Rattle.nm_runs.proofs.Pieces.{each_limit_cuts}
 use Rattle.std.specs.Prelude.{◌^◌, ◌==◌, drop}
@@ -118,10 +118,10 @@ all_left P (w ∷ ws) (z ∷ zs) h =
 pub alike_left : (ws : List Wanted) (zs : List ℤ) → HasOneAll ws → HasOneAll (without_frame ws zs)
 alike_left ws zs h = (h.0, all_left (λ w. moves_all w ≡ h.0) ws zs h.1)
 
-runs_few : (rs : List Stretch) → AllByRecursion (λ r. 0 < size_of r) rs → length rs ≤ length (joined rs)
+runs_few : (rs : List Stretch) → AllByRecursion (λ r. 0 < size_of r) rs → length rs ≤ length (all_requests rs)
 runs_few [] h = omega arith
 runs_few (r ∷ rs) h =
-    let parts = length-append (all_to r.target r.wanted) (joined rs) in
+    let parts = length-append (all_to r.target r.wanted) (all_requests rs) in
     let own = length-map {B = Request} r.wanted (λ w. record { target = r.target; wanted = w }) in
     let rest = runs_few rs h.1 in
     let some = h.0 in
@@ -141,7 +141,7 @@ some_run_of limit es some has = by_runs (cut_within limit es) refl
   where
     by_runs : (rs : List Stretch) → cut_within limit es ≡ rs → 0 < length rs
     by_runs [] e =
-        let none : length es ≡ 0 = sym (ap length (each_limit_cuts limit es some).is.same) ∙ ap (λ rs. length (joined rs)) e in
+        let none : length es ≡ 0 = sym (ap length (each_limit_cuts limit es some).is.same) ∙ ap (λ rs. length (all_requests rs)) e in
         absurd (omega (arith, none, has))
     by_runs (r ∷ rs) e = omega arith
 
@@ -191,14 +191,14 @@ one_more_left ws zs k w d b lt same iw ib =
     ∙ ap (λ b. without_frame (take k ws) (take k zs) ++ cond b (w ∷ []) []) (sym ib)
 
 -- runs give a status for each of their requests
-runs_statuses : (k : ℕ) (s : State) (rs : List Stretch) → length (runs_from k s rs []).statuses ≡ length (joined rs)
+runs_statuses : (k : ℕ) (s : State) (rs : List Stretch) → length (runs_from k s rs []).statuses ≡ length (all_requests rs)
 runs_statuses k s [] = refl
 runs_statuses k s (r ∷ rs) =
     let made = run s r.target r.wanted [] in
     let parts = length-append made.statuses (runs_from (k + 1) made.state rs []).statuses in
     let own = run_length s r.target r.wanted [] in
     let rest = runs_statuses (k + 1) made.state rs in
-    let requests = length-append (all_to r.target r.wanted) (joined rs) in
+    let requests = length-append (all_to r.target r.wanted) (all_requests rs) in
     let first = to_node_length r.target r.wanted in
     omega (arith, parts, own, rest, requests, first)
 

@@ -7,7 +7,7 @@ use Rattle.nm_types.specs.declared.area.Policy.{Policy}
 use Rattle.nm_types.specs.declared.area.Policy.TheVariants.{Default, Preferred, Bind, Interleave, Local}
 use Rattle.nm_types.specs.Nodes.{is_in}
 use Rattle.nm_types.specs.State.{State}
-use Rattle.nm_model.specs.definitions.Areas.{Mapped}
+use Rattle.nm_model.specs.definitions.Areas.{Mapping}
 use Rattle.nm_policy.specs.declared.targets.Sent.{Sent}
 use Rattle.nm_model.specs.definitions.Order.{zonelist}
 use Rattle.nm_policy.specs.Turns.{sent, sent_to, by_turns}
@@ -83,7 +83,7 @@ spots_length pid all [] = refl
 spots_length pid all (l ∷ ls) = ap suc (spots_length pid all ls)
 
 -- a policy other than INTERLEAVE has passes, whatever the areas
-pub passes_by : (s : State) (m : Mapped) (limit : ℕ) (policy : Policy) (home pid : ℕ) (all : Bool) (pages : List Located) → ((nodes : List ℕ) → policy ≡ Interleave nodes → ⊥)
+pub passes_by : (s : State) (m : Mapping) (limit : ℕ) (policy : Policy) (home pid : ℕ) (all : Bool) (pages : List Located) → ((nodes : List ℕ) → policy ≡ Interleave nodes → ⊥)
     → passes limit (with_areas_of s m) (nodes_tried s home policy) (requests_at pid all pages) ≡ runs_by limit (with_areas_of s m) policy home pid all pages
 passes_by s m limit Default home pid all pages h = refl
 passes_by s m limit (Preferred node) home pid all pages h = refl

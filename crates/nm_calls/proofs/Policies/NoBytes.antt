@@ -9,7 +9,7 @@ use Rattle.nm_types.specs.Map.{Map, same_page}
 use Rattle.nm_types.specs.State.{State}
 use Rattle.nm_policy.specs.Turns.{sent_to}
 use Rattle.nm_model.specs.definitions.Cut.{Stretch, cut_within}
-use Rattle.nm_model.specs.definitions.Effect.{areas_of, pages_of, repoliced, set_policy, with_areas_of}
+use Rattle.nm_model.specs.definitions.Effect.{areas_of, page_count, parts_with_policy, set_policy, with_areas_of}
 use Rattle.nm_model.specs.definitions.Order.{follows}
 use Rattle.nm_model.specs.definitions.Run.{runs_from}
 use Rattle.nm_model.specs.definitions.Seen.{between, located_in, sights}
@@ -85,8 +85,8 @@ stops_some set (HostMemory k policy_set) old new runs h = omega (arith, h.1)
 none_set : (s : State) (pid address : ℕ) (policy : Policy) → set_policy s pid address 0 policy ≡ s
 none_set s pid address policy =
     let first = address / 4096 in
-    let after = flat_map (repoliced pid first (first + pages_of 0) policy) s.areas in
-    ap (λ b. with_areas_of s (if b then record (areas_of s) { areas = after } else areas_of s)) (le-ltb first (first + pages_of 0) (omega arith))
+    let after = flat_map (parts_with_policy pid first (first + page_count 0) policy) s.areas in
+    ap (λ b. with_areas_of s (if b then record (areas_of s) { areas = after } else areas_of s)) (le-ltb first (first + page_count 0) (omega arith))
 
 module _ (y : SystemState) (caller addr mode : ℕ) (nodes : List ℕ) (flags : ℕ) where
   bound_none : mbind_refusal y.state caller addr 0 mode nodes flags ≡ None → outcome y (Mbind caller addr 0 mode nodes flags) ≡ record { answer = Failed 0; system = y }

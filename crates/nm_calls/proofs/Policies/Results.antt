@@ -7,7 +7,7 @@ use Rattle.nm_types.specs.declared.errno.Errno.{Errno}
 use Rattle.nm_types.specs.State.{State}
 use Rattle.nm_model.specs.definitions.Cut.{Stretch}
 use Rattle.nm_model.specs.definitions.Run.{runs_from}
-use Rattle.nm_model.specs.definitions.Effect.{pages_of}
+use Rattle.nm_model.specs.definitions.Effect.{page_count}
 use Rattle.nm_calls.specs.declared.call_error.CallError.{CallError}
 use Rattle.nm_calls.specs.declared.call_error.CallError.TheVariants.{Refused, HostMemory}
 use Rattle.nm_steps.specs.Calls.{Call, Mbind}
@@ -22,7 +22,7 @@ use Rattle.nm_calls.proofs.Outcomes.{LeavesSome, answers, refuses}
 use Rattle.nm_calls.proofs.CallLaws.RefusalsChangeNothing.{late_answer}
 
 -- a length of 64 bits has at most 2^52 pages
-pub pages_few : (first len : ℕ) → len < 2 ^ 64 → first + pages_of len - first ≤ 2 ^ 52
+pub pages_few : (first len : ℕ) → len < 2 ^ 64 → first + page_count len - first ≤ 2 ^ 52
 pages_few first len lt = omega (arith, lt)
 
 module _ (y : SystemState) (caller addr len mode : ℕ) (nodes : List ℕ) (flags : ℕ) where

@@ -5,7 +5,7 @@ use Rattle.nm_types.specs.declared.errno.Errno.{Errno}
 use Rattle.nm_types.specs.State.{State}
 use Rattle.nm_model.specs.definitions.Cut.{Request, Stretch, cut_within}
 use Rattle.nm_model.specs.definitions.Touch.{Access}
-use Rattle.nm_model.specs.definitions.Run.{Ran, failures, runs_from, batch}
+use Rattle.nm_model.specs.definitions.Run.{RunResult, failures, runs_from, batch}
 use Rattle.nm_memory.specs.views.Accesses.{answer_shown}
 use Rattle.nm_calls.specs.declared.call_error.CallError.{CallError}
 use Rattle.nm_calls.specs.declared.call_error.CallError.TheVariants.{Refused, HostMemory}
@@ -37,7 +37,7 @@ DoesOrRefuses view (Err e) old new call = outcome old call ≡ record { answer =
 
 -- what a call reports of runs: the statuses, how many failed, and the answers, in the order of accesses that name runs by
 -- these numbers; and the state after them
-abbrev pub Reports : {A : Type 0} → Moved A → State → List ℕ → Ran → Type 0
+abbrev pub Reports : {A : Type 0} → Moved A → State → List ℕ → RunResult → Type 0
 Reports moved new numbers made =
     (moved.statuses.items ≡ made.statuses) × (moved.failed ≡ failures made.statuses)
     × (map answer_shown moved.answers.items ≡ in_order numbers made.answers) × (new ≡ made.state)

@@ -21,7 +21,7 @@ use Rattle.nm_runs.specs.Targets.{earlier}
 use Rattle.nm_types.specs.declared.located.Located.{Located}
 use Rattle.nm_types.specs.declared.process.ProcessInfo.{ProcessInfo}
 use Rattle.nm_model.specs.definitions.Seen.{located_between}
-use Rattle.nm_model.specs.definitions.Effect.{pages_of, policy_refusal, set_policy}
+use Rattle.nm_model.specs.definitions.Effect.{page_count, policy_refusal, set_policy}
 use Rattle.nm_model.specs.definitions.Effect.{first_error}
 use Rattle.nm_calls.specs.declared.mbind.Binding.{Binding}
 use Rattle.nm_calls.specs.definitions.Migrate.{once}
@@ -80,7 +80,7 @@ home_of caller = unwrap_or (option_map (λ (i : ProcessInfo). i.home) caller) 0
 -- the page numbers of `len` bytes, and their policy
 abbrev pub range_of : ℕ → ℕ → ℕ → Policy → Binding
 range_of pid address len policy =
-    let first = address / 4096 in record { pid = pid; first = first; end = first + pages_of len; policy = policy }
+    let first = address / 4096 in record { pid = pid; first = first; end = first + page_count len; policy = policy }
 
 -- what a call asks for
 abbrev pub binding : State → ℕ → ℕ → ℕ → ℕ → List ℕ → Binding

@@ -8,7 +8,7 @@ use Rattle.nm_types.specs.State.{State, free_list}
 use Rattle.nm_areas.specs.Lines.{lines_of}
 use Rattle.nm_areas.specs.Splits.{HasSplit}
 use Rattle.nm_model.specs.definitions.AreaRefusal.{overlaps}
-use Rattle.nm_model.specs.definitions.Areas.{pages_of}
+use Rattle.nm_model.specs.definitions.Areas.{page_count}
 use Rattle.nm_model.specs.definitions.PageTables.{entries_of}
 use Rattle.nm_model.specs.definitions.Seen.{sight_at}
 use Rattle.nm_calls.specs.definitions.Mbind.{moves}
@@ -28,7 +28,7 @@ MayAllocate s (WriteBytes pid addr bytes) = (page : Page) → sight_at s pid (ad
 MayAllocate s (MovePages caller pid pages nodes flags during) = 0 < length pages + length during
 MayAllocate s (Query caller pid pages flags) = 0 < length pages
 MayAllocate s (Mbind caller addr len mode nodes flags) =
-    (0 < len) × ((moves flags ≡ true) ⊎ (HasSplit s.areas caller (addr / 4096) ⊎ HasSplit s.areas caller (addr / 4096 + pages_of len)))
+    (0 < len) × ((moves flags ≡ true) ⊎ (HasSplit s.areas caller (addr / 4096) ⊎ HasSplit s.areas caller (addr / 4096 + page_count len)))
 MayAllocate s (Offline node) = is_in s.online node ≡ true
 MayAllocate s (Online node) = ⊥
 MayAllocate s (FreeList node) = 0 < length (free_list s node)

@@ -10,7 +10,7 @@ use Rattle.nm_model.specs.definitions.Touch.{Access, read, write, site_refusal}
 use Rattle.nm_model.specs.definitions.Touch as engine
 use Rattle.nm_model.specs.definitions.Effect.{set_online, spawn, map_new, attach, unmap, exit, pin, unpin}
 use Rattle.nm_model.specs.definitions.Effect.{spawn_refusal, map_refusal, attach_refusal, unmap_refusal, exit_refusal, pin_refusal, unpin_refusal, list_refusal, entries_refusal}
-use Rattle.nm_model.specs.definitions.Run.{Ran, run}
+use Rattle.nm_model.specs.definitions.Run.{RunResult, run}
 use Rattle.nm_model.specs.definitions.Run.{accesses_of, failures, runs_from}
 use Rattle.nm_model.specs.definitions.Status.{node_status}
 use Rattle.nm_steps.specs.Calls.{Call, Spawn, MapPages, Attach, Unmap, Exit, Pin, Unpin, ReadBytes, WriteBytes, MovePages, MigratePages, Query, FreeList, Pagemap, Vmstat, NumaMaps, Mbind, Offline, Online}
@@ -110,7 +110,7 @@ emptied y node s stays = if stays then leaves y (Refusal Ebusy) s else leaves y 
 
 -- the answer after the runs of a call that is not refused before them, and the system then: mbind reports a page that
 -- does not follow its policy, and offline a page that stays, and the moves remain
-unfoldable pub ended : SystemState → Call → Ran → Outcome
+unfoldable pub ended : SystemState → Call → RunResult → Outcome
 ended y (Spawn pid uid home allowed privileged) made = leaves y Done (spawn y.state pid uid home allowed privileged)
 ended y (MapPages pid addr pages shared) made =
     leaves y (NewSegment y.state.next_segment) (map_new y.state pid addr pages shared)

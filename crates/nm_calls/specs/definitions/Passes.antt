@@ -8,7 +8,7 @@ use Rattle.nm_types.specs.declared.request.Wanted.{Wanted}
 use Rattle.nm_model.specs.definitions.Status.{code}
 use Rattle.nm_model.specs.definitions.Cut.{Stretch, all_to}
 use Rattle.nm_model.specs.definitions.Cut.{cut_within}
-use Rattle.nm_model.specs.definitions.Run.{Ran, batch}
+use Rattle.nm_model.specs.definitions.Run.{RunResult, batch}
 
 -- the requests that found no free frame
 abbrev pub without_frame : List Wanted → List ℤ → List Wanted
@@ -19,5 +19,5 @@ without_frame wanted statuses = map (λ e. e.0) (filter (λ e. int_eq e.1 (code 
 abbrev pub passes : ℕ → State → List ℕ → List Wanted → List Stretch
 passes limit s [] wanted = []
 passes limit s (node ∷ nodes) wanted =
-    let made : Ran = batch limit s (all_to node wanted) [] in
+    let made : RunResult = batch limit s (all_to node wanted) [] in
     cut_within limit (all_to node wanted) ++ passes limit made.state nodes (without_frame wanted made.statuses)

@@ -5,7 +5,7 @@ use Rattle.nm_types.specs.State.{State}
 use Rattle.nm_model.specs.definitions.Status.{code}
 use Rattle.nm_model.specs.definitions.Effect.{map_new, attach}
 use Rattle.nm_model.specs.definitions.Touch.{Access, Read, Write, Bytes, Done, Held, Refused}
-use Rattle.nm_model.specs.examples.{A, B, C, D, E, three_pages, four_of_five, six_pages, shared_page, frame_at}
+use Rattle.nm_model.specs.examples.{A, B, C, D, E, three_pages, four_of_five, six_pages, shared_page, frame_shown_at}
 use Rattle.nm_steps.specs.Calls.{MovePages}
 use Rattle.nm_calls.specs.definitions.Answers.{Statuses, Refusal}
 use Rattle.nm_calls.specs.definitions.Systems.{SystemState}
@@ -39,7 +39,7 @@ abbrev pub HeldAtEachAddress : Type 0
 HeldAtEachAddress =
     let o = moving (attach shared_page 1 0x30000 0 0 1) (0x20000 ∷ []) (1 ∷ []) ((0, Read 1 0x30000 1) ∷ []) in
     (o.answer ≡ Statuses 0 (pos 1 ∷ []) (Held ∷ []))
-    × (frame_at o.system.state 1 0x20000 ≡ Some 4) × (frame_at o.system.state 1 0x30000 ≡ None)
+    × (frame_shown_at o.system.state 1 0x20000 ≡ Some 4) × (frame_shown_at o.system.state 1 0x30000 ≡ None)
 
 -- an access that is refused for its process or its bytes is refused even if its page moves
 abbrev pub RefusedBeforeHeld : Type 0

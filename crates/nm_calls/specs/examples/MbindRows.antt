@@ -7,7 +7,7 @@ use Rattle.nm_model.specs.definitions.Cut.{Stretch}
 use Rattle.nm_model.specs.definitions.Effect.{new_machine, spawn, map_new, attach, pin}
 use Rattle.nm_model.specs.definitions.Effect.{map_refusal}
 use Rattle.nm_model.specs.definitions.Touch.{read, write, Bytes, Refused}
-use Rattle.nm_model.specs.examples.{A, B, C, D, E, three_nodes, one_process, with_second, wrote, three_pages, seen_by_two, frame_at}
+use Rattle.nm_model.specs.examples.{A, B, C, D, E, three_nodes, one_process, with_second, wrote, three_pages, seen_by_two, frame_shown_at}
 use Rattle.nm_steps.specs.Calls.{Call, Mbind, default_limit}
 use Rattle.nm_calls.specs.definitions.Answers.{Answer, Refusal, Failed}
 use Rattle.nm_calls.specs.definitions.Outcome.{Outcome, outcome, runs_of, after_runs}
@@ -75,7 +75,7 @@ pub record Left : Type 0 where
 
 abbrev pub left_in : State → List ℕ → Left
 left_in s addresses =
-    record { free = s.free; moved = s.moved; failed = s.failed; frames = map (frame_at s 1) addresses }
+    record { free = s.free; moved = s.moved; failed = s.failed; frames = map (frame_shown_at s 1) addresses }
 
 -- two pages, the second of which has a pin
 abbrev pub second_pinned : State
@@ -125,7 +125,7 @@ abbrev pub NewPagesTakeTurns : Type 0
 NewPagesTakeTurns =
     let s = after (map_new one_process 1 A 4 false) (ask A 16384 MPOL_INTERLEAVE (0 ∷ 1 ∷ []) 2) in
     let t = wrote (wrote (wrote (wrote s 1 A 0x61) 1 B 0x62) 1 C 0x63) 1 D 0x64 in
-    (map (frame_at t 1) (A ∷ B ∷ C ∷ D ∷ []) ≡ Some 0 ∷ Some 4 ∷ Some 1 ∷ Some 5 ∷ [])
+    (map (frame_shown_at t 1) (A ∷ B ∷ C ∷ D ∷ []) ≡ Some 0 ∷ Some 4 ∷ Some 1 ∷ Some 5 ∷ [])
     × (numa_maps t 1 ≡ codes "00010000 interleave:0-1 anon=4 N0=2 N1=2 kernelpagesize_kB=4" ∷ [])
 
 -- new pages go only to the nodes that they are bound to
@@ -133,7 +133,7 @@ abbrev pub BoundPagesGoNowhereElse : Type 0
 BoundPagesGoNowhereElse =
     let s = after (map_new one_process 1 A 5 false) (ask A 20480 MPOL_BIND (1 ∷ []) 2) in
     let t = wrote (wrote (wrote (wrote s 1 A 0x61) 1 B 0x62) 1 C 0x63) 1 D 0x64 in
-    (map (frame_at t 1) (A ∷ B ∷ C ∷ D ∷ []) ≡ Some 4 ∷ Some 5 ∷ Some 6 ∷ Some 7 ∷ [])
+    (map (frame_shown_at t 1) (A ∷ B ∷ C ∷ D ∷ []) ≡ Some 4 ∷ Some 5 ∷ Some 6 ∷ Some 7 ∷ [])
     × ((write t 1 E (0x65 ∷ [])).answer ≡ Refused Enomem) × (t.free ≡ (0 ∷ 1 ∷ 2 ∷ 3 ∷ []) ∷ [] ∷ [])
 
 -- nodes of four frames, one frame and four frames, all equally far apart
@@ -214,7 +214,7 @@ BindingsAreRefused =
 -- one byte of a page counts as the page
 abbrev pub LastByteCounts : Type 0
 LastByteCounts =
-    map (frame_at (after three_pages (ask A 4097 MPOL_PREFERRED (1 ∷ []) 2)) 1) (A ∷ B ∷ C ∷ [])
+    map (frame_shown_at (after three_pages (ask A 4097 MPOL_PREFERRED (1 ∷ []) 2)) 1) (A ∷ B ∷ C ∷ [])
     ≡ Some 4 ∷ Some 5 ∷ Some 2 ∷ []
 
 -- three pages from an odd page number on, on node 0 of three
@@ -257,7 +257,7 @@ SharedPagesMoveWithAll =
     × (answer seen_by_two (ask 0x20000 4096 MPOL_BIND (1 ∷ []) 3) ≡ Refusal Eio)
     × (numa_maps (after seen_by_two (ask 0x20000 4096 MPOL_BIND (1 ∷ []) 3)) 1
     ≡ codes "00020000 bind:1 anon=1 mapmax=2 N0=1 kernelpagesize_kB=4" ∷ [])
-    × (map (λ pid. frame_at all pid 0x20000) (1 ∷ 2 ∷ 3 ∷ []) ≡ Some 4 ∷ Some 4 ∷ Some 4 ∷ [])
+    × (map (λ pid. frame_shown_at all pid 0x20000) (1 ∷ 2 ∷ 3 ∷ []) ≡ Some 4 ∷ Some 4 ∷ Some 4 ∷ [])
 
 -- two or more consecutive nodes are written as the first and the last
 abbrev pub SetsAsText : Type 0

@@ -4,7 +4,7 @@ use Rattle.nm_types.specs.declared.errno.Errno.TheVariants.{Eperm, Esrch, Einval
 use Rattle.nm_types.specs.Layout.{Layout}
 use Rattle.nm_types.specs.State.{State}
 use Rattle.nm_model.specs.definitions.Effect.{new_machine, spawn, map_new, pin}
-use Rattle.nm_model.specs.examples.{A, B, C, one_process, with_second, wrote, three_pages, two_addresses, six_pages, seen_by_two, on_two_of_three, frame_at}
+use Rattle.nm_model.specs.examples.{A, B, C, one_process, with_second, wrote, three_pages, two_addresses, six_pages, seen_by_two, on_two_of_three, frame_shown_at}
 use Rattle.nm_steps.specs.Calls.{default_limit, Call, MigratePages}
 use Rattle.nm_calls.specs.definitions.Systems.{SystemState}
 use Rattle.nm_calls.specs.definitions.Answers.{Answer, Failed}
@@ -36,7 +36,7 @@ pub record Left : Type 0 where
 -- what a state shows of this
 abbrev pub left_in : State → List ℕ → Left
 left_in s addresses =
-    record { free = s.free; moved = s.moved; failed = s.failed; frames = map (frame_at s 1) addresses }
+    record { free = s.free; moved = s.moved; failed = s.failed; frames = map (frame_shown_at s 1) addresses }
 
 -- pages on nodes 0 and 1 go to nodes 1 and 2: the page on node 1 goes first, and no page goes on to node 2 through node
 -- 1
@@ -85,7 +85,7 @@ SharedPageGoesByPrivilege =
     let there = after (with_third seen_by_two) by_third in
     (answer seen_by_two call ≡ Failed 0) × (after seen_by_two call ≡ seen_by_two)
     × (answer (with_third seen_by_two) by_third ≡ Failed 0)
-    × (map (λ pid. frame_at there pid 0x20000) (1 ∷ 2 ∷ []) ≡ Some 4 ∷ Some 4 ∷ [])
+    × (map (λ pid. frame_shown_at there pid 0x20000) (1 ∷ 2 ∷ []) ≡ Some 4 ∷ Some 4 ∷ [])
 
 -- process 4 may use node 0 only
 abbrev pub four_processes : State
@@ -133,7 +133,7 @@ abbrev pub SizesOfWhatIsKept : Type 0
 SizesOfWhatIsKept =
     let call = MigratePages 1 0 (0 ∷ 1 ∷ []) (1 ∷ 2 ∷ 3 ∷ []) in
     (answer without_last call ≡ Failed 0)
-    × (map (frame_at (after without_last call) 1) (A ∷ B ∷ C ∷ []) ≡ Some 3 ∷ Some 2 ∷ Some 4 ∷ [])
+    × (map (frame_shown_at (after without_last call) 1) (A ∷ B ∷ C ∷ []) ≡ Some 3 ∷ Some 2 ∷ Some 4 ∷ [])
 
 -- a page at two addresses is listed once: it moves once, and fails once if it has a pin
 abbrev pub PageIsListedOnce : Type 0

@@ -5,7 +5,7 @@ use Rattle.nm_types.specs.Layout.{Layout}
 use Rattle.nm_types.specs.State.{State}
 use Rattle.nm_model.specs.definitions.Effect.{new_machine, spawn, map_new, exit, pin, set_online}
 use Rattle.nm_model.specs.definitions.Touch.{read, write, Bytes, Refused}
-use Rattle.nm_model.specs.examples.{A, B, C, D, E, one_process, wrote, three_pages, attached_by_two, seen_by_two, frame_at}
+use Rattle.nm_model.specs.examples.{A, B, C, D, E, one_process, wrote, three_pages, attached_by_two, seen_by_two, frame_shown_at}
 use Rattle.nm_steps.specs.Calls.{Call, MovePages, MigratePages, Mbind, Offline}
 use Rattle.nm_calls.specs.definitions.Answers.{Answer, Refusal, Done, Failed}
 use Rattle.nm_calls.specs.definitions.Outcome.{refused, outcome, trail, after_runs}
@@ -45,9 +45,9 @@ filled_up = wrote (map_new first_offline 1 D 2 false) 1 D 0x64
 -- no frame is taken from an offline node; the last online node stays online; once online again, the node serves frames
 abbrev pub NothingIsTakenOffline : Type 0
 NothingIsTakenOffline =
-    (frame_at filled_up 1 D ≡ Some 7) × ((write filled_up 1 E (0x65 ∷ [])).answer ≡ Refused Enomem)
+    (frame_shown_at filled_up 1 D ≡ Some 7) × ((write filled_up 1 E (0x65 ∷ [])).answer ≡ Refused Enomem)
     × (answer filled_up (Offline 1) ≡ Refusal Ebusy) × (list_refusal filled_up 0 ≡ None)
-    × (frame_at (wrote (set_online filled_up 0 true) 1 E 0x65) 1 E ≡ Some 3)
+    × (frame_shown_at (wrote (set_online filled_up 0 true) 1 E 0x65) 1 E ≡ Some 3)
 
 -- a page with a pin keeps its node online, and the moves stay
 abbrev pub PinnedPageKeepsItsNode : Type 0
@@ -98,7 +98,7 @@ abbrev pub SharedPageLeavesItsNode : Type 0
 SharedPageLeavesItsNode =
     let s = after seen_by_two (Offline 0) in
     (answer seen_by_two (Offline 0) ≡ Done)
-    × (map (λ pid. frame_at s pid 0x20000) (1 ∷ 2 ∷ []) ≡ Some 4 ∷ Some 4 ∷ [])
+    × (map (λ pid. frame_shown_at s pid 0x20000) (1 ∷ 2 ∷ []) ≡ Some 4 ∷ Some 4 ∷ [])
     × (map (λ pid. (read s pid 0x20000 1).answer) (1 ∷ 2 ∷ []) ≡ Bytes (0x61 ∷ []) ∷ Bytes (0x61 ∷ []) ∷ [])
     × (answer s (Offline 0) ≡ Done) × (after s (Offline 0) ≡ s)
     × (refused s (Offline 9) ≡ Some Einval) × (list_refusal s 9 ≡ Some Einval)
@@ -124,7 +124,7 @@ in_a_row =
 abbrev pub NearestNodeFirst : Type 0
 NearestNodeFirst =
     let s = wrote (map_new (spawn (new_machine in_a_row) 1 100 1 (0 ∷ 1 ∷ 2 ∷ []) false) 1 A 1 false) 1 A 0x61 in
-    frame_at (after s (Offline 1)) 1 A ≡ Some 8
+    frame_shown_at (after s (Offline 1)) 1 A ≡ Some 8
 
 -- the last online node stays online, even if no page is on it
 abbrev pub LastNodeStays : Type 0
@@ -136,5 +136,5 @@ LastNodeStays =
 abbrev pub PagesGoBySegment : Type 0
 PagesGoBySegment =
     let s = wrote (wrote (map_new (map_new one_process 1 C 1 false) 1 A 1 false) 1 A 0x61) 1 C 0x62 in
-    (map (frame_at s 1) (A ∷ C ∷ []) ≡ Some 0 ∷ Some 1 ∷ [])
-    × (map (frame_at (after s (Offline 0)) 1) (A ∷ C ∷ []) ≡ Some 5 ∷ Some 4 ∷ [])
+    (map (frame_shown_at s 1) (A ∷ C ∷ []) ≡ Some 0 ∷ Some 1 ∷ [])
+    × (map (frame_shown_at (after s (Offline 0)) 1) (A ∷ C ∷ []) ≡ Some 5 ∷ Some 4 ∷ [])

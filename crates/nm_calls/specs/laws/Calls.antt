@@ -7,7 +7,7 @@ use Rattle.nm_types.specs.State.{State}
 use Rattle.nm_model.specs.definitions.Cut.{Stretch, requests_of}
 use Rattle.nm_model.specs.definitions.Memory.{mem}
 use Rattle.nm_model.specs.definitions.Touch.{Access, AccessAnswer}
-use Rattle.nm_model.specs.definitions.Run.{runs_from, batch, answer_of}
+use Rattle.nm_model.specs.definitions.Run.{runs_from, batch, batch_answer}
 use Rattle.nm_model.specs.definitions.Sound.{IsSound}
 use Rattle.nm_laws.specs.Laws.{runs_written}
 use Rattle.nm_steps.specs.Calls.{Call, MapPages, Attach, Unmap, Exit, WriteBytes, MovePages, MigratePages, Mbind, Offline}
@@ -40,7 +40,7 @@ MovePagesIsABatch =
     let call = MovePages caller pid pages nodes flags during in
     refused y.state call ≡ None →
     let made = batch y.run_limit y.state (requests_of (owner_of caller pid) (moves_all flags) pages nodes) during in
-    outcome y call ≡ leaves y (Statuses (answer_of made) made.statuses (in_order (keys_of during) made.answers)) made.state
+    outcome y call ≡ leaves y (Statuses (batch_answer made) made.statuses (in_order (keys_of during) made.answers)) made.state
 
 -- so is migrate_pages, of the pages that it lists
 abbrev pub MigrationIsABatch : Type 0
@@ -49,7 +49,7 @@ MigrationIsABatch =
     let call = MigratePages caller pid old new in
     refused y.state call ≡ None →
     let made = batch y.run_limit y.state (migration y.state caller pid old new) [] in
-    outcome y call ≡ leaves y (Failed (answer_of made)) made.state
+    outcome y call ≡ leaves y (Failed (batch_answer made)) made.state
 
 -- the state at index `n` of the trail is that after the first `n` runs, made one after another
 abbrev pub TrailIsAfterRuns : Type 0

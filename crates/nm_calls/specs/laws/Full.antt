@@ -9,7 +9,7 @@ use Rattle.nm_types.specs.declared.request.Wanted.{Wanted}
 use Rattle.nm_model.specs.definitions.Status.{status_or_move}
 use Rattle.nm_model.specs.definitions.Cut.{all_to}
 use Rattle.nm_model.specs.definitions.Cut.{cut_within}
-use Rattle.nm_model.specs.definitions.Run.{Ran, with_counts, batch}
+use Rattle.nm_model.specs.definitions.Run.{RunResult, with_counts, batch}
 use Rattle.nm_calls.specs.definitions.Passes.{without_frame}
 
 -- this asks for a page that is on this node
@@ -21,7 +21,7 @@ abbrev pub WouldMove : State → ℕ → Wanted → Type 0
 WouldMove s node w = (page : Page) × (from : ℕ) × (status_or_move s node w ≡ Move page from)
 
 -- the state and the statuses after a pass over a node
-abbrev pub pass : ℕ → State → ℕ → List Wanted → Ran
+abbrev pub pass : ℕ → State → ℕ → List Wanted → RunResult
 pass limit s node wanted = batch limit s (all_to node wanted) []
 
 -- how many runs a batch of this many requests for one node has: their number divided by the limit, rounded up

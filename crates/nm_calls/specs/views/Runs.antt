@@ -6,7 +6,7 @@ use Rattle.nm_types.specs.declared.area.Policy.TheVariants.{Default, Preferred, 
 use Rattle.nm_types.specs.declared.errno.Errno.TheVariants.{Eio, Ebusy}
 use Rattle.nm_types.specs.State.{State}
 use Rattle.nm_model.specs.definitions.Cut.{Request, Stretch, cut_within}
-use Rattle.nm_model.specs.definitions.Run.{Ran, HasOneAll, runs_from, batch}
+use Rattle.nm_model.specs.definitions.Run.{RunResult, HasOneAll, runs_from, batch}
 use Rattle.nm_model.specs.definitions.Effect.{set_online}
 use Rattle.nm_calls.specs.declared.mbind.Binding.{Binding}
 use Rattle.nm_calls.specs.declared.passes.Left.{Left}
@@ -41,12 +41,12 @@ nodes_named (Interleave nodes) = nodes
 nodes_named Local = []
 
 -- runs without accesses are made with this result; or the host runs out of memory for one of them
-abbrev pub RunsGive : {T : Type 0} → Result T CallError → State → State → List Stretch → (T → Ran → Type 0) → Type 0
+abbrev pub RunsGive : {T : Type 0} → Result T CallError → State → State → List Stretch → (T → RunResult → Type 0) → Type 0
 RunsGive (Ok value) old new runs Gives = let made = runs_from 0 old runs [] in (new ≡ made.state) × Gives value made
 RunsGive (Err e) old new runs Gives = LacksMemory e old new runs []
 
 -- a batch without accesses is made with this result, under a limit; or the host runs out of memory for one of its runs
-abbrev pub Batches : {T : Type 0} → Result T CallError → State → State → ℕ → List Request → (T → Ran → Type 0) → Type 0
+abbrev pub Batches : {T : Type 0} → Result T CallError → State → State → ℕ → List Request → (T → RunResult → Type 0) → Type 0
 Batches (Ok value) old new limit requests Gives =
     let made = batch limit old requests [] in (new ≡ made.state) × Gives value made
 Batches (Err e) old new limit requests Gives = LacksMemory e old new (cut_within limit requests) []

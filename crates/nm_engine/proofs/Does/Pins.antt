@@ -15,7 +15,7 @@ use Rattle.nm_engine.specs.definitions.Does.{Alters}
 use Rattle.nm_spaces.specs.views.AddressSpaces.{AddressSpacesView, with_pins_of}
 use Rattle.nm_memory.specs.views.Frames.{FramesView}
 use Rattle.nm_engine.specs.views.Shown.{shown_by}
-use Rattle.nm_model.specs.definitions.Sound.{IsSoundMidRun}
+use Rattle.nm_model.specs.definitions.Sound.{IsSoundInFlight}
 use Rattle.nm_engine.specs.views.MidRun.{IsKept}
 use Rattle.nm_laws.proofs.Soundness.Called.{repinned_sound, few_pins}
 use Rattle.nm_model.proofs.looks.{sees_page}
@@ -29,7 +29,7 @@ module _ (y z : AddressSpacesView) (k : FramesView) (online : List ℕ) (moved f
   pinned_kept (Err e) most ok err = subst (λ (w : AddressSpacesView). IsKept (shown_by w k online moved failed) k.vacated w.frames) (sym err) kept
 
 -- one pin fewer
-pub one_fewer : (s : State) (l : List ℕ) (page : Page) → IsSoundMidRun s l → (r : Result (Unit {0}) Errno) → OnOk r (pins_of s page - 1 ≤ 65535)
+pub one_fewer : (s : State) (l : List ℕ) (page : Page) → IsSoundInFlight s l → (r : Result (Unit {0}) Errno) → OnOk r (pins_of s page - 1 ≤ 65535)
 one_fewer s l page sound (Ok done) = let few = few_pins s l page sound in omega (arith, few)
 one_fewer s l page sound (Err e) = tt
 
@@ -47,7 +47,7 @@ err_then (Ok done) f p = tt
 err_then (Err e) f p = f p
 
 -- a page that a process sees at an address, stated for the machine and shown by its parts
-module _ (s now : State) (l : List ℕ) (is : s ≡ now) (pid address : ℕ) (page : Page) (sound : IsSoundMidRun s l) (known : is_unknown now pid ≡ false) (seen : sight_at now pid (address / 4096) ≡ Some (Sees page)) where
+module _ (s now : State) (l : List ℕ) (is : s ≡ now) (pid address : ℕ) (page : Page) (sound : IsSoundInFlight s l) (known : is_unknown now pid ≡ false) (seen : sight_at now pid (address / 4096) ≡ Some (Sees page)) where
   seen_inside : sight_at s pid (address / 4096) ≡ Some (Sees page)
   seen_inside = subst (λ (t : State). sight_at t pid (address / 4096) ≡ Some (Sees page)) (sym is) seen
 

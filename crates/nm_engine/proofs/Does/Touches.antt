@@ -17,7 +17,7 @@ use Rattle.nm_engine.specs.declared.resolved_address.ResolvedAddress.{ResolvedAd
 use Rattle.nm_types.specs.declared.process.ProcessInfo.{ProcessInfo}
 use Rattle.nm_model.specs.definitions.Effect.{info_of, seeing}
 use Rattle.nm_model.specs.definitions.Areas.{is_shared}
-use Rattle.nm_model.specs.definitions.Touch.{AccessSite, site, site_of, site_over, shown_at, first_free, allocated, filled, with_sight, with_bytes, touched_entry, touched, touch}
+use Rattle.nm_model.specs.definitions.Touch.{AccessSite, site, site_of, site_over, shown_at, first_free, allocate_page, fill_page, with_sight, with_bytes, touch_sight, touch_site, touch}
 use Rattle.nm_engine.specs.views.Shown.{PagedFrames}
 use Rattle.nm_engine.proofs.Shown.PagedFrames.{HasItsFrames, free_of, stock_page}
 use Rattle.nm_model.specs.views.Table.{Table}
@@ -66,21 +66,21 @@ pub found_free : (free : List (List ℕ)) (order : List ℕ) (node : ℕ) → fi
 found_free free order node h = some_length _ (has_front free order node h)
 
 module _ {c : ℕ} (tasks : Map ℕ Process) (m : Table) (x : PagedFrames) (online : List ℕ) (moved failed : ℕ) (l : List ℕ) (t : ResolvedAddress) (p : Process) (a : Placed)
-    (kept : IsKept (shown tasks m x online moved failed) l c) (touched : IsSiteOf tasks m.areas t p a) where
+    (kept : IsKept (shown tasks m x online moved failed) l c) (touch_site : IsSiteOf tasks m.areas t p a) where
   -- the process sees something else
   pub seen_kept : (sight : Sight) (new : Map ℕ Process) → new ≡ replace nat_cmp tasks t.pid (seeing p t.vpn sight) → Fits (shown tasks m x online moved failed) (access_site t p a) sight
       → ((q : Page) → sight_at (shown tasks m x online moved failed) t.pid t.vpn ≡ Some (Sees q) → ⊥) → IsKept (shown new m x online moved failed) l c
   seen_kept sight new is fits unseen =
       subst (λ ps. IsKept (shown ps m x online moved failed) l c) (sym is)
       (record {
-        sound = with_sight_sound (shown tasks m x online moved failed) l (access_site t p a) sight kept.sound (spot_there (shown tasks m x online moved failed) t p a touched) fits unseen;
+        sound = with_sight_sound (shown tasks m x online moved failed) l (access_site t p a) sight kept.sound (spot_there (shown tasks m x online moved failed) t p a touch_site) fits unseen;
         as_many = kept.as_many;
       })
 
   pub sees_now : (sight : Sight) (new : Map ℕ Process) → new ≡ replace nat_cmp tasks t.pid (seeing p t.vpn sight) → sight_in (get nat_cmp new t.pid) t.vpn ≡ Some sight
   sees_now sight new is =
       ap (λ (ps : Map ℕ Process). sight_in (get nat_cmp ps t.pid) t.vpn) is
-      ∙ sight_here (shown tasks m x online moved failed) (access_site t p a) sight (spot_there (shown tasks m x online moved failed) t p a touched)
+      ∙ sight_here (shown tasks m x online moved failed) (access_site t p a) sight (spot_there (shown tasks m x online moved failed) t p a touch_site)
 
   -- the page has a frame then
   pub filled_shows : (node : ℕ) (new : Map ℕ Process) (after : PagedFrames) → HasItsFrames x → new ≡ replace nat_cmp tasks t.pid (seeing p t.vpn (Sees t.page)) → after ≡ stock_page x t.page node
@@ -90,7 +90,7 @@ module _ {c : ℕ} (tasks : Map ℕ Process) (m : Table) (x : PagedFrames) (onli
       ap (λ y. shown new m y online moved failed) to
       ∙ page_stocked_shows new m x online moved failed paged_frames t.page node unplaced some
       ∙ ap (λ ps. placed_front (shown ps m x online moved failed) node (free_of x node) t.page) is
-      ∙ ap (λ q. with_sight (placed_front (shown tasks m x online moved failed) node (free_of x node) q) (access_site t p a) (Sees q)) (sym touched.page)
+      ∙ ap (λ q. with_sight (placed_front (shown tasks m x online moved failed) node (free_of x node) q) (access_site t p a) (Sees q)) (sym touch_site.page)
 
   pub filled_kept : (node : ℕ) (new : Map ℕ Process) (after : PagedFrames) → HasItsFrames x → new ≡ replace nat_cmp tasks t.pid (seeing p t.vpn (Sees t.page)) → after ≡ stock_page x t.page node
       → get page_cmp x.place t.page ≡ None → 0 < length (free_of x node) → ((q : Page) → sight_at (shown tasks m x online moved failed) t.pid t.vpn ≡ Some (Sees q) → ⊥)
@@ -98,36 +98,36 @@ module _ {c : ℕ} (tasks : Map ℕ Process) (m : Table) (x : PagedFrames) (onli
   filled_kept node new after paged_frames is to unplaced some unseen =
       subst (λ s. IsKept s l c) (sym (filled_shows node new after paged_frames is to unplaced some))
       (record {
-        sound = placed_sound (shown tasks m x online moved failed) l (access_site t p a) node kept.sound (spot_there (shown tasks m x online moved failed) t p a touched) unseen
-            (subst (λ q. get page_cmp x.place q ≡ None) (sym touched.page) unplaced) (ne_eqb (length (free_of x node)) 0 (λ e. absurd (omega (arith, e, some))));
+        sound = placed_sound (shown tasks m x online moved failed) l (access_site t p a) node kept.sound (spot_there (shown tasks m x online moved failed) t p a touch_site) unseen
+            (subst (λ q. get page_cmp x.place q ≡ None) (sym touch_site.page) unplaced) (ne_eqb (length (free_of x node)) 0 (λ e. absurd (omega (arith, e, some))));
         as_many = kept.as_many;
       })
 
   -- and that is what the definition says
   pub filled_is : (node : ℕ) → first_free x.free (first_touch_order x.layout online t.info.home t.info.allowed t.policy t.page.index) ≡ Some node
-      → filled (shown tasks m x online moved failed) (access_site t p a)
+      → fill_page (shown tasks m x online moved failed) (access_site t p a)
       ≡ Ok (with_sight (placed_front (shown tasks m x online moved failed) node (free_of x node) (shown_at (access_site t p a))) (access_site t p a) (Sees (shown_at (access_site t p a))))
   filled_is node found =
       let order : first_touch_order x.layout online p.home p.allowed a.1.policy (page_of a t.vpn).index ≡ first_touch_order x.layout online t.info.home t.info.allowed t.policy t.page.index =
-      λ i. first_touch_order x.layout online (touched.info i).home (touched.info i).allowed (touched.policy i) (touched.page i).index in
-      ap (allocated (shown tasks m x online moved failed) (access_site t p a)) (ap (first_free x.free) order ∙ found)
+      λ i. first_touch_order x.layout online (touch_site.info i).home (touch_site.info i).allowed (touch_site.policy i) (touch_site.page i).index in
+      ap (allocate_page (shown tasks m x online moved failed) (access_site t p a)) (ap (first_free x.free) order ∙ found)
 
   -- a private page that the process does not see has no frame
   pub private_here : is_shared m.segments t.page.segment ≡ false → is_shared m.segments (shown_at (access_site t p a)).segment ≡ false
-  private_here private = ap (λ (q : Page). is_shared m.segments q.segment) touched.page ∙ private
+  private_here private = ap (λ (q : Page). is_shared m.segments q.segment) touch_site.page ∙ private
 
   pub private_unplaced_here : ((q : Page) → sight_at (shown tasks m x online moved failed) t.pid t.vpn ≡ Some (Sees q) → ⊥) → is_shared m.segments t.page.segment ≡ false
       → get page_cmp x.place t.page ≡ None
   private_unplaced_here unseen private =
-      ap (get page_cmp x.place) (sym touched.page)
-      ∙ private_unplaced (shown tasks m x online moved failed) l (access_site t p a) kept.sound (spot_there (shown tasks m x online moved failed) t p a touched) unseen (private_here private)
+      ap (get page_cmp x.place) (sym touch_site.page)
+      ∙ private_unplaced (shown tasks m x online moved failed) l (access_site t p a) kept.sound (spot_there (shown tasks m x online moved failed) t p a touch_site) unseen (private_here private)
 
   -- where the process sees the page of zeros, its page is private
   pub zero_unplaced : sight_at (shown tasks m x online moved failed) t.pid t.vpn ≡ Some ZeroPage → get page_cmp x.place t.page ≡ None
   zero_unplaced sees =
       let zero = kept.sound.zeros t.pid t.vpn sees in
-      let same : zero.0 ≡ shown_at (access_site t p a) = some_is (sym zero.1 ∙ page_at_spot (shown tasks m x online moved failed) (access_site t p a) (spot_there (shown tasks m x online moved failed) t p a touched)) in
-      private_unplaced_here (zero_sees sees) (ap (λ (q : Page). is_shared m.segments q.segment) (sym touched.page ∙ sym same) ∙ zero.2)
+      let same : zero.0 ≡ shown_at (access_site t p a) = some_is (sym zero.1 ∙ page_at_spot (shown tasks m x online moved failed) (access_site t p a) (spot_there (shown tasks m x online moved failed) t p a touch_site)) in
+      private_unplaced_here (zero_sees sees) (ap (λ (q : Page). is_shared m.segments q.segment) (sym touch_site.page ∙ sym same) ∙ zero.2)
 
 pub get_set_same : (places : Map Page ℕ) (page : Page) (frame : ℕ) → get page_cmp (set page_cmp places page frame) page ≡ Some frame
 get_set_same places page frame =
@@ -175,8 +175,8 @@ touched_there processes areas pid address len v first index info area known some
           ∙ ap (λ w. Ok (record { pid = pid; process = p.0; area = a; vpn = w })) (sym at),
     )
 
-pub touch_is : (s t : State) (pid address len : ℕ) (writes : Bool) (at : AccessSite) → site s pid address len ≡ Ok at → touched_entry s at writes (get nat_cmp at.process.sees at.vpn) ≡ Ok t → touch s pid address len writes ≡ Ok t
-touch_is s t pid address len writes at e h = ap (touched s writes) e ∙ h
+pub touch_is : (s t : State) (pid address len : ℕ) (writes : Bool) (at : AccessSite) → site s pid address len ≡ Ok at → touch_sight s at writes (get nat_cmp at.process.sees at.vpn) ≡ Ok t → touch s pid address len writes ≡ Ok t
+touch_is s t pid address len writes at e h = ap (touch_site s writes) e ∙ h
 
 -- bytes that are written into the frame of the page that is seen
 module _ {c : ℕ} (tasks : Map ℕ Process) (m : Table) (x : PagedFrames) (online : List ℕ) (moved failed : ℕ) (l : List ℕ) (pid address f : ℕ) (new : List ℕ) (after : PagedFrames) (kept : IsKept (shown tasks m x online moved failed) l c) (paged_frames : HasItsFrames x)

@@ -17,7 +17,7 @@ use Rattle.nm_model.specs.views.Table.{Table}
 use Rattle.nm_model.specs.definitions.Frames.{Store, bytes_of, overwrite}
 use Rattle.nm_engine.specs.views.Shown.{PagedFrames}
 use Rattle.nm_model.specs.definitions.Memory.{stretch_of}
-use Rattle.nm_model.specs.definitions.Touch.{AllAnswered}
+use Rattle.nm_model.specs.definitions.Touch.{AccessResults}
 use Rattle.nm_engine.specs.views.Shown.{shown, bytes_in}
 use Rattle.nm_model.specs.definitions.Sound.{PlacesAreApart}
 use Rattle.nm_model.specs.definitions.Touch.{AccessAnswer, Bytes}
@@ -75,7 +75,7 @@ module _ (processes : Map ℕ Process) (table : Table) (online : List ℕ) (move
         ∙ sym (ap (λ o. Bytes (stretch_of (unwrap_or o []) at len)) bytes)
 
     -- both, one after another
-    abbrev pub finished_as : StoreAfterCopy → AllAnswered
+    abbrev pub finished_as : StoreAfterCopy → AccessResults
     finished_as e = record { state = with_store x e.store; answers = e.answers }
 
     pub all_done_shows : (dues : List PendingAccess) (store : Store) → AllByRecursion (CanDo x.place store) dues → finished_as (all_stored_after_copy x.place store dues) ≡ all_after_copy (with_store x store) dues
@@ -85,5 +85,5 @@ module _ (processes : Map ℕ Process) (table : Table) (online : List ℕ) (move
         ap (told_first (answer_from_store x.place store d)) (all_done_shows dues next (all_can_then x.place store d dues can.0 can.1) ∙ ap (λ (s : State). all_after_copy s dues) (done_shows store d can.0))
         ∙ ap (λ a. told_first a (all_after_copy (after_copy (with_store x store) d) dues)) (told_shows store d can.0)
       where
-        told_first : AccessAnswer → AllAnswered → AllAnswered
+        told_first : AccessAnswer → AccessResults → AccessResults
         told_first a rest = record { state = rest.state; answers = a ∷ rest.answers }

@@ -17,14 +17,14 @@ use Rattle.nm_spaces.specs.views.AddressSpaces.{AddressSpacesView, with_moved, t
 use Rattle.nm_memory.specs.views.Populated.{IsPopulated}
 use Rattle.nm_memory.specs.views.Copies.{without_both, emptied, with_copies, CanCopy, HasBoth}
 use Rattle.nm_memory.specs.views.Frames.{FramesView, HasAllFrames, free_on}
-use Rattle.nm_model.specs.definitions.Touch.{AllAnswered}
+use Rattle.nm_model.specs.definitions.Touch.{AccessResults}
 use Rattle.nm_laws.specs.Laws.{with_moves}
 use Rattle.nm_engine.specs.views.MidRun.{MidRun, IsKept}
 use Rattle.nm_laws.specs.Moves.{CanMove}
 use Rattle.nm_spaces.specs.definitions.Moves.{CanRemap, all_moved}
 use Rattle.nm_model.specs.definitions.Run.{frames_left}
 use Rattle.nm_engine.specs.views.Shown.{shown_by, paged_frames}
-use Rattle.nm_model.specs.definitions.Sound.{times, IsSoundMidRun, IsSound}
+use Rattle.nm_model.specs.definitions.Sound.{times, IsSoundInFlight, IsSound}
 use Rattle.nm_model.specs.definitions.BeforeCopy.{PendingAccess, Known, ToRead, ToWrite, at_page, with_written, after_copy, all_after_copy, frames_taken, with_fronts, IsInside, IsPending}
 use Rattle.nm_memory.specs.definitions.AfterCopy.{StoreAfterCopy, all_stored_after_copy, IsIn, CanDo}
 use Rattle.nm_laws.proofs.Soundness.Frames.{here, times_cons}
@@ -51,7 +51,7 @@ all_whole (e ∷ bytes) p at new fits whole = (
   all_whole bytes p at new fits whole.1,
 )
 
-written_sound : (s : State) (l : List ℕ) (p : Page) (at : ℕ) (new : List ℕ) → at + length new ≤ 4096 → IsSoundMidRun s l → IsSoundMidRun (with_written s p at new) l
+written_sound : (s : State) (l : List ℕ) (p : Page) (at : ℕ) (new : List ℕ) → at + length new ≤ 4096 → IsSoundInFlight s l → IsSoundInFlight (with_written s p at new) l
 written_sound s l p at new fits h =
     record {
       order = record { processes = h.order.processes; sees = h.order.sees; areas = h.order.areas; segments = h.order.segments; place = h.order.place };
@@ -71,12 +71,12 @@ written_sound s l p at new fits h =
       few = h.few;
     }
 
-made_sound : (s : State) (l : List ℕ) (d : PendingAccess) → IsInside d → IsSoundMidRun s l → IsSoundMidRun (after_copy s d) l
+made_sound : (s : State) (l : List ℕ) (d : PendingAccess) → IsInside d → IsSoundInFlight s l → IsSoundInFlight (after_copy s d) l
 made_sound s l (Known answer) inside h = h
 made_sound s l (ToRead page at len) inside h = h
 made_sound s l (ToWrite page at new) inside h = written_sound s l page at new inside h
 
-pub all_made_sound : (dues : List PendingAccess) (s : State) (l : List ℕ) → AllByRecursion IsInside dues → IsSoundMidRun s l → IsSoundMidRun (all_after_copy s dues).state l
+pub all_made_sound : (dues : List PendingAccess) (s : State) (l : List ℕ) → AllByRecursion IsInside dues → IsSoundInFlight s l → IsSoundInFlight (all_after_copy s dues).state l
 all_made_sound [] s l inside h = h
 all_made_sound (d ∷ dues) s l inside h = all_made_sound dues (after_copy s d) l inside.1 (made_sound s l d inside.0 h)
 
@@ -122,7 +122,7 @@ none_more a b c true e h = omega (arith, e, h)
 none_more a b c false e h = omega (arith, e, h)
 
 -- a page's frame is not one that a run has left or taken
-placed_apart : (s : State) (l : List ℕ) (p : Page) (f : ℕ) → IsSoundMidRun s l → get page_cmp s.place p ≡ Some f → times f l ≡ 0
+placed_apart : (s : State) (l : List ℕ) (p : Page) (f : ℕ) → IsSoundInFlight s l → get page_cmp s.place p ≡ Some f → times f l ≡ 0
 placed_apart s l p f h placed = none_more (times f (values_of s.place)) (sum_by (times f) s.free) (times f l) (nat_lt f (frame_count s.layout)) (h.frames.once f) (counted_place s.place p f placed)
 
 -- ---- all at once
@@ -256,14 +256,14 @@ module _ (y : AddressSpacesView) (k : FramesView) (online : List ℕ) (moved fai
         ∙ ap (λ (s : State). all_after_copy s dues) shows
 
     pub finished_shows : (z : FramesView) → z ≡ record k { frames = finished.store; vacated = frames_left taken; room = z.room } → shown_by spaces_then z online moved failed ≡ (all_after_copy (with_moves state_given target taken) dues).state
-    finished_shows z is = ap (λ (x : FramesView). shown_by spaces_then x online moved failed) is ∙ ap (λ (x : AllAnswered). x.state) both
+    finished_shows z is = ap (λ (x : FramesView). shown_by spaces_then x online moved failed) is ∙ ap (λ (x : AccessResults). x.state) both
 
     pub finished_kept : (z : FramesView) → z ≡ record k { frames = finished.store; vacated = frames_left taken; room = z.room } → IsKept (shown_by spaces_then z online moved failed) z.vacated spaces_then.frames
     finished_kept z is =
         record {
-          sound = subst (λ (l : List ℕ). IsSoundMidRun (shown_by spaces_then z online moved failed) l) (sym (ap (λ (x : FramesView). x.vacated) is))
-              (subst (λ (s : State). IsSoundMidRun s (frames_left taken)) (sym (finished_shows z is))
+          sound = subst (λ (l : List ℕ). IsSoundInFlight (shown_by spaces_then z online moved failed) l) (sym (ap (λ (x : FramesView). x.vacated) is))
+              (subst (λ (s : State). IsSoundInFlight s (frames_left taken)) (sym (finished_shows z is))
               (all_made_sound dues (with_moves state_given target taken) (frames_left taken) (all_inside dues (pages_of taken) (shown_by y k online moved failed) h.due)
-              (subst (λ (s : State). IsSoundMidRun s (frames_left taken)) shows kept_then.sound)));
+              (subst (λ (s : State). IsSoundInFlight s (frames_left taken)) shows kept_then.sound)));
           as_many = kept_then.as_many ∙ sym (ap (λ (x : FramesView). frame_count x.layout) is);
         }

@@ -9,8 +9,8 @@ use Rattle.nm_memory.specs.views.Populated.{IsPopulated}
 use Rattle.nm_model.specs.definitions.BeforeCopy.{PendingAccess, all_after_copy, IsInside}
 use Rattle.nm_model.specs.definitions.Frames.{Store, IsHome}
 use Rattle.nm_model.specs.definitions.Run.{frames_left}
-use Rattle.nm_model.specs.definitions.Sound.{IsSoundMidRun}
-use Rattle.nm_model.specs.definitions.Touch.{AllAnswered}
+use Rattle.nm_model.specs.definitions.Sound.{IsSoundInFlight}
+use Rattle.nm_model.specs.definitions.Touch.{AccessResults}
 use Rattle.nm_memory.specs.definitions.AfterCopy.{StoreAfterCopy, all_stored_after_copy, CanDo}
 use Rattle.nm_memory.specs.views.Copies.{emptied, with_copies, jobs_of, refilled, CanCopy, CanRefill}
 use Rattle.nm_memory.specs.views.Frames.{FramesView, HasAllFrames}
@@ -86,10 +86,10 @@ module _ {A : Type 0} (x : Flight) (jobs : List (CopyJob A)) (dues : List Pendin
   later = ap (λ (s : StoreAfterCopy). s.store) (all_after dues x.spaces.place home_jobs x.frames.frames h.can can).0
 
   pub answers_then : (all_stored_after_copy x.spaces.place x.frames.frames dues).answers ≡ (all_after_copy (state_meanwhile x jobs) dues).answers
-  answers_then = ap (λ (s : StoreAfterCopy). s.answers) (all_after dues x.spaces.place home_jobs x.frames.frames h.can can).0 ∙ ap (λ (a : AllAnswered). a.answers) both
+  answers_then = ap (λ (s : StoreAfterCopy). s.answers) (all_after dues x.spaces.place home_jobs x.frames.frames h.can can).0 ∙ ap (λ (a : AccessResults). a.answers) both
 
   pub state_then : state_meanwhile after jobs ≡ (all_after_copy (state_meanwhile x jobs) dues).state
-  state_then = ap (λ (s : Store). shown_by x.spaces (record (x.frames) { frames = s }) x.online x.moved x.failed) later ∙ ap (λ (a : AllAnswered). a.state) both
+  state_then = ap (λ (s : Store). shown_by x.spaces (record (x.frames) { frames = s }) x.online x.moved x.failed) later ∙ ap (λ (a : AccessResults). a.state) both
 
   pub out_then : AreOutIn after jobs
   out_then = record {
@@ -100,7 +100,7 @@ module _ {A : Type 0} (x : Flight) (jobs : List (CopyJob A)) (dues : List Pendin
       home = λ f below. subst (λ (s : Store). IsHome s f) (sym later) (done_home x.spaces.place dues store_once_home f (h.whole.home f below));
     };
     kept = record {
-      sound = subst (λ (s : State). IsSoundMidRun s x.frames.vacated) (sym state_then) (all_made_sound dues (state_meanwhile x jobs) x.frames.vacated inside h.kept.sound);
+      sound = subst (λ (s : State). IsSoundInFlight s x.frames.vacated) (sym state_then) (all_made_sound dues (state_meanwhile x jobs) x.frames.vacated inside h.kept.sound);
       as_many = h.kept.as_many;
     };
     populated = subst (λ (s : Store). AllByRecursion (IsPopulated s) x.frames.vacated) (sym later)

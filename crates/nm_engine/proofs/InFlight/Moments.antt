@@ -10,16 +10,16 @@ use Rattle.nm_types.specs.declared.page.Page.{Page}
 use Rattle.nm_types.specs.declared.request.Wanted.{Wanted}
 use Rattle.nm_types.specs.declared.taken.Taken.{Taken}
 use Rattle.nm_frames.specs.declared.job.CopyJob.{CopyJob}
-use Rattle.nm_model.specs.definitions.Accesses.{accessed}
+use Rattle.nm_model.specs.definitions.Accesses.{after_access}
 use Rattle.nm_model.specs.definitions.BeforeCopy.{PendingAccess, after_copy, all_after_copy, answer_after_copy}
-use Rattle.nm_model.specs.definitions.Decide.{Planned}
-use Rattle.nm_model.specs.definitions.Events.{Event, accesses_in, after, begun, ended, is_given}
+use Rattle.nm_model.specs.definitions.Decide.{RunPlan}
+use Rattle.nm_model.specs.definitions.Events.{Event, accesses_in, after, begin_run, end_run, is_given}
 use Rattle.nm_model.specs.definitions.Frames.{Store}
 use Rattle.nm_model.specs.definitions.Run.{HasOneAll, each_request, failures, frames_left, with_all_free, with_counts}
 use Rattle.nm_model.specs.definitions.RunMachine.{RunMachine, Job, Moving, state_of}
 use Rattle.nm_model.specs.definitions.Seen.{sight_at}
 use Rattle.nm_model.specs.definitions.Sound.{IsSound}
-use Rattle.nm_model.specs.definitions.Touch.{Access, AccessAnswer, AllAnswered, Answered, all_in_flight, in_flight}
+use Rattle.nm_model.specs.definitions.Touch.{Access, AccessAnswer, AccessResults, AccessResult, all_in_flight, access_during}
 use Rattle.nm_laws.specs.Interleavings.{IsAtRest}
 use Rattle.nm_laws.specs.Laws.{with_moves}
 use Rattle.nm_laws.specs.Moves.{IsPlanOf}
@@ -57,13 +57,13 @@ module _ {A : Type 0} (x : Flight) (jobs : List (CopyJob A)) where
 
 module _ {A : Type 0} (m : RunMachine) (x : Flight) (jobs : List (CopyJob A)) where
   -- a run begins: its plan's moves are those that are on their way
-  pub begins : (target : ℕ) (wanted : List Wanted) (p : Planned) → HoldsMovingPages x
+  pub begins : (target : ℕ) (wanted : List Wanted) (p : RunPlan) → HoldsMovingPages x
       → IsAtRest m → IsSound (state_of m) → HasOneAll wanted → IsPlanOf (state_of m) target wanted p → p.taken ≡ x.moves
-      → state_meanwhile x jobs ≡ with_moves (state_of m) target x.moves → IsMoment (begun m target wanted) x jobs
+      → state_meanwhile x jobs ≡ with_moves (state_of m) target x.moves → IsMoment (begin_run m target wanted) x jobs
   begins target wanted p holds rest sound alike plan taken shows =
       let b = begun_is m target wanted rest sound alike in
       let moves : (each_request (state_of m) target wanted).taken ≡ x.moves = plan.agrees.taken ∙ taken in
-      at_moment x jobs (begun m target wanted) holds (subst (λ (ts : List Taken). IsMidway (begun m target wanted) (pages_of ts)) moves b.midway)
+      at_moment x jobs (begin_run m target wanted) holds (subst (λ (ts : List Taken). IsMidway (begin_run m target wanted) (pages_of ts)) moves b.midway)
       (b.state ∙ plan.agrees.state ∙ ap (with_moves (state_of m) target) taken ∙ sym shows)
       (b.ends ∙ ap (map (λ (t : Taken). (t.from, t.to))) moves)
 
@@ -82,14 +82,14 @@ module _ {A : Type 0} (m : RunMachine) (x : Flight) (jobs : List (CopyJob A)) wh
 
   -- an access that does what is left to do, and whatever the code returns for it
   pub makes : (a : Access) (d : PendingAccess) (y : Flight) (answer : AccessAnswer) → y ≡ with_store x (store_after_copy x.spaces.place x.frames.frames d) → answer ≡ answer_from_store x.spaces.place x.frames.frames d
-      → AreOutIn x jobs → IsMoment m x jobs → CanDo x.spaces.place x.frames.frames d → in_flight (state_of m) (pages_of x.moves) a ≡ record { state = after_copy (state_of m) d; answer = answer_after_copy (state_of m) d }
-      → IsMoment (accessed m a) y jobs × ((accessed m a).answers ≡ m.answers ++ answer ∷ [])
+      → AreOutIn x jobs → IsMoment m x jobs → CanDo x.spaces.place x.frames.frames d → access_during (state_of m) (pages_of x.moves) a ≡ record { state = after_copy (state_of m) d; answer = answer_after_copy (state_of m) d }
+      → IsMoment (after_access m a) y jobs × ((after_access m a).answers ≡ m.answers ++ answer ∷ [])
   makes a d y answer is told out now can done =
       let made = accessed_is m (pages_of x.moves) now.midway a in
-      let same : in_flight (state_of m) (pages_of x.moves) a ≡ record { state = after_copy (state_meanwhile x jobs) d; answer = answer_after_copy (state_meanwhile x jobs) d } = done ∙ ap (λ (s : State). record { state = after_copy s d; answer = answer_after_copy s d }) now.state in
-      let state = made.state ∙ ap (λ (z : Answered). z.state) same ∙ sym (state_then x jobs (d ∷ []) out (can, tt)) in (
-        subst (λ (z : Flight). IsMoment (accessed m a) z jobs) (sym is) (stays (accessed m a) (store_after_copy x.spaces.place x.frames.frames d) jobs now made.midway state (ap (map ends_of) made.jobs)),
-        made.answers ∙ ap (λ (z : Answered). m.answers ++ z.answer ∷ []) same ∙ ap (λ answers. m.answers ++ answers) (sym (answers_then x jobs (d ∷ []) out (can, tt))) ∙ ap (λ z. m.answers ++ z ∷ []) (sym told),
+      let same : access_during (state_of m) (pages_of x.moves) a ≡ record { state = after_copy (state_meanwhile x jobs) d; answer = answer_after_copy (state_meanwhile x jobs) d } = done ∙ ap (λ (s : State). record { state = after_copy s d; answer = answer_after_copy s d }) now.state in
+      let state = made.state ∙ ap (λ (z : AccessResult). z.state) same ∙ sym (state_then x jobs (d ∷ []) out (can, tt)) in (
+        subst (λ (z : Flight). IsMoment (after_access m a) z jobs) (sym is) (stays (after_access m a) (store_after_copy x.spaces.place x.frames.frames d) jobs now made.midway state (ap (map ends_of) made.jobs)),
+        made.answers ∙ ap (λ (z : AccessResult). m.answers ++ z.answer ∷ []) same ∙ ap (λ answers. m.answers ++ answers) (sym (answers_then x jobs (d ∷ []) out (can, tt))) ∙ ap (λ z. m.answers ++ z ∷ []) (sym told),
       )
 
   -- jobs are drawn and given back, and accesses are made
@@ -101,14 +101,14 @@ module _ {A : Type 0} (m : RunMachine) (x : Flight) (jobs : List (CopyJob A)) wh
       let store = (all_stored_after_copy x.spaces.place x.frames.frames dues).store in
       let flown = flies events m n (pages_of x.moves) now.midway leads on in
       let same = done ∙ ap (λ (s : State). all_after_copy s dues) now.state in
-      let state = flown.state ∙ ap (λ (z : AllAnswered). z.state) same ∙ sym shows ∙ ap (λ (z : Flight). state_meanwhile z given) is in (
+      let state = flown.state ∙ ap (λ (z : AccessResults). z.state) same ∙ sym shows ∙ ap (λ (z : Flight). state_meanwhile z given) is in (
         subst (λ (z : Flight). IsMoment n z given) (sym is) (stays n store given now flown.midway state flown.ends),
-        flown.answers ∙ ap (λ (z : AllAnswered). m.answers ++ z.answers) same ∙ ap (λ zs. m.answers ++ zs) (sym told),
+        flown.answers ∙ ap (λ (z : AccessResults). m.answers ++ z.answers) same ∙ ap (λ zs. m.answers ++ zs) (sym told),
       )
 
   -- the run ends
   pub ends : (statuses : List ℤ) → IsMoment m x jobs → list_all (λ (job : Job). is_given job.stage) m.jobs ≡ true → m.statuses ≡ statuses
-      → state_of (ended m) ≡ with_counts (with_all_free (state_meanwhile x jobs) (frames_left x.moves)) (length x.moves) (failures statuses)
+      → state_of (end_run m) ≡ with_counts (with_all_free (state_meanwhile x jobs) (frames_left x.moves)) (length x.moves) (failures statuses)
   ends statuses now all told =
       let left = first_ends m.jobs ∙ ap (map (λ (e : ℕ × ℕ). e.0)) now.ends ∙ left_first x.moves in
       let count : length m.jobs ≡ length x.moves = sym (length-map m.jobs (λ (job : Job). job.source.0)) ∙ ap length left ∙ length-map x.moves (λ (t : Taken). t.from) in

@@ -10,7 +10,7 @@ use Rattle.nm_memory.specs.views.Frames.{FramesView, free_on}
 use Rattle.nm_engine.specs.views.MidRun.{IsKept}
 use Rattle.nm_laws.specs.Moves.{CanMove}
 use Rattle.nm_engine.specs.views.Shown.{shown_by}
-use Rattle.nm_model.specs.definitions.Sound.{IsSoundMidRun}
+use Rattle.nm_model.specs.definitions.Sound.{IsSoundInFlight}
 use Rattle.nm_laws.proofs.Early.Fronts.{fronts_sound}
 use Rattle.nm_laws.proofs.Early.Phases.{tos_are}
 
@@ -24,8 +24,8 @@ taken_kept y k w online moved failed target moves kept none inside can is =
     let n = length moves in
     let now : FramesView = record k { free = slice_set k.free target (drop n (free_on k target)); vacated = frames_taken moves } in
     let there : w ≡ now = is ∙ ap (λ (l : List ℕ). record now { vacated = l ++ frames_taken moves }) none in
-    let sound = fronts_sound s target n inside (subst (IsSoundMidRun s) none kept.sound) in
-    let known = subst (IsSoundMidRun (without_fronts s target n)) (sym (tos_are moves s target inside can)) sound in
+    let sound = fronts_sound s target n inside (subst (IsSoundInFlight s) none kept.sound) in
+    let known = subst (IsSoundInFlight (without_fronts s target n)) (sym (tos_are moves s target inside can)) sound in
     subst (λ (x : FramesView). IsKept (shown_by y x online moved failed) x.vacated y.frames) (sym there) (record { sound = known; as_many = kept.as_many })
 
 -- frames that are given back are where they were

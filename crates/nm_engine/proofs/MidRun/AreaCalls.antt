@@ -18,7 +18,7 @@ use Rattle.nm_model.specs.definitions.Frames.{all_frames}
 use Rattle.nm_model.specs.definitions.Effect.{spawn, new_machine}
 use Rattle.nm_model.specs.definitions.Effect.{first_error, is_unknown, spawn_refusal, list_refusal}
 use Rattle.nm_types.specs.declared.process.ProcessInfo.{ProcessInfo}
-use Rattle.nm_model.specs.definitions.Sound.{IsSoundMidRun, IsSound}
+use Rattle.nm_model.specs.definitions.Sound.{IsSoundInFlight, IsSound}
 use Rattle.nm_model.specs.views.Table.{Table}
 use Rattle.nm_memory.specs.views.Frames.{FramesView}
 use Rattle.nm_engine.specs.views.Shown.{PagedFrames}
@@ -45,13 +45,13 @@ module _ (tasks : Map ℕ Process) (areas : Table) (paged : PagedFrames) (online
   pub kept_spawned : {c : ℕ} (now : Map ℕ Process) (pid : ℕ) (p : Process) → paged.vacated ≡ [] → IsKept seen paged.vacated c → spawn_refusal seen pid p.home p.allowed ≡ None → p.sees ≡ [] → now ≡ set nat_cmp tasks pid p
       → IsKept (shown now areas paged online moved failed) paged.vacated c
   kept_spawned now pid p none h fine bare e =
-      let sound : IsSound seen = subst (λ l. IsSoundMidRun seen l) none h.sound in
+      let sound : IsSound seen = subst (λ l. IsSoundInFlight seen l) none h.sound in
       let after : IsSound (spawn seen pid p.uid p.home p.allowed p.privileged) = spawn_sound seen pid p.uid p.home p.allowed p.privileged sound fine in
       let same : spawn seen pid p.uid p.home p.allowed p.privileged ≡ shown now areas paged online moved failed =
       ap (λ ss. shown (set nat_cmp tasks pid (record { uid = p.uid; privileged = p.privileged; home = p.home; allowed = p.allowed; sees = ss })) areas paged online moved failed) (sym bare)
       ∙ ap (λ m. shown m areas paged online moved failed) (sym e) in
       record {
-        sound = subst (λ l. IsSoundMidRun (shown now areas paged online moved failed) l) (sym none) (subst IsSound same after);
+        sound = subst (λ l. IsSoundInFlight (shown now areas paged online moved failed) l) (sym none) (subst IsSound same after);
         as_many = h.as_many;
       }
 
@@ -59,7 +59,7 @@ module _ (tasks : Map ℕ Process) (areas : Table) (paged : PagedFrames) (online
   pub kept_mapped : {c : ℕ} (now : Table) → paged.vacated ≡ [] → IsKept seen paged.vacated c → (IsSound seen → IsSound (shown tasks now paged online moved failed)) → IsKept (shown tasks now paged online moved failed) paged.vacated c
   kept_mapped now none h keeps =
       record {
-        sound = subst (λ l. IsSoundMidRun (shown tasks now paged online moved failed) l) (sym none) (keeps (subst (λ l. IsSoundMidRun seen l) none h.sound));
+        sound = subst (λ l. IsSoundInFlight (shown tasks now paged online moved failed) l) (sym none) (keeps (subst (λ l. IsSoundInFlight seen l) none h.sound));
         as_many = h.as_many;
       }
 
@@ -121,6 +121,6 @@ pub kept_new : (g : Layout) (s : State) (left : List ℕ) (frames : ℕ) → s �
 kept_new g s left frames e none count =
     let sound : IsSound s = subst IsSound (sym e) (new_sound g) in
     record {
-      sound = subst (λ l. IsSoundMidRun s l) (sym none) sound;
+      sound = subst (λ l. IsSoundInFlight s l) (sym none) sound;
       as_many = count ∙ sym (ap (λ (t : State). frame_count t.layout) e);
     }

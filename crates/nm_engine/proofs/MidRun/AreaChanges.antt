@@ -6,8 +6,8 @@ use Rattle.nm_types.specs.declared.area.Policy.{Policy}
 use Rattle.nm_types.specs.declared.machine_error.MachineError.{MachineError}
 use Rattle.nm_types.specs.declared.machine_error.MachineError.TheVariants.{Refused, HostMemory}
 use Rattle.nm_types.specs.Does.{Makes}
-use Rattle.nm_model.specs.definitions.Areas.{inserted, attached, with_policy}
-use Rattle.nm_model.specs.definitions.Areas.{Mapped}
+use Rattle.nm_model.specs.definitions.Areas.{with_segment, with_area, with_policy}
+use Rattle.nm_model.specs.definitions.Areas.{Mapping}
 use Rattle.nm_spaces.specs.views.AddressSpaces.{AddressSpacesView, mapped_of, table_of, with_mapped}
 use Rattle.nm_memory.specs.views.Frames.{FramesView}
 use Rattle.nm_engine.specs.views.Shown.{shown_by, paged_frames}
@@ -19,7 +19,7 @@ use Rattle.nm_laws.proofs.Soundness.Called.{map_sound, attach_sound}
 use Rattle.nm_laws.proofs.Soundness.Policed.{policy_sound}
 
 -- a call either did nothing, or was not refused and did its work
-pub made_or_same : {T P : Type 0} {old new after : Mapped} {refusal : Option Errno} (r : Result T MachineError) → Makes r old new refusal after → (new ≡ old → P) → (refusal ≡ None → new ≡ after → P) → P
+pub made_or_same : {T P : Type 0} {old new after : Mapping} {refusal : Option Errno} (r : Result T MachineError) → Makes r old new refusal after → (new ≡ old → P) → (refusal ≡ None → new ≡ after → P) → P
 made_or_same (Ok value) h same made = made h.0 h.1
 made_or_same (Err (Refused errno)) h same made = same h.1
 made_or_same (Err HostMemory) h same made = same h
@@ -28,20 +28,20 @@ module _ (y z : AddressSpacesView) (k : FramesView) (online : List ℕ) (moved f
   pub kept_same : mapped_of z ≡ mapped_of y → IsKept (shown_by z k online moved failed) k.vacated z.frames
   kept_same same = subst (λ (w : AddressSpacesView). IsKept (shown_by w k online moved failed) k.vacated w.frames) (sym (is ∙ ap (with_mapped y) same)) kept
 
-  kept_after : (m : Mapped) → mapped_of z ≡ m → k.vacated ≡ [] → (IsSound (shown_by y k online moved failed) → IsSound (shown_by (with_mapped y m) k online moved failed)) → IsKept (shown_by z k online moved failed) k.vacated z.frames
+  kept_after : (m : Mapping) → mapped_of z ≡ m → k.vacated ≡ [] → (IsSound (shown_by y k online moved failed) → IsSound (shown_by (with_mapped y m) k online moved failed)) → IsKept (shown_by z k online moved failed) k.vacated z.frames
   kept_after m now none keeps =
       subst (λ (w : AddressSpacesView). IsKept (shown_by w k online moved failed) k.vacated w.frames) (sym (is ∙ ap (with_mapped y) now))
       (kept_mapped y.processes (table_of y) (paged_frames y k) online moved failed (table_of (with_mapped y m)) none kept keeps)
 
   pub kept_inserted : (pid address pages : ℕ) (shared : Bool) → k.vacated ≡ [] → map_refusal (shown_by y k online moved failed) pid address pages ≡ None
-      → mapped_of z ≡ inserted (mapped_of y) pid address pages shared → IsKept (shown_by z k online moved failed) k.vacated z.frames
+      → mapped_of z ≡ with_segment (mapped_of y) pid address pages shared → IsKept (shown_by z k online moved failed) k.vacated z.frames
   kept_inserted pid address pages shared none fine now =
-      kept_after (inserted (mapped_of y) pid address pages shared) now none (λ sound. map_sound (shown_by y k online moved failed) pid address pages shared sound fine)
+      kept_after (with_segment (mapped_of y) pid address pages shared) now none (λ sound. map_sound (shown_by y k online moved failed) pid address pages shared sound fine)
 
   pub kept_attached : (pid address segment offset pages : ℕ) → k.vacated ≡ [] → attach_refusal (shown_by y k online moved failed) pid address segment offset pages ≡ None
-      → mapped_of z ≡ attached (mapped_of y) pid address segment offset pages → IsKept (shown_by z k online moved failed) k.vacated z.frames
+      → mapped_of z ≡ with_area (mapped_of y) pid address segment offset pages → IsKept (shown_by z k online moved failed) k.vacated z.frames
   kept_attached pid address segment offset pages none fine now =
-      kept_after (attached (mapped_of y) pid address segment offset pages) now none (λ sound. attach_sound (shown_by y k online moved failed) pid address segment offset pages sound fine)
+      kept_after (with_area (mapped_of y) pid address segment offset pages) now none (λ sound. attach_sound (shown_by y k online moved failed) pid address segment offset pages sound fine)
 
 -- a policy that is set keeps a machine sound, also between the beginning and the end of a run
 pub kept_policed : (y z : AddressSpacesView) (k : FramesView) (online : List ℕ) (moved failed : ℕ) → IsKept (shown_by y k online moved failed) k.vacated y.frames → (pid first end : ℕ) (policy : Policy)

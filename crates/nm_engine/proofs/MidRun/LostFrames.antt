@@ -14,11 +14,11 @@ use Rattle.nm_types.specs.Layout.{Layout, frame_count}
 use Rattle.nm_types.specs.declared.sight.Sight.{Sight}
 use Rattle.nm_types.specs.State.{Process, State}
 use Rattle.nm_model.specs.definitions.Frames.{bytes_of}
-use Rattle.nm_model.specs.definitions.Frames.{Pool, appended}
+use Rattle.nm_model.specs.definitions.Frames.{Pool, with_back}
 use Rattle.nm_model.specs.views.Table.{Table}
-use Rattle.nm_model.specs.definitions.Areas.{areas_left, pages_gone, place_left, lost, with_its_frame, all_lost, frames_lost}
-use Rattle.nm_model.specs.definitions.Effect.{is_covered, released_from, released, dropped}
-use Rattle.nm_model.specs.definitions.Sound.{times, FramesAreOnce, IsSoundMidRun}
+use Rattle.nm_model.specs.definitions.Areas.{areas_left, pages_gone, place_left, lost_page, with_its_frame, all_lost, frames_lost}
+use Rattle.nm_model.specs.definitions.Effect.{is_covered, released_from, release_page, drop_range}
+use Rattle.nm_model.specs.definitions.Sound.{times, FramesAreOnce, IsSoundInFlight}
 use Rattle.nm_spaces.specs.views.AddressSpaces.{AddressSpacesView, mapped_of, table_of, without_range}
 use Rattle.nm_memory.specs.views.Frames.{FramesView, with_freed, pool_of, CanFree}
 use Rattle.nm_engine.specs.views.Shown.{PagedFrames}
@@ -35,7 +35,7 @@ use Rattle.nm_laws.proofs.Soundness.Dropped.{dropped_sound}
 
 -- the frames beside pages
 abbrev pub frames_of : List (Page × ℕ) → List ℕ
-frames_of lost = map (λ f. f.1) lost
+frames_of lost_page = map (λ f. f.1) lost_page
 
 frames_both : (xs ys : List (Page × ℕ)) → frames_of (xs ++ ys) ≡ frames_of xs ++ frames_of ys
 frames_both [] ys = refl
@@ -43,7 +43,7 @@ frames_both (x ∷ xs) ys = ap (λ fs. x.1 ∷ fs) (frames_both xs ys)
 
 freed_both : (p : Pool) (xs ys : List ℕ) → with_freed (with_freed p xs) ys ≡ with_freed p (xs ++ ys)
 freed_both p [] ys = refl
-freed_both p (x ∷ xs) ys = freed_both (appended p x) xs ys
+freed_both p (x ∷ xs) ys = freed_both (with_back p x) xs ys
 
 -- a key that is not there
 pub without_absent : (m : Map Page ℕ) (p : Page) → get page_cmp m p ≡ None → without page_cmp m p ≡ m
@@ -99,10 +99,10 @@ module _ (processes : Map ℕ Process) (t : Table) (online : List ℕ) (moved fa
       λ i. record (of x) { place = place i; bytes = bytes_in x.frames (place i); pins = pins i }
   frame_gone x p (Some frame) e keys =
       let bytes = sym (with_values-without page_cmp (λ page f. bytes_of x.frames f) x.place p) in
-      let after = appended (pool x) frame in
+      let after = with_back (pool x) frame in
       λ i. record (of x) { place = without page_cmp x.place p; bytes = bytes i; pins = without page_cmp x.pins p; free = after.lists }
 
-  page_gone : (x : PagedFrames) (p : Page) → keys_of x.pins ≡ keys_of x.place → released (of x) p ≡ of (gone_if (is_covered t.areas p) x p)
+  page_gone : (x : PagedFrames) (p : Page) → keys_of x.pins ≡ keys_of x.place → release_page (of x) p ≡ of (gone_if (is_covered t.areas p) x p)
   page_gone x p keys =
       elim (is_covered t.areas p) as (λ b. (if b then of x else released_from (of x) p (get page_cmp x.place p)) ≡ of (gone_if b x p)) [
         | true ↦ refl
@@ -118,14 +118,14 @@ module _ (processes : Map ℕ Process) (t : Table) (online : List ℕ) (moved fa
       ∙ ap (λ (p : Pool). p.lists) (freed_both (pool x) (frames_of a) (frames_of b))
       ∙ ap (λ fs. (with_freed (pool x) fs).lists) (sym (frames_both a b))
 
-  pub pages_gone_shows : (pages : List Page) (x : PagedFrames) → keys_of x.pins ≡ keys_of x.place → fold released (of x) pages ≡ of (all_gone t.areas x pages)
+  pub pages_gone_shows : (pages : List Page) (x : PagedFrames) → keys_of x.pins ≡ keys_of x.place → fold release_page (of x) pages ≡ of (all_gone t.areas x pages)
   pages_gone_shows [] x keys = refl
   pages_gone_shows (p ∷ pages) x keys =
       let y = gone_if (is_covered t.areas p) x p in
-      ap (λ s. fold released s pages) (page_gone x p keys)
+      ap (λ s. fold release_page s pages) (page_gone x p keys)
       ∙ pages_gone_shows pages y (keys_left (is_covered t.areas p) x.pins x.place p keys)
       ∙ ap (λ free. of (record x { place = fold (place_left t.areas) x.place (p ∷ pages); pins = fold (place_left t.areas) x.pins (p ∷ pages); free = free }))
-      (freed_on x (lost t.areas x.place p) (all_lost t.areas (place_left t.areas x.place p) pages))
+      (freed_on x (lost_page t.areas x.place p) (all_lost t.areas (place_left t.areas x.place p) pages))
 
 -- ---- each frame stays in one place, when those that are lost are kept aside
 
@@ -160,14 +160,14 @@ module _ (g : Layout) (free : List (List ℕ)) (areas : Map (ℕ × ℕ) Area) w
       let now = page_aside (is_covered areas p) place left p h in
       let rest = all_lost areas (place_left areas place p) pages in
       subst (λ l. FramesAreOnce g (fold (place_left areas) (place_left areas place p) pages) free l)
-      (append_assoc left (frames_of (lost areas place p)) (frames_of rest) ∙ ap (λ fs. left ++ fs) (sym (frames_both (lost areas place p) rest)))
-      (pages_aside pages (place_left areas place p) (left ++ frames_of (lost areas place p)) now)
+      (append_assoc left (frames_of (lost_page areas place p)) (frames_of rest) ∙ ap (λ fs. left ++ fs) (sym (frames_both (lost_page areas place p) rest)))
+      (pages_aside pages (place_left areas place p) (left ++ frames_of (lost_page areas place p)) now)
 
 -- ---- a range of a process that goes, in address spaces and frames
 
 module _ (y : AddressSpacesView) (k : FramesView) (online : List ℕ) (moved failed : ℕ) (pid first end : ℕ) where
   -- the frames that become free can be freed
-  pub can_go : k.vacated ≡ [] → IsSoundMidRun (shown_by y k online moved failed) k.vacated → CanFree (pool_of k) (frames_of (frames_lost (mapped_of y) pid first end))
+  pub can_go : k.vacated ≡ [] → IsSoundInFlight (shown_by y k online moved failed) k.vacated → CanFree (pool_of k) (frames_of (frames_lost (mapped_of y) pid first end))
   can_go none h =
       let areas = areas_left y.areas pid first end in
       let pages = pages_gone y.areas pid first end in
@@ -175,22 +175,22 @@ module _ (y : AddressSpacesView) (k : FramesView) (online : List ℕ) (moved fai
       (all_freed k.layout (fold (place_left areas) y.place pages) (pool_of k) (frames_of (frames_lost (mapped_of y) pid first end)) refl after).can
 
   pub gone_shows : (z : AddressSpacesView) (after : FramesView) (freed : List (Page × ℕ)) → keys_of y.pins ≡ keys_of y.place → z ≡ without_range y pid first end → freed ≡ frames_lost (mapped_of y) pid first end
-      → after ≡ record k { free = (with_freed (pool_of k) (frames_of freed)).lists } → shown_by z after online moved failed ≡ dropped (shown_by y k online moved failed) pid first end
-  gone_shows z after freed keys is lost free =
+      → after ≡ record k { free = (with_freed (pool_of k) (frames_of freed)).lists } → shown_by z after online moved failed ≡ drop_range (shown_by y k online moved failed) pid first end
+  gone_shows z after freed keys is lost_page free =
       let gone = without_range y pid first end in
       ap (λ (w : AddressSpacesView). shown_by w after online moved failed) is
-      ∙ ap (λ (s : FramesView). shown_by gone s online moved failed) (free ∙ ap (λ fs. record k { free = (with_freed (pool_of k) (frames_of fs)).lists }) lost)
+      ∙ ap (λ (s : FramesView). shown_by gone s online moved failed) (free ∙ ap (λ fs. record k { free = (with_freed (pool_of k) (frames_of fs)).lists }) lost_page)
       ∙ sym (pages_gone_shows gone.processes (table_of gone) online moved failed (pages_gone y.areas pid first end) (paged_frames y k) keys)
 
   pub gone_kept : (z : AddressSpacesView) (after : FramesView) (freed : List (Page × ℕ)) → first ≤ end → k.vacated ≡ [] → IsKept (shown_by y k online moved failed) k.vacated y.frames → z ≡ without_range y pid first end
       → freed ≡ frames_lost (mapped_of y) pid first end → after ≡ record k { free = (with_freed (pool_of k) (frames_of freed)).lists } → IsKept (shown_by z after online moved failed) after.vacated z.frames
-  gone_kept z after freed range none kept is lost free =
+  gone_kept z after freed range none kept is lost_page free =
       let s = shown_by y k online moved failed in
-      let same = gone_shows z after freed kept.sound.pins.same_pages is lost free in
+      let same = gone_shows z after freed kept.sound.pins.same_pages is lost_page free in
       let left : after.vacated ≡ [] = ap (λ (k : FramesView). k.vacated) free ∙ none in
       record {
-        sound = subst (λ l. IsSoundMidRun (shown_by z after online moved failed) l) (sym left)
-            (subst (λ t. IsSoundMidRun t []) (sym same) (dropped_sound s [] (subst (λ l. IsSoundMidRun s l) none kept.sound) pid first end range));
+        sound = subst (λ l. IsSoundInFlight (shown_by z after online moved failed) l) (sym left)
+            (subst (λ t. IsSoundInFlight t []) (sym same) (dropped_sound s [] (subst (λ l. IsSoundInFlight s l) none kept.sound) pid first end range));
         as_many = ap (λ (w : AddressSpacesView). w.frames) is ∙ kept.as_many ∙ sym (ap (λ (k : FramesView). frame_count k.layout) free);
       }
 

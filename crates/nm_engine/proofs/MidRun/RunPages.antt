@@ -14,7 +14,7 @@ use Rattle.nm_engine.specs.views.Shown.{PagedFrames}
 use Rattle.nm_engine.proofs.Shown.PagedFrames.{HasItsFrames, free_of, restock_page, free_all}
 use Rattle.nm_model.specs.views.Table.{Table}
 use Rattle.nm_engine.specs.views.Shown.{shown}
-use Rattle.nm_model.specs.definitions.Sound.{IsSoundMidRun}
+use Rattle.nm_model.specs.definitions.Sound.{IsSoundInFlight}
 use Rattle.nm_engine.specs.views.MidRun.{IsKept}
 use Rattle.nm_laws.proofs.Soundness.Frames.{left-append}
 use Rattle.nm_laws.proofs.Soundness.Moved.{decided_sound, freed_sound, counted_sound}
@@ -49,8 +49,8 @@ module _ (tasks : Map ℕ Process) (m : Table) (x : PagedFrames) (online : List 
   end_kept y n k total failures freed t f h =
       let s = shown tasks m x online moved failed in
       record {
-        sound = subst (λ l. IsSoundMidRun (shown tasks m y online total failures) l) (sym (ap (λ (y : PagedFrames). y.vacated) freed))
-            (subst (λ s. IsSoundMidRun s []) (sym (end_shows y n k total failures freed t f)) (counted_sound (with_all_free s x.vacated) [] n k (freed_sound x.vacated s h.sound)));
+        sound = subst (λ l. IsSoundInFlight (shown tasks m y online total failures) l) (sym (ap (λ (y : PagedFrames). y.vacated) freed))
+            (subst (λ s. IsSoundInFlight s []) (sym (end_shows y n k total failures freed t f)) (counted_sound (with_all_free s x.vacated) [] n k (freed_sound x.vacated s h.sound)));
         as_many = h.as_many ∙ sym (ap (λ (y : PagedFrames). frame_count y.layout) freed);
       }
 
@@ -70,8 +70,8 @@ module _ (tasks : Map ℕ Process) (m : Table) (x : PagedFrames) (online : List 
       let left_now : x.vacated ++ frames_left (decision s target (Move page from)).taken ≡ y.vacated =
       ap (λ l. x.vacated ++ l) (sym (move_left s page from target some)) ∙ sym (ap (λ (y : PagedFrames). y.vacated) is) in
       record {
-        sound = subst (λ t. IsSoundMidRun t y.vacated) (sym (move_shows y page from target paged_frames placed some is))
-            (subst (λ l. IsSoundMidRun (decision s target (Move page from)).state l) left_now (decided_sound s x.vacated target (Move page from) h.sound placed));
+        sound = subst (λ t. IsSoundInFlight t y.vacated) (sym (move_shows y page from target paged_frames placed some is))
+            (subst (λ l. IsSoundInFlight (decision s target (Move page from)).state l) left_now (decided_sound s x.vacated target (Move page from) h.sound placed));
         as_many = h.as_many ∙ sym (ap (λ (y : PagedFrames). frame_count y.layout) is);
       }
 

@@ -4,9 +4,9 @@ use Rattle.std.specs.Prelude.{Bool, false, Option, Some, None, ◌&&◌}
 use Rattle.nm_types.specs.State.{State}
 use Rattle.nm_types.specs.declared.taken.Taken.{Taken}
 use Rattle.nm_frames.specs.declared.job.CopyJob.{CopyJob}
-use Rattle.nm_model.specs.definitions.Decide.{Planned}
-use Rattle.nm_model.specs.definitions.Events.{after, begun, is_moving, is_ready}
-use Rattle.nm_model.specs.definitions.Run.{HasOneAll, Ran, each_request, run}
+use Rattle.nm_model.specs.definitions.Decide.{RunPlan}
+use Rattle.nm_model.specs.definitions.Events.{after, begin_run, is_moving, is_ready}
+use Rattle.nm_model.specs.definitions.Run.{HasOneAll, RunResult, each_request, run}
 use Rattle.nm_model.specs.definitions.RunMachine.{RunMachine, state_of}
 use Rattle.nm_model.specs.definitions.Sound.{IsSound}
 use Rattle.nm_model.specs.definitions.Touch.{all_in_flight}
@@ -25,7 +25,7 @@ use Rattle.nm_engine.proofs.InFlight.Moments.{at_moment, pages_of}
 module _ {A : Type 0} where
   -- a machine at rest in the state before begins the run of the plan, comes to where the engine's run is while its jobs are
   -- done, and ends as that does
-  pub goes_by_events : (s : State) (asked : RunAsked) (p : Planned) (moves : List Taken) (x : Flight) (jobs : List (CopyJob A)) (ran : Ran)
+  pub goes_by_events : (s : State) (asked : RunAsked) (p : RunPlan) (moves : List Taken) (x : Flight) (jobs : List (CopyJob A)) (ran : RunResult)
       → IsSound s → HasOneAll asked.wanted → IsPlanOf s asked.target asked.wanted p → moves ≡ p.taken → x.moves ≡ moves → HoldsMovingPages x
       → state_meanwhile x jobs ≡ (all_in_flight (with_moves s asked.target moves) (pages_of moves) asked.accesses).state
       → map pair_of jobs ≡ map (λ t. (t.from, t.to)) moves → EndsAs x jobs ran.statuses ran.state → ran ≡ run_asked s asked → GoesByEvents s asked x jobs ran
@@ -37,7 +37,7 @@ module _ {A : Type 0} where
       let here : IsSound (state_of m) = subst IsSound (sym read.2) sound in
       let end = every_run_can_end m t ws asked.accesses read.1 here alike in
       let first = begun_is m t ws read.1 here alike in
-      let k = begun m t ws in
+      let k = begin_run m t ws in
       let leads = (allowed (is_ready m.phase) (after k end.0) end.1 end.2.leads).1 in
       let moved = pages_of (each_request (state_of m) t ws).taken in
       let last = before_end end.0 k end.1 moved first.midway leads end.3 in

@@ -20,7 +20,7 @@ use Rattle.nm_model.specs.definitions.Seen.{sight_in, look_in, look_at_place, lo
 use Rattle.nm_runs.specs.Shown.{class_of_place, class_shown, HasFrameBelow, ShowsItsFrames}
 use Rattle.nm_model.specs.definitions.Status.{page_status, status_or_move}
 use Rattle.nm_types.specs.declared.taken.Taken.{Taken}
-use Rattle.nm_model.specs.definitions.Decide.{Choice, Decisions, has_moved, take_front, decide, shortage, Planned, planned}
+use Rattle.nm_model.specs.definitions.Decide.{Choice, Decisions, has_moved, take_front, decide, shortage, RunPlan, plan_run}
 use Rattle.nm_model.specs.definitions.Run.{moved_page, decision, each_request, HasOneAll}
 use Rattle.nm_model.specs.definitions.Sound.{times, FramesAreOnce, OwnsItsFree}
 use Rattle.nm_laws.specs.Laws.{Agrees, with_move}
@@ -132,21 +132,21 @@ shows_its_frames s l h = record {
 
 -- the plan by the classes of a view, with at most as many free frames as requests
 pub planned_is : (s : State) (target n : ℕ) (classes : List Class) (front : List ℕ) (ws : List Wanted) → classes ≡ map (status_or_move s target) ws → front ≡ take n (free_list s target) → length classes ≤ n
-    → planned classes front target ≡ planned (map (status_or_move s target) ws) (free_list s target) target
+    → plan_run classes front target ≡ plan_run (map (status_or_move s target) ws) (free_list s target) target
 planned_is s target n classes front ws by at enough =
-    let told : List Class → Decisions → Planned = λ cs d. record { statuses = d.statuses; taken = d.taken; shortage = shortage cs d } in
-    ap (λ (fs : List ℕ). planned classes fs target) at
+    let told : List Class → Decisions → RunPlan = λ cs d. record { statuses = d.statuses; taken = d.taken; shortage = shortage cs d } in
+    ap (λ (fs : List ℕ). plan_run classes fs target) at
     ∙ ap (told classes) (few_suffice classes target [] (free_list s target) n enough)
-    ∙ ap (λ (cs : List Class). planned cs (free_list s target) target) by
+    ∙ ap (λ (cs : List Class). plan_run cs (free_list s target) target) by
 
 -- the plan for requests says what becomes of them one after another
-pub is_plan_of : (s : State) (target : ℕ) (ws : List Wanted) (p : Planned) → IsStrictlySortedBy nat_cmp (keys_of s.processes) → OwnsItsFree s.layout s.free target → HasOneAll ws
-    → p ≡ planned (map (status_or_move s target) ws) (free_list s target) target → IsPlanOf s target ws p
+pub is_plan_of : (s : State) (target : ℕ) (ws : List Wanted) (p : RunPlan) → IsStrictlySortedBy nat_cmp (keys_of s.processes) → OwnsItsFree s.layout s.free target → HasOneAll ws
+    → p ≡ plan_run (map (status_or_move s target) ws) (free_list s target) target → IsPlanOf s target ws p
 is_plan_of s target ws p order own alike is =
     let agrees = plan_agrees s target ws order own alike in
-    let both : Planned → Decisions = λ q. record { statuses = q.statuses; taken = q.taken } in
+    let both : RunPlan → Decisions = λ q. record { statuses = q.statuses; taken = q.taken } in
     record {
       planned = is;
-      agrees = subst (λ (q : Planned). Agrees s target (each_request s target ws) (both q)) (sym is) agrees;
-      can = subst (CanMove s target) (agrees.taken ∙ sym (ap (λ (q : Planned). q.taken) is)) (each_can ws target s);
+      agrees = subst (λ (q : RunPlan). Agrees s target (each_request s target ws) (both q)) (sym is) agrees;
+      can = subst (CanMove s target) (agrees.taken ∙ sym (ap (λ (q : RunPlan). q.taken) is)) (each_can ws target s);
     }

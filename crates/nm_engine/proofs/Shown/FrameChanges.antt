@@ -13,7 +13,7 @@ use Rattle.nm_types.specs.Map.{Map, get, set, replace, with_values, page_cmp}
 use Rattle.nm_types.specs.Layout.{frame_count}
 use Rattle.nm_types.specs.State.{Process, State}
 use Rattle.nm_model.specs.definitions.Frames.{Store, bytes_of, overwrite}
-use Rattle.nm_model.specs.definitions.Touch.{with_page, without_front}
+use Rattle.nm_model.specs.definitions.Touch.{with_page, without_front_frame}
 use Rattle.nm_model.specs.definitions.Run.{with_free, with_all_free}
 use Rattle.nm_model.specs.definitions.Sound.{PlacesAreApart}
 use Rattle.nm_engine.specs.views.Shown.{PagedFrames}
@@ -67,12 +67,12 @@ module _ (tasks : Map ℕ Process) (m : Table) (x : PagedFrames) (online : List 
 
   -- a page of zeros in the front frame of a node
   pub page_stocked_shows : HasItsFrames x → (page : Page) (node : ℕ) → get page_cmp x.place page ≡ None → 0 < length (free_of x node)
-      → shown tasks m (stock_page x page node) online moved failed ≡ with_page (without_front (shown tasks m x online moved failed) node) page (slice_index (free_of x node) 0)
+      → shown tasks m (stock_page x page node) online moved failed ≡ with_page (without_front_frame (shown tasks m x online moved failed) node) page (slice_index (free_of x node) 0)
   page_stocked_shows h page node unplaced some =
       let frame = slice_index (free_of x node) 0 in
       let frames = slice_set x.frames frame (Some (replicate 4096 0)) in
       let front = front_got (free_of x node) some in
-      let s = without_front (shown tasks m x online moved failed) node in
+      let s = without_front_frame (shown tasks m x online moved failed) node in
       let bytes = with_values-set exact_page (λ q. bytes_of frames) x.place page frame
       ∙ ap (set page_cmp (bytes_in frames x.place) page) (new_bytes x frame (replicate 4096 0) h (front_below x node frame h front))
       ∙ set_agree page_cmp_total exact_page (λ q. bytes_of frames) (λ q. bytes_of x.frames) x.place page (replicate 4096 0) h.in_order

@@ -9,7 +9,7 @@ use Rattle.nm_types.specs.Layout.{Layout, frame_count, owner}
 use Rattle.nm_types.specs.Nodes.{is_in}
 use Rattle.nm_model.specs.definitions.Frames.{Store, IsHome, bytes_of, all_frames}
 use Rattle.nm_model.specs.definitions.Frames as pool
-use Rattle.nm_model.specs.definitions.Sound.{times, FramesAreOnce, IsSoundMidRun}
+use Rattle.nm_model.specs.definitions.Sound.{times, FramesAreOnce, IsSoundInFlight}
 use Rattle.nm_spaces.specs.views.AddressSpaces.{AddressSpacesView}
 use Rattle.nm_engine.specs.views.Shown.{paged_frames, shown_by}
 use Rattle.nm_memory.specs.views.Frames.{FramesView, HasAllFrames, with_freed, CanFree, pool_of}
@@ -38,7 +38,7 @@ apart_from_front x page node from to h placed front e =
     omega (arith, one, two, most)
 
 -- frames and the pages that are in them, each frame in one place
-pub stocked_is : (y : AddressSpacesView) (k : FramesView) (online : List ℕ) (moved failed : ℕ) (left : List ℕ) → k.vacated ≡ left → IsSoundMidRun (shown_by y k online moved failed) left → HasAllFrames k → HasItsFrames (paged_frames y k)
+pub stocked_is : (y : AddressSpacesView) (k : FramesView) (online : List ℕ) (moved failed : ℕ) (left : List ℕ) → k.vacated ≡ left → IsSoundInFlight (shown_by y k online moved failed) left → HasAllFrames k → HasItsFrames (paged_frames y k)
 stocked_is y k online moved failed left is h shelf =
     record { in_order = h.order.place; once = subst (FramesAreOnce k.layout y.place k.free) (sym is) h.frames; buffers = shelf.buffers; home = shelf.home }
 
@@ -69,7 +69,7 @@ pub all_freed : (g : Layout) (place : Map Page ℕ) (p : pool.Pool) (left : List
 all_freed g place p [] e h = record { can = tt; sizes = e; once = h }
 all_freed g place p (frame ∷ left) e h =
     let now = freeing g place p.lists left frame h in
-    let after = all_freed g place (pool.appended p frame) left e
+    let after = all_freed g place (pool.with_back p frame) left e
     (subst (λ sizes. FramesAreOnce g place (slice_set p.lists (owner sizes frame) (slice_index_or p.lists (owner sizes frame) [] ++ frame ∷ [])) left) (sym e) now.next) in
     record {
       can = (
@@ -82,6 +82,6 @@ all_freed g place p (frame ∷ left) e h =
     }
 
 -- the frames that a run left can be freed
-pub can_free : (y : AddressSpacesView) (k : FramesView) (online : List ℕ) (moved failed : ℕ) → IsSoundMidRun (shown_by y k online moved failed) k.vacated → CanFree (pool_of k) k.vacated
+pub can_free : (y : AddressSpacesView) (k : FramesView) (online : List ℕ) (moved failed : ℕ) → IsSoundInFlight (shown_by y k online moved failed) k.vacated → CanFree (pool_of k) k.vacated
 can_free y k online moved failed h =
     (all_freed k.layout y.place (pool_of k) k.vacated refl h.frames).can

@@ -23,7 +23,7 @@ use Rattle.nm_spaces.specs.views.AddressSpaces.{AddressSpacesView}
 use Rattle.nm_memory.specs.views.Frames.{FramesView, KeepsBytes}
 use Rattle.nm_engine.specs.views.MidRun.{MidRun, IsKept}
 use Rattle.nm_engine.specs.views.Shown.{bytes_in, shown_by}
-use Rattle.nm_model.specs.definitions.Sound.{IsSoundMidRun}
+use Rattle.nm_model.specs.definitions.Sound.{IsSoundInFlight}
 
 -- ---- pages with a frame, in a sound machine
 
@@ -71,7 +71,7 @@ both_populated (t ∷ taken) store froms fronts = ((froms.0, fronts.0), both_pop
 -- ---- a machine whose frames keep their bytes is the same machine
 
 module _ (y : AddressSpacesView) (k after : FramesView) (online : List ℕ) (moved failed : ℕ) (is : after ≡ record k { frames = after.frames }) (keeps : KeepsBytes k.frames after.frames) where
-  pub same_shown : (l : List ℕ) → IsSoundMidRun (shown_by y k online moved failed) l → shown_by y after online moved failed ≡ shown_by y k online moved failed
+  pub same_shown : (l : List ℕ) → IsSoundInFlight (shown_by y k online moved failed) l → shown_by y after online moved failed ≡ shown_by y k online moved failed
   same_shown l sound =
       ap (λ (x : FramesView). shown_by y x online moved failed) is
       ∙ ap (λ (b : Map Page (List ℕ)). record (shown_by y k online moved failed) { bytes = b }) (bytes_kept k.frames after.frames y.place keeps sound.bytes.whole)

@@ -11,13 +11,13 @@ use Rattle.nm_model.specs.definitions.Memory.{byte_of, mem_range, stretch_of}
 use Rattle.nm_engine.specs.views.Shown.{PagedFrames}
 use Rattle.nm_model.specs.views.Table.{Table}
 use Rattle.nm_engine.specs.views.Shown.{shown}
-use Rattle.nm_model.specs.definitions.Sound.{IsSoundMidRun}
+use Rattle.nm_model.specs.definitions.Sound.{IsSoundInFlight}
 use Rattle.nm_types.proofs.Maps.{exact_page, get-values}
 use Rattle.nm_laws.proofs.Seen.Frames.{page_of_frame}
 use Rattle.nm_laws.proofs.Seen.Ranges.{range_here, zeros_here, parted, zero_has_none}
 
 -- what a process reads at an address inside a page
-module _ (tasks : Map ℕ Process) (m : Table) (x : PagedFrames) (online : List ℕ) (moved failed : ℕ) (l : List ℕ) (h : IsSoundMidRun (shown tasks m x online moved failed) l) (pid address len : ℕ) (fits : address % 4096 + len ≤ 4096) where
+module _ (tasks : Map ℕ Process) (m : Table) (x : PagedFrames) (online : List ℕ) (moved failed : ℕ) (l : List ℕ) (h : IsSoundInFlight (shown tasks m x online moved failed) l) (pid address len : ℕ) (fits : address % 4096 + len ≤ 4096) where
   pub reads_frame : (f : ℕ) → frame_seen (shown tasks m x online moved failed) pid (address / 4096) ≡ Some f
       → mem_range (shown tasks m x online moved failed) pid address len ≡ stretch_of (bytes_of x.frames f) (address % 4096) len
   reads_frame f seen =

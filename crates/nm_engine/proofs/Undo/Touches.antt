@@ -24,7 +24,7 @@ use Rattle.nm_types.proofs.Maps.{page_cmp_total, exact_page, equal, get-set, get
 use Rattle.nm_types.proofs.Keys.{All-get, sorted-set, some_from_keys}
 use Rattle.nm_model.specs.definitions.Seen.{sight_in, sight_at}
 use Rattle.nm_model.specs.definitions.Areas.{is_shared}
-use Rattle.nm_model.specs.definitions.Frames.{prepended}
+use Rattle.nm_model.specs.definitions.Frames.{with_front}
 use Rattle.nm_model.specs.definitions.Order.{first_touch_order}
 use Rattle.nm_engine.specs.declared.resolved_address.ResolvedAddress.{ResolvedAddress}
 use Rattle.nm_engine.specs.declared.prepared_run.undo.Undo.{Undo}
@@ -35,12 +35,12 @@ use Rattle.nm_engine.specs.views.MidRun.{IsKept}
 use Rattle.nm_engine.specs.views.Parts.{IsSiteOf, access_site}
 use Rattle.nm_engine.specs.views.Shown.{shown_by}
 use Rattle.nm_model.specs.definitions.Seen.{frame_of, frame_seen}
-use Rattle.nm_model.specs.definitions.Sound.{holders, IsSoundMidRun}
+use Rattle.nm_model.specs.definitions.Sound.{holders, IsSoundInFlight}
 use Rattle.nm_model.specs.definitions.Effect.{seeing_before}
 use Rattle.nm_types.specs.declared.machine_error.MachineError.{MachineError}
 use Rattle.nm_types.specs.declared.machine_error.MachineError.TheVariants as error
 use Rattle.nm_engine.specs.definitions.Does.{Touches}
-use Rattle.nm_model.specs.definitions.Touch.{AccessSite, shown_at, with_sight, first_free, allocated, filled, joined, touched_entry}
+use Rattle.nm_model.specs.definitions.Touch.{AccessSite, shown_at, with_sight, first_free, allocate_page, fill_page, share_page, touch_sight}
 use Rattle.nm_engine.specs.definitions.Undo.{seen_before, given_back, undone, all_undone, IsGiven, IsUndoable, CanUndo, IsStillUndone, given_now, noted, with_undo}
 use Rattle.nm_laws.proofs.Seen.Sights.{IsSpot, page_at_spot, sight_here}
 use Rattle.nm_laws.proofs.Soundness.Allocated.{placed_front}
@@ -105,7 +105,7 @@ none_from_keys {W = W} m n p e none =
 
 -- a front that was taken is put back
 free_back : (sizes : List ℕ) (free : List (List ℕ)) (node f : ℕ) (rest : List ℕ) → slice_index_or free node [] ≡ f ∷ rest → owner sizes f ≡ node → node < length free
-    → (prepended (record { sizes = sizes; lists = slice_set free node rest }) f).lists ≡ free
+    → (with_front (record { sizes = sizes; lists = slice_set free node rest }) f).lists ≡ free
 free_back sizes free node f rest front own below =
     let lists = slice_set free node rest in
     ap (λ n. slice_set lists n (f ∷ slice_index_or lists n [])) own
@@ -140,7 +140,7 @@ ok_is e = cc
 err_ok : {e : Errno} {t : State} → Err e ≡ okay t → ⊥
 err_ok e = cc
 
-module _ (s : State) (l : List ℕ) (at : AccessSite) (h : IsSoundMidRun s l) (i : IsSpot s at) where
+module _ (s : State) (l : List ℕ) (at : AccessSite) (h : IsSoundInFlight s l) (i : IsSpot s at) where
   sees_sorted : IsStrictlySortedBy nat_cmp (keys_of at.process.sees)
   sees_sorted = All-get nat_cmp (λ q. IsStrictlySortedBy nat_cmp (keys_of q.sees)) s.processes at.pid at.process h.order.sees i.process
 
@@ -160,7 +160,7 @@ module _ (s : State) (l : List ℕ) (at : AccessSite) (h : IsSoundMidRun s l) (i
           known = subst IsSome (sym (found_now s at i x)) refl;
           seen = subst IsSome (sym (sight_here s at x i)) refl;
           given = tt;
-          sound = subst (λ t. IsSoundMidRun t l) (sym is) h;
+          sound = subst (λ t. IsSoundInFlight t l) (sym is) h;
         },
         is,
       )
@@ -202,7 +202,7 @@ module _ (s : State) (l : List ℕ) (at : AccessSite) (h : IsSoundMidRun s l) (i
             known = subst IsSome (sym (found_now middle at there (Sees (shown_at at)))) refl;
             seen = subst IsSome (sym (sight_here middle at (Sees (shown_at at)) there)) refl;
             given = subst (λ t. IsGiven t given) (sym seen) is_given;
-            sound = subst (λ t. IsSoundMidRun t l) (sym is) h;
+            sound = subst (λ t. IsSoundInFlight t l) (sym is) h;
           },
           is,
         )
@@ -216,7 +216,7 @@ module _ (s : State) (l : List ℕ) (at : AccessSite) (h : IsSoundMidRun s l) (i
   -- a page gets a frame
   allocated_back : (zero : Bool) (o : Option ℕ) (new : State) (frame : Option ℕ) → get page_cmp s.place (shown_at at) ≡ None → ((node : ℕ) → o ≡ Some node → 0 < length (free_list s node))
       → seeing_before (record (at.process) { sees = set nat_cmp at.process.sees at.vpn (Sees (shown_at at)) }) at.vpn zero ≡ at.process
-      → allocated s at o ≡ Ok new → frame ≡ frame_seen new at.pid at.vpn → (g : ℕ) × (frame ≡ Some g) × IsTakenBack s l new (Some (record { pid = at.pid; vpn = at.vpn; zero = zero; given = Some (shown_at at, g) }))
+      → allocate_page s at o ≡ Ok new → frame ≡ frame_seen new at.pid at.vpn → (g : ℕ) × (frame ≡ Some g) × IsTakenBack s l new (Some (record { pid = at.pid; vpn = at.vpn; zero = zero; given = Some (shown_at at, g) }))
   allocated_back zero None new frame unplaced some e found seen = absurd (err_ok found)
   allocated_back zero (Some node) new frame unplaced some e found seen =
       let is = ok_is found in
@@ -228,7 +228,7 @@ module _ (s : State) (l : List ℕ) (at : AccessSite) (h : IsSoundMidRun s l) (i
 
   filled_back : (zero : Bool) (new : State) (frame : Option ℕ) → get page_cmp s.place (shown_at at) ≡ None
       → seeing_before (record (at.process) { sees = set nat_cmp at.process.sees at.vpn (Sees (shown_at at)) }) at.vpn zero ≡ at.process
-      → filled s at ≡ Ok new → frame ≡ frame_seen new at.pid at.vpn → (g : ℕ) × (frame ≡ Some g) × IsTakenBack s l new (Some (record { pid = at.pid; vpn = at.vpn; zero = zero; given = Some (shown_at at, g) }))
+      → fill_page s at ≡ Ok new → frame ≡ frame_seen new at.pid at.vpn → (g : ℕ) × (frame ≡ Some g) × IsTakenBack s l new (Some (record { pid = at.pid; vpn = at.vpn; zero = zero; given = Some (shown_at at, g) }))
   filled_back zero new frame unplaced e found seen =
       let order = first_touch_order s.layout s.online at.process.home at.process.allowed at.area.1.policy (shown_at at).index in
       allocated_back zero (first_free s.free order) new frame unplaced (λ node. found_free s.free order node) e found seen
@@ -236,14 +236,14 @@ module _ (s : State) (l : List ℕ) (at : AccessSite) (h : IsSoundMidRun s l) (i
   here_is : sight_at s at.pid at.vpn ≡ get nat_cmp at.process.sees at.vpn
   here_is = ap (λ o. sight_in o at.vpn) i.process
 
-  filled_absent : (new : State) (frame : Option ℕ) → get page_cmp s.place (shown_at at) ≡ None → get nat_cmp at.process.sees at.vpn ≡ None → filled s at ≡ Ok new → frame ≡ frame_seen new at.pid at.vpn
+  filled_absent : (new : State) (frame : Option ℕ) → get page_cmp s.place (shown_at at) ≡ None → get nat_cmp at.process.sees at.vpn ≡ None → fill_page s at ≡ Ok new → frame ≡ frame_seen new at.pid at.vpn
       → IsTakenBack s l new (noted at.pid at.vpn (shown_at at) None (get page_cmp s.place (shown_at at)) frame)
   filled_absent new frame unplaced none found seen =
       let back = filled_back false new frame unplaced (nothing_before (Sees (shown_at at)) none) found seen in
       subst (λ o. IsTakenBack s l new (noted at.pid at.vpn (shown_at at) None (get page_cmp s.place (shown_at at)) o)) (sym back.1)
       (subst (λ o. IsTakenBack s l new (noted at.pid at.vpn (shown_at at) None o (Some back.0))) (sym unplaced) back.2)
 
-  joined_back : (o : Option ℕ) (new : State) (frame : Option ℕ) → get page_cmp s.place (shown_at at) ≡ o → get nat_cmp at.process.sees at.vpn ≡ None → joined s at o ≡ Ok new → frame ≡ frame_seen new at.pid at.vpn
+  joined_back : (o : Option ℕ) (new : State) (frame : Option ℕ) → get page_cmp s.place (shown_at at) ≡ o → get nat_cmp at.process.sees at.vpn ≡ None → share_page s at o ≡ Ok new → frame ≡ frame_seen new at.pid at.vpn
       → IsTakenBack s l new (noted at.pid at.vpn (shown_at at) None (get page_cmp s.place (shown_at at)) frame)
   joined_back None new frame placed none found seen = filled_absent new frame placed none found seen
   joined_back (Some g) new frame placed none found seen =
@@ -264,25 +264,25 @@ module _ (s : State) (l : List ℕ) (at : AccessSite) (h : IsSoundMidRun s l) (i
       (subst (λ t. IsTakenBack s l t (Some (record { pid = at.pid; vpn = at.vpn; zero = false; given = None }))) is (seen_alone ZeroPage none)))
 
   -- nothing was seen
-  absent_back : (writes : Bool) (new : State) (frame : Option ℕ) → get nat_cmp at.process.sees at.vpn ≡ None → touched_entry s at writes None ≡ Ok new → frame ≡ frame_seen new at.pid at.vpn
+  absent_back : (writes : Bool) (new : State) (frame : Option ℕ) → get nat_cmp at.process.sees at.vpn ≡ None → touch_sight s at writes None ≡ Ok new → frame ≡ frame_seen new at.pid at.vpn
       → IsTakenBack s l new (noted at.pid at.vpn (shown_at at) None (get page_cmp s.place (shown_at at)) frame)
   absent_back writes new frame none found seen =
       elim (is_shared s.segments (shown_at at).segment) as (λ b. is_shared s.segments (shown_at at).segment ≡ b
-      → (if b then joined s at (get page_cmp s.place (shown_at at)) else (if writes then filled s at else Ok (with_sight s at ZeroPage))) ≡ Ok new
+      → (if b then share_page s at (get page_cmp s.place (shown_at at)) else (if writes then fill_page s at else Ok (with_sight s at ZeroPage))) ≡ Ok new
       → IsTakenBack s l new (noted at.pid at.vpn (shown_at at) None (get page_cmp s.place (shown_at at)) frame)) [
         | true ↦ λ b k. joined_back (get page_cmp s.place (shown_at at)) new frame refl none k seen
-        | false ↦ λ b k. elim writes as (λ w. (if w then filled s at else Ok (with_sight s at ZeroPage)) ≡ Ok new → IsTakenBack s l new (noted at.pid at.vpn (shown_at at) None (get page_cmp s.place (shown_at at)) frame)) [
+        | false ↦ λ b k. elim writes as (λ w. (if w then fill_page s at else Ok (with_sight s at ZeroPage)) ≡ Ok new → IsTakenBack s l new (noted at.pid at.vpn (shown_at at) None (get page_cmp s.place (shown_at at)) frame)) [
           | true ↦ λ k. filled_absent new frame (private_unplaced s l at h i (none_sees (here_is ∙ none)) b) none k seen
           | false ↦ λ k. zero_seen new frame none k seen
         ] k
       ] refl found
 
   -- the page of zeros was seen
-  zero_back : (writes : Bool) (new : State) (frame : Option ℕ) → get nat_cmp at.process.sees at.vpn ≡ Some ZeroPage → get page_cmp s.place (shown_at at) ≡ None → touched_entry s at writes (Some ZeroPage) ≡ Ok new
+  zero_back : (writes : Bool) (new : State) (frame : Option ℕ) → get nat_cmp at.process.sees at.vpn ≡ Some ZeroPage → get page_cmp s.place (shown_at at) ≡ None → touch_sight s at writes (Some ZeroPage) ≡ Ok new
       → frame ≡ frame_seen new at.pid at.vpn → IsTakenBack s l new (noted at.pid at.vpn (shown_at at) (Some ZeroPage) (get page_cmp s.place (shown_at at)) frame)
   unfolding IsTakenBack
   zero_back writes new frame zero unplaced found seen =
-      elim writes as (λ w. (if w then filled s at else Ok s) ≡ Ok new → IsTakenBack s l new (noted at.pid at.vpn (shown_at at) (Some ZeroPage) (get page_cmp s.place (shown_at at)) frame)) [
+      elim writes as (λ w. (if w then fill_page s at else Ok s) ≡ Ok new → IsTakenBack s l new (noted at.pid at.vpn (shown_at at) (Some ZeroPage) (get page_cmp s.place (shown_at at)) frame)) [
         | true ↦ λ k.
             let back = filled_back true new frame unplaced (zero_before (Sees (shown_at at)) zero) k seen in
             subst (λ o. IsTakenBack s l new (noted at.pid at.vpn (shown_at at) (Some ZeroPage) (get page_cmp s.place (shown_at at)) o)) (sym back.1)
@@ -293,15 +293,15 @@ module _ (s : State) (l : List ℕ) (at : AccessSite) (h : IsSoundMidRun s l) (i
             subst (λ o. IsTakenBack s l new (noted at.pid at.vpn (shown_at at) (Some ZeroPage) (get page_cmp s.place (shown_at at)) o)) (sym nothing) (sym is)
       ] found
 
-zero_unplaced : (s : State) (l : List ℕ) (at : AccessSite) → IsSoundMidRun s l → IsSpot s at → sight_at s at.pid at.vpn ≡ Some ZeroPage → get page_cmp s.place (shown_at at) ≡ None
+zero_unplaced : (s : State) (l : List ℕ) (at : AccessSite) → IsSoundInFlight s l → IsSpot s at → sight_at s at.pid at.vpn ≡ Some ZeroPage → get page_cmp s.place (shown_at at) ≡ None
 zero_unplaced s l at h i e =
     let zero = h.zeros at.pid at.vpn e in
     let same : zero.0 ≡ shown_at at = some_is (sym zero.1 ∙ page_at_spot s at i) in
     private_unplaced s l at h i (zero_sees e) (ap (λ (q : Page). is_shared s.segments q.segment) (sym same) ∙ zero.2)
 
 -- whatever was seen
-touch_back : (s : State) (l : List ℕ) (at : AccessSite) (writes : Bool) (o : Option Sight) (new : State) (frame : Option ℕ) → IsSoundMidRun s l → IsSpot s at → sight_at s at.pid at.vpn ≡ o
-    → touched_entry s at writes o ≡ Ok new → frame ≡ frame_seen new at.pid at.vpn
+touch_back : (s : State) (l : List ℕ) (at : AccessSite) (writes : Bool) (o : Option Sight) (new : State) (frame : Option ℕ) → IsSoundInFlight s l → IsSpot s at → sight_at s at.pid at.vpn ≡ o
+    → touch_sight s at writes o ≡ Ok new → frame ≡ frame_seen new at.pid at.vpn
     → IsTakenBack s l new (noted at.pid at.vpn (shown_at at) o (get page_cmp s.place (shown_at at)) frame)
 unfolding IsTakenBack
 touch_back s l at writes None new frame h i e found seen = absent_back s l at h i writes new frame (sym (here_is s l at h i) ∙ e) found seen
@@ -309,8 +309,8 @@ touch_back s l at writes (Some ZeroPage) new frame h i e found seen = zero_back 
 touch_back s l at writes (Some (Sees q)) new frame h i e found seen = sym (ok_is found)
 
 -- the same of a touch that was looked up
-pub touched_back : (s : State) (l : List ℕ) (t : ResolvedAddress) (p : Process) (a : Placed) (writes : Bool) (new : State) (frame : Option ℕ) → IsSoundMidRun s l → IsSiteOf s.processes s.areas t p a
-    → touched_entry s (access_site t p a) writes (get nat_cmp p.sees t.vpn) ≡ Ok new → frame ≡ frame_seen new t.pid t.vpn
+pub touched_back : (s : State) (l : List ℕ) (t : ResolvedAddress) (p : Process) (a : Placed) (writes : Bool) (new : State) (frame : Option ℕ) → IsSoundInFlight s l → IsSiteOf s.processes s.areas t p a
+    → touch_sight s (access_site t p a) writes (get nat_cmp p.sees t.vpn) ≡ Ok new → frame ≡ frame_seen new t.pid t.vpn
     → IsTakenBack s l new (noted t.pid t.vpn t.page (sight_at s t.pid t.vpn) (get page_cmp s.place t.page) frame)
 touched_back s l t p a writes new frame h r found seen =
     let e : sight_at s t.pid t.vpn ≡ get nat_cmp p.sees t.vpn = ap (λ o. sight_in o t.vpn) r.known in
@@ -329,7 +329,7 @@ value_there None h = cc
 value_there (Some x) h = (x, refl)
 
 -- the frame of a page can be put back
-pub can_put_back : (s : State) (l : List ℕ) (page : Page) (frame : ℕ) → IsSoundMidRun s l → get page_cmp s.place page ≡ Some frame → CanFree (record { sizes = s.layout.sizes; lists = s.free }) (frame ∷ [])
+pub can_put_back : (s : State) (l : List ℕ) (page : Page) (frame : ℕ) → IsSoundInFlight s l → get page_cmp s.place page ≡ Some frame → CanFree (record { sizes = s.layout.sizes; lists = s.free }) (frame ∷ [])
 can_put_back s l page frame h placed =
     let below = place_in_range s l page frame h placed in
     let some = counted_place s.place page frame placed in
@@ -338,7 +338,7 @@ can_put_back s l page frame h placed =
     (below, not_in (free_list s (node_of s.layout frame)) frame (omega (arith, some, part, whole)), tt)
 
 module _ (y z w : AddressSpacesView) (k j : FramesView) (online : List ℕ) (moved failed pid v : ℕ) (zero : Bool) (page : Page) (frame : ℕ) (known : IsSome (get nat_cmp y.processes pid))
-    (seen : (p : Process) → get nat_cmp y.processes pid ≡ Some p → z ≡ with_before y pid p v zero) (unplaced : w ≡ without_page z page) (freed : j ≡ record k { free = (prepended (pool_of k) frame).lists }) where
+    (seen : (p : Process) → get nat_cmp y.processes pid ≡ Some p → z ≡ with_before y pid p v zero) (unplaced : w ≡ without_page z page) (freed : j ≡ record k { free = (with_front (pool_of k) frame).lists }) where
   pub back_shows : shown_by w j online moved failed ≡ undone (shown_by y k online moved failed) (record { pid = pid; vpn = v; zero = zero; given = Some (page, frame) })
   back_shows =
       let p = value_there (get nat_cmp y.processes pid) known in
@@ -349,12 +349,12 @@ module _ (y z w : AddressSpacesView) (k j : FramesView) (online : List ℕ) (mov
       ∙ ap (λ b. record all { bytes = b }) (with_values-without page_cmp (λ q f. bytes_of k.frames f) y.place page)
       ∙ ap (λ o. given_back (seen_before s o pid v zero) (Some (page, frame))) (sym p.1)
 
-  pub back_kept : IsKept (shown_by y k online moved failed) k.vacated y.frames → IsSoundMidRun (undone (shown_by y k online moved failed) (record { pid = pid; vpn = v; zero = zero; given = Some (page, frame) })) k.vacated
+  pub back_kept : IsKept (shown_by y k online moved failed) k.vacated y.frames → IsSoundInFlight (undone (shown_by y k online moved failed) (record { pid = pid; vpn = v; zero = zero; given = Some (page, frame) })) k.vacated
       → IsKept (shown_by w j online moved failed) j.vacated w.frames
   back_kept kept sound =
       let p = value_there (get nat_cmp y.processes pid) known in
       let after : w ≡ without_page (with_before y pid p.0 v zero) page = unplaced ∙ ap (λ y. without_page y page) (seen p.0 p.1) in
       record {
-        sound = subst (λ s. IsSoundMidRun s j.vacated) (sym back_shows) (subst (λ (j : FramesView). IsSoundMidRun (undone (shown_by y k online moved failed) (record { pid = pid; vpn = v; zero = zero; given = Some (page, frame) })) j.vacated) (sym freed) sound);
+        sound = subst (λ s. IsSoundInFlight s j.vacated) (sym back_shows) (subst (λ (j : FramesView). IsSoundInFlight (undone (shown_by y k online moved failed) (record { pid = pid; vpn = v; zero = zero; given = Some (page, frame) })) j.vacated) (sym freed) sound);
         as_many = ap (λ (w : AddressSpacesView). w.frames) after ∙ kept.as_many ∙ sym (ap (λ (j : FramesView). frame_count j.layout) freed);
       }

@@ -7,10 +7,10 @@ use Rattle.nm_types.specs.State.{State}
 use Rattle.nm_types.specs.declared.machine_error.MachineError.{MachineError}
 use Rattle.nm_types.specs.declared.machine_error.MachineError.TheVariants as error
 pub use Rattle.nm_types.specs.Does.{Makes, AsksLast, Alters, Tells}
-use Rattle.nm_model.specs.definitions.Touch.{Access, AccessAnswer, Answered, Refused, site_of_access, is_held}
+use Rattle.nm_model.specs.definitions.Touch.{Access, AccessAnswer, AccessResult, Refused, site_of_access, is_held}
 
 -- a read or a write: its answer and the state after it are as defined, or the host is out of memory and nothing changes
-abbrev pub Accesses : {T : Type 0} → Result T MachineError → (T → AccessAnswer) → State → State → Answered → Type 0
+abbrev pub Accesses : {T : Type 0} → Result T MachineError → (T → AccessAnswer) → State → State → AccessResult → Type 0
 Accesses (Ok value) shown old new a = (a.answer ≡ shown value) × (new ≡ a.state)
 Accesses (Err (error.Refused e)) shown old new a = (a.answer ≡ Refused e) × (new ≡ old)
 Accesses (Err error.HostMemory) shown old new a = new ≡ old

@@ -4,7 +4,7 @@ use Rattle.nm_types.specs.State.{State}
 use Rattle.nm_types.specs.declared.request.Wanted.{Wanted}
 use Rattle.nm_frames.specs.declared.job.CopyJob.{CopyJob}
 use Rattle.nm_model.specs.definitions.Events.{Event, End, accesses_in, effect, is_allowed}
-use Rattle.nm_model.specs.definitions.Run.{Ran, run}
+use Rattle.nm_model.specs.definitions.Run.{RunResult, run}
 use Rattle.nm_model.specs.definitions.RunMachine.{RunMachine, Ended, state_of}
 use Rattle.nm_model.specs.definitions.Touch.{Access}
 use Rattle.nm_laws.specs.Interleavings.{Unfolds, IsRun}
@@ -18,12 +18,12 @@ pub record RunAsked : Type 0 where
   pub accesses : List Access
 
 -- the run that the definitions make of it
-abbrev pub run_asked : State → RunAsked → Ran
+abbrev pub run_asked : State → RunAsked → RunResult
 run_asked s asked = run s asked.target asked.wanted asked.accesses
 
 -- a run machine that begins such a run at rest in this state, with these accesses meanwhile, ends it so, whatever order
 -- its events take
-abbrev pub EndsSo : State → RunAsked → Ran → Type 0
+abbrev pub EndsSo : State → RunAsked → RunResult → Type 0
 EndsSo s asked ran =
     (m : RunMachine) (events : List Event) (n : RunMachine) →
     state_of m ≡ s → Unfolds m asked.target asked.wanted events n → accesses_in events ≡ asked.accesses → n.phase ≡ Ended → IsRun n ran
@@ -32,7 +32,7 @@ module _ {A : Type 0} where
   -- events that the run machine allows, from the beginning of such a run at rest in this state, with these accesses; then
   -- its end is allowed, and the run ends so. Before its end the machine has the entries and the bytes of this run of the
   -- engine, and jobs between the same frames as these
-  pub record GoesByEvents (s : State) (asked : RunAsked) (x : Flight) (jobs : List (CopyJob A)) (ran : Ran) : Type 0 where
+  pub record GoesByEvents (s : State) (asked : RunAsked) (x : Flight) (jobs : List (CopyJob A)) (ran : RunResult) : Type 0 where
     pub first : RunMachine
     pub events : List Event
     pub now : RunMachine

@@ -8,11 +8,11 @@ use Rattle.nm_types.specs.declared.sight.Sight.TheVariants.{ZeroPage, Sees}
 use Rattle.nm_types.specs.Map.{get, replace, without, page_cmp}
 use Rattle.nm_types.specs.State.{Process, State}
 use Rattle.nm_model.specs.definitions.Seen.{sight_at}
-use Rattle.nm_model.specs.definitions.Frames.{prepended}
+use Rattle.nm_model.specs.definitions.Frames.{with_front}
 use Rattle.nm_engine.specs.declared.prepared_run.undo.Undo.{Undo}
 use Rattle.nm_engine.specs.declared.touch.Touched.{Touched}
 use Rattle.nm_model.specs.definitions.Effect.{seeing_before}
-use Rattle.nm_model.specs.definitions.Sound.{IsSoundMidRun}
+use Rattle.nm_model.specs.definitions.Sound.{IsSoundInFlight}
 
 -- a touch of a process at a page number, where it saw the page of zeros or nothing; the page got a frame, or none was given
 abbrev pub touched_at : ℕ → ℕ → Bool → Option ℕ → Option (Page × ℕ) → Touched
@@ -32,7 +32,7 @@ given_back s (Some given) =
       place = without page_cmp s.place given.0;
       bytes = without page_cmp s.bytes given.0;
       pins = without page_cmp s.pins given.0;
-      free = (prepended (record { sizes = s.layout.sizes; lists = s.free }) given.1).lists;
+      free = (with_front (record { sizes = s.layout.sizes; lists = s.free }) given.1).lists;
     }
 
 -- a touch is undone
@@ -56,7 +56,7 @@ pub record IsUndoable (s : State) (left : List ℕ) (u : Undo) : Type 0 where
   pub known : IsSome (get nat_cmp s.processes u.pid)
   pub seen : IsSome (sight_at s u.pid u.vpn)
   pub given : IsGiven (seen_before s (get nat_cmp s.processes u.pid) u.pid u.vpn u.zero) u.given
-  pub sound : IsSoundMidRun (undone s u) left
+  pub sound : IsSoundInFlight (undone s u) left
 
 -- touches can be undone, the last first
 abbrev pub CanUndo : State → List ℕ → List Undo → Type 0

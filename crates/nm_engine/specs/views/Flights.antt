@@ -11,16 +11,16 @@ use Rattle.nm_types.specs.State.{State}
 use Rattle.nm_frames.specs.declared.job.CopyJob.{CopyJob}
 use Rattle.nm_frames.specs.Job.{copied}
 use Rattle.nm_memory.specs.views.Populated.{IsPopulated}
-use Rattle.nm_model.specs.definitions.Accesses.{accessed}
+use Rattle.nm_model.specs.definitions.Accesses.{after_access}
 use Rattle.nm_model.specs.definitions.BeforeCopy.{PendingAccess, after_copy, all_after_copy, answer_after_copy, with_fronts, frames_taken}
-use Rattle.nm_model.specs.definitions.Decide.{Planned}
-use Rattle.nm_model.specs.definitions.Events.{Event, accesses_in, after, begun, ended, is_given}
+use Rattle.nm_model.specs.definitions.Decide.{RunPlan}
+use Rattle.nm_model.specs.definitions.Events.{Event, accesses_in, after, begin_run, end_run, is_given}
 use Rattle.nm_model.specs.definitions.Frames.{Store}
 use Rattle.nm_model.specs.definitions.PageTables.{Task, entry_at}
 use Rattle.nm_model.specs.definitions.Run.{HasOneAll, frames_left}
 use Rattle.nm_model.specs.definitions.RunMachine.{RunMachine, Moving, state_of}
 use Rattle.nm_model.specs.definitions.Sound.{IsSound}
-use Rattle.nm_model.specs.definitions.Touch.{Access, AccessAnswer, all_in_flight, in_flight}
+use Rattle.nm_model.specs.definitions.Touch.{Access, AccessAnswer, all_in_flight, access_during}
 use Rattle.nm_laws.specs.Interleavings.{IsAtRest}
 use Rattle.nm_laws.specs.Midway.{IsMidway, ends_of}
 use Rattle.nm_laws.specs.Moves.{CanMove, IsPlanOf}
@@ -121,10 +121,10 @@ module _ {A : Type 0} where
   -- a run machine that begins the run of a plan with these moves is then at this moment
   abbrev pub BeginsSo : MidRun → List Taken → Flight → List (CopyJob A) → Type 0
   BeginsSo prepared moves x jobs =
-      (m : RunMachine) (target : ℕ) (wanted : List Wanted) (p : Planned) →
+      (m : RunMachine) (target : ℕ) (wanted : List Wanted) (p : RunPlan) →
       IsAtRest m → HasOneAll wanted → IsReadyFor prepared target moves →
       state_of m ≡ with_fronts prepared.state target (frames_taken moves) →
-      IsPlanOf (state_of m) target wanted p → p.taken ≡ moves → IsMoment (begun m target wanted) x jobs
+      IsPlanOf (state_of m) target wanted p → p.taken ≡ moves → IsMoment (begin_run m target wanted) x jobs
 
   -- a run machine at the first moment, at the second once jobs are drawn and given back, and accesses made for which this is
   -- left to do, with their answers
@@ -138,12 +138,12 @@ module _ {A : Type 0} where
   abbrev pub EndsAs : Flight → List (CopyJob A) → List ℤ → State → Type 0
   EndsAs x jobs statuses s =
       (m : RunMachine) → IsMoment m x jobs → list_all (λ job. is_given job.stage) m.jobs ≡ true → m.statuses ≡ statuses →
-      state_of (ended m) ≡ s
+      state_of (end_run m) ≡ s
 
 -- a run machine at the first moment, at the second once an access is made for which this is left to do, with its answer
 abbrev pub AnswersSo : (A : Type 0) → Flight → PendingAccess → Flight → AccessAnswer → Type 0
 AnswersSo A x due y answer =
     (m : RunMachine) (a : Access) (jobs : List (CopyJob A)) → AreOutIn x jobs → IsMoment m x jobs →
-    in_flight (state_of m) (map (λ t. t.page) x.moves) a
+    access_during (state_of m) (map (λ t. t.page) x.moves) a
     ≡ record { state = after_copy (state_of m) due; answer = answer_after_copy (state_of m) due } →
-    IsMoment (accessed m a) y jobs × ((accessed m a).answers ≡ m.answers ++ answer ∷ [])
+    IsMoment (after_access m a) y jobs × ((after_access m a).answers ≡ m.answers ++ answer ∷ [])

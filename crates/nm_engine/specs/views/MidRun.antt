@@ -1,7 +1,7 @@
 -- The parts of a machine together, also during a run.
 use Rattle.std.specs.Prelude.{◌≡◌, ℕ, List, []}
 use Rattle.nm_types.specs.State.{State}
-use Rattle.nm_model.specs.definitions.Sound.{IsSoundMidRun}
+use Rattle.nm_model.specs.definitions.Sound.{IsSoundInFlight}
 use Rattle.nm_types.specs.Layout.{frame_count}
 
 -- a state, the frames that a run's pages have left, and how many there is room for
@@ -12,7 +12,7 @@ pub record MidRun : Type 0 where
 
 -- the state is sound, and the reverse map has as many frames as the nodes
 pub record IsKept (s : State) (left : List ℕ) (frames : ℕ) : Type 0 where
-  pub sound : IsSoundMidRun s left
+  pub sound : IsSoundInFlight s left
   pub as_many : frames ≡ frame_count s.layout
 
 -- the state is sound, the reverse map has as many frames as the nodes, and no frame belongs to a run

@@ -11,7 +11,7 @@ use Rattle.nm_types.specs.State.{Process, Placed, State, area_over, page_of}
 use Rattle.nm_engine.specs.declared.resolved_address.ResolvedAddress.{ResolvedAddress}
 use Rattle.nm_model.specs.definitions.Effect.{info_of}
 use Rattle.nm_model.specs.definitions.Seen.{sight_in}
-use Rattle.nm_model.specs.definitions.Touch.{AccessSite, site, touched_entry}
+use Rattle.nm_model.specs.definitions.Touch.{AccessSite, site, touch_sight}
 use Rattle.nm_spaces.specs.views.AddressSpaces.{AddressSpacesView}
 use Rattle.nm_memory.specs.views.Frames.{FramesView}
 use Rattle.nm_engine.specs.declared.prepared_run.undo.Undo.{Undo}
@@ -55,7 +55,7 @@ Effect = State → Process → AccessSite → Result State Errno
 
 -- the touch of a read or of a write
 abbrev pub touched_by : ResolvedAddress → Bool → Effect
-touched_by t writes s p at = touched_entry s at writes (get nat_cmp p.sees t.vpn)
+touched_by t writes s p at = touch_sight s at writes (get nat_cmp p.sees t.vpn)
 
 -- how to undo the touch that found these address spaces, and returned this frame
 abbrev pub noted_by : ResolvedAddress → AddressSpacesView → Option ℕ → Option Undo

@@ -4,7 +4,7 @@ use Rattle.std.specs.Borrow.{Bor}
 use Rattle.nm_types.specs.State.{State}
 use Rattle.nm_types.specs.declared.access.Access.{Access as Asked}
 use Rattle.nm_runs.specs.declared.Run.{Run}
-use Rattle.nm_model.specs.definitions.Run.{Ran}
+use Rattle.nm_model.specs.definitions.Run.{RunResult}
 use Rattle.nm_model.specs.definitions.Touch.{Access}
 use Rattle.nm_model.specs.views.Asked.{access_shown}
 use Rattle.nm_memory.specs.views.Accesses.{answer_shown}
@@ -21,5 +21,5 @@ module _ {A : Type 0} where
   asked_by requests accesses = record { target = requests.target; wanted = requests.wanted.items; accesses = accesses_shown accesses }
 
   -- a run that was made: the state after it, and its answer
-  abbrev pub ran_by : State → RunAnswer A → Ran
+  abbrev pub ran_by : State → RunAnswer A → RunResult
   ran_by after flown = record { state = after; statuses = flown.statuses.items; answers = map answer_shown flown.answers.items ∷ [] }

@@ -4,9 +4,9 @@ ghost use Rattle.std.specs.Prelude.{Err, IfOk, OnErr, OnOk, false, length, map, 
 ghost use Rattle.nm_model.specs.definitions.AreaRefusal.{overlaps};
 ghost use Rattle.std.specs.List.{list_any};
 ghost use Rattle.nm_engine.specs.definitions.Does.{AsksLast, Makes};
-ghost use Rattle.nm_model.specs.definitions.Effect.{attach, attach_refusal, dropped, is_unknown, map_new, map_refusal, policy_refusal, set_policy, set_range_policy, shows_pinned, unmap, unmap_refusal};
+ghost use Rattle.nm_model.specs.definitions.Effect.{attach, attach_refusal, drop_range, is_unknown, map_new, map_refusal, policy_refusal, set_policy, set_range_policy, shows_pinned, unmap, unmap_refusal};
 ghost use Rattle.nm_areas.specs.Splits.{HasSplit};
-ghost use Rattle.nm_model.specs.definitions.Areas.{pages_of};
+ghost use Rattle.nm_model.specs.definitions.Areas.{page_count};
 ghost use Rattle.nm_memory.specs.views.Frames.{CanFree, pool_of, with_freed};
 ghost use Rattle.nm_runs.specs.Targets.{Checks};
 
@@ -105,7 +105,7 @@ impl<A: Allocator + Copy + Send + Sync> Machine<A> {
             ≡ false }
 
         // On success
-        ensures ok { OnOk result (self.new ≡ dropped self.old pid range.first range.end) }
+        ensures ok { OnOk result (self.new ≡ drop_range self.old pid range.first range.end) }
 
         // Without memory
         ensures err { OnErr result (self.new ≡ self.old) }
@@ -133,7 +133,7 @@ impl<A: Allocator + Copy + Send + Sync> Machine<A> {
 
         // On success
         ensures range { IfOk result
-            (λ range. (range.first ≡ addr / 4096) × (range.end ≡ addr / 4096 + pages_of len)) }
+            (λ range. (range.first ≡ addr / 4096) × (range.end ≡ addr / 4096 + page_count len)) }
     {
         if self.spaces.info(pid).is_none() {
             return Err(Errno::Esrch);
@@ -159,7 +159,7 @@ impl<A: Allocator + Copy + Send + Sync> Machine<A> {
         ensures some { result ≡ Err MachineError.HostMemory → 0 < len }
         ensures asked { result ≡ Err MachineError.HostMemory →
             HasSplit self.old.areas pid (addr / 4096)
-            ⊎ HasSplit self.old.areas pid (addr / 4096 + pages_of len) }
+            ⊎ HasSplit self.old.areas pid (addr / 4096 + page_count len) }
     {
         if self.spaces.info(pid).is_none() {
             return Err(MachineError::Refused(Errno::Esrch));

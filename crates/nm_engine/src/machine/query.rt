@@ -2,7 +2,7 @@
 
 ghost use Rattle.std.specs.Prelude.{Err, IfOk, length, true, ◌<◌, ◌≡◌};
 ghost use Rattle.nm_engine.specs.definitions.Does.{AsksLast, Tells};
-ghost use Rattle.nm_model.specs.definitions.Sound.{IsSound, audited};
+ghost use Rattle.nm_model.specs.definitions.Sound.{IsSound, each_frame_is_once};
 ghost use Rattle.nm_model.specs.definitions.Effect.{list_refusal};
 ghost use Rattle.nm_types.specs.State.{free_list};
 ghost use Rattle.nm_model.specs.definitions.Touch.{has_free};
@@ -45,7 +45,7 @@ impl<A: Allocator + Copy + Send + Sync> Machine<A> {
     /// Whether each frame of the machine is in exactly one place: once in its own node's free list, or the frame of one
     /// page. True, since a machine is sound. An error means that the host is out of memory.
     pub fn audit(&self) -> Result<bool, AllocError>
-        ensures told { IfOk result (λ b. b ≡ audited self.now) }
+        ensures told { IfOk result (λ b. b ≡ each_frame_is_once self.now) }
         ensures sound { IfOk result (λ b. b ≡ true) }
     {
         let places = self.spaces.areas().frames()?;

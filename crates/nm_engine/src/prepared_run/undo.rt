@@ -9,7 +9,7 @@ ghost use Rattle.nm_engine.specs.views.Parts.{HasSite, IsSiteOf, access_site, no
 ghost use Rattle.nm_engine.specs.views.Spaces.{spaces_of};
 ghost use Rattle.nm_engine.specs.definitions.Does.{Touches};
 ghost use Rattle.nm_model.specs.definitions.Seen.{frame_seen};
-ghost use Rattle.nm_model.specs.definitions.Sound.{IsSoundMidRun};
+ghost use Rattle.nm_model.specs.definitions.Sound.{IsSoundInFlight};
 ghost use Rattle.nm_engine.specs.definitions.Undo.{CanUndo, IsUndoable, IsStillUndone, undone, all_undone, with_undo};
 
 use crate::prepared_run::PreparedRun;
@@ -56,7 +56,7 @@ impl<A: Allocator + Copy> PreparedRun<A> {
             (λ frame. undos.new.items
             ≡ with_undo undos.old.items (noted_by t (spaces_of self.old.state) frame)) }
         ensures err { OnErr result (undos.new.items ≡ undos.old.items) }
-        ensures sound { OnOk result (IsSoundMidRun self.old.state self.old.left) }
+        ensures sound { OnOk result (IsSoundInFlight self.old.state self.old.left) }
         ensures back { IsStillUndone self.old.left self.old.state undos.old.items self.new.state undos.new.items }
     {
         undos.reserve(1)?;

@@ -12,7 +12,7 @@ use Rattle.nm_types.specs.State.{Process, State, Placed, area_over, free_list}
 use Rattle.nm_model.specs.definitions.Seen.{sight_at, sight_in}
 use Rattle.nm_model.specs.definitions.Areas.{is_shared}
 use Rattle.nm_model.specs.definitions.Order.{first_touch_order}
-use Rattle.nm_model.specs.definitions.Touch.{AccessSite, shown_at, site_over, site_of, site, first_free, with_sight, with_page, without_front, allocated, filled, joined, touched_entry, touched, touch, Access, Read, Write}
+use Rattle.nm_model.specs.definitions.Touch.{AccessSite, shown_at, site_over, site_of, site, first_free, with_sight, with_page, without_front_frame, allocate_page, fill_page, share_page, touch_sight, touch_site, touch, Access, Read, Write}
 use Rattle.nm_model.specs.definitions.Touch.{is_held, site_of_access}
 use Rattle.nm_model.specs.definitions.BeforeCopy.{PendingAccess, BeforeCopy, held_before_copy, before_copy, read_before_copy, write_before_copy, access_before_copy, AllBeforeCopy, all_before_copy}
 use Rattle.nm_laws.proofs.Seen.Sights.{IsSpot}
@@ -39,32 +39,32 @@ module _ (places : Map Page ℕ → Map Page ℕ) (bytes : Map Page (List ℕ) �
     pub absent : sight_at s at.pid at.vpn ≡ None → is_shared s.segments (shown_at at).segment ≡ false → set page_cmp (bytes s.bytes) (shown_at at) zeros ≡ bytes (set page_cmp s.bytes (shown_at at) zeros)
 
   module _ (s : State) (at : AccessSite) (k : Spares s at) where
-    allocated_too : (o : Option ℕ) → set page_cmp (bytes s.bytes) (shown_at at) zeros ≡ bytes (set page_cmp s.bytes (shown_at at) zeros) → allocated (changed s) at o ≡ both_changed (allocated s at o)
+    allocated_too : (o : Option ℕ) → set page_cmp (bytes s.bytes) (shown_at at) zeros ≡ bytes (set page_cmp s.bytes (shown_at at) zeros) → allocate_page (changed s) at o ≡ both_changed (allocate_page s at o)
     allocated_too None same = refl
     allocated_too (Some node) same =
         let front = slice_index (free_list s node) 0 in
-        λ i. Ok (with_sight (record (with_page (without_front s node) (shown_at at) front) { place = k.placed front i; bytes = same i }) at (Sees (shown_at at)))
+        λ i. Ok (with_sight (record (with_page (without_front_frame s node) (shown_at at) front) { place = k.placed front i; bytes = same i }) at (Sees (shown_at at)))
 
-    filled_too : set page_cmp (bytes s.bytes) (shown_at at) zeros ≡ bytes (set page_cmp s.bytes (shown_at at) zeros) → filled (changed s) at ≡ both_changed (filled s at)
+    filled_too : set page_cmp (bytes s.bytes) (shown_at at) zeros ≡ bytes (set page_cmp s.bytes (shown_at at) zeros) → fill_page (changed s) at ≡ both_changed (fill_page s at)
     filled_too = allocated_too (first_free s.free (first_touch_order s.layout s.online at.process.home at.process.allowed at.area.1.policy (shown_at at).index))
 
-    joined_too : (o : Option ℕ) → get page_cmp s.place (shown_at at) ≡ o → joined (changed s) at o ≡ both_changed (joined s at o)
+    joined_too : (o : Option ℕ) → get page_cmp s.place (shown_at at) ≡ o → share_page (changed s) at o ≡ both_changed (share_page s at o)
     joined_too None e = filled_too (k.unplaced e)
     joined_too (Some f) e = refl
 
-    entry_too : (writes : Bool) (o : Option Sight) → sight_at s at.pid at.vpn ≡ o → touched_entry (changed s) at writes o ≡ both_changed (touched_entry s at writes o)
+    entry_too : (writes : Bool) (o : Option Sight) → sight_at s at.pid at.vpn ≡ o → touch_sight (changed s) at writes o ≡ both_changed (touch_sight s at writes o)
     entry_too writes None e =
         elim (is_shared s.segments (shown_at at).segment) as (λ b. is_shared s.segments (shown_at at).segment ≡ b →
-        (if b then joined (changed s) at (get page_cmp (places s.place) (shown_at at)) else (if writes then filled (changed s) at else Ok (with_sight (changed s) at ZeroPage)))
-        ≡ both_changed (if b then joined s at (get page_cmp s.place (shown_at at)) else (if writes then filled s at else Ok (with_sight s at ZeroPage)))) [
-          | true ↦ λ b. ap (joined (changed s) at) k.place ∙ joined_too (get page_cmp s.place (shown_at at)) refl
-          | false ↦ λ b. elim writes as (λ w. (if w then filled (changed s) at else Ok (with_sight (changed s) at ZeroPage)) ≡ both_changed (if w then filled s at else Ok (with_sight s at ZeroPage))) [
+        (if b then share_page (changed s) at (get page_cmp (places s.place) (shown_at at)) else (if writes then fill_page (changed s) at else Ok (with_sight (changed s) at ZeroPage)))
+        ≡ both_changed (if b then share_page s at (get page_cmp s.place (shown_at at)) else (if writes then fill_page s at else Ok (with_sight s at ZeroPage)))) [
+          | true ↦ λ b. ap (share_page (changed s) at) k.place ∙ joined_too (get page_cmp s.place (shown_at at)) refl
+          | false ↦ λ b. elim writes as (λ w. (if w then fill_page (changed s) at else Ok (with_sight (changed s) at ZeroPage)) ≡ both_changed (if w then fill_page s at else Ok (with_sight s at ZeroPage))) [
             | true ↦ filled_too (k.absent e b)
             | false ↦ refl
           ]
         ] refl
     entry_too writes (Some ZeroPage) e =
-        elim writes as (λ w. (if w then filled (changed s) at else Ok (changed s)) ≡ both_changed (if w then filled s at else Ok s)) [ true ↦ filled_too (k.zero e) | false ↦ refl ]
+        elim writes as (λ w. (if w then fill_page (changed s) at else Ok (changed s)) ≡ both_changed (if w then fill_page s at else Ok s)) [ true ↦ filled_too (k.zero e) | false ↦ refl ]
     entry_too writes (Some (Sees p)) e = refl
 
   -- where a process and its area are found
@@ -76,7 +76,7 @@ module _ (places : Map Page ℕ → Map Page ℕ) (bytes : Map Page (List ℕ) �
   spot_too s (Read pid address len) = spot_same s pid address len (get nat_cmp s.processes pid)
   spot_too s (Write pid address new) = spot_same s pid address (length new) (get nat_cmp s.processes pid)
 
-  touched_too : (s : State) (writes : Bool) (r : Result AccessSite Errno) → ((at : AccessSite) → r ≡ Ok at → IsSpot s at × Spares s at) → touched (changed s) writes r ≡ both_changed (touched s writes r)
+  touched_too : (s : State) (writes : Bool) (r : Result AccessSite Errno) → ((at : AccessSite) → r ≡ Ok at → IsSpot s at × Spares s at) → touch_site (changed s) writes r ≡ both_changed (touch_site s writes r)
   touched_too s writes (Err e) k = refl
   touched_too s writes (Ok at) k =
       let there = k at refl in
@@ -84,7 +84,7 @@ module _ (places : Map Page ℕ → Map Page ℕ) (bytes : Map Page (List ℕ) �
 
   touch_too : (s : State) (pid address len : ℕ) (writes : Bool) → ((at : AccessSite) → site s pid address len ≡ Ok at → IsSpot s at × Spares s at) → touch (changed s) pid address len writes ≡ both_changed (touch s pid address len writes)
   touch_too s pid address len writes k =
-      ap (touched (changed s) writes) (spot_same s pid address len (get nat_cmp s.processes pid)) ∙ touched_too s writes (site s pid address len) k
+      ap (touch_site (changed s) writes) (spot_same s pid address len (get nat_cmp s.processes pid)) ∙ touched_too s writes (site s pid address len) k
 
   abbrev pub early_changed : BeforeCopy → BeforeCopy
   early_changed e = record e { state = changed e.state }

@@ -7,7 +7,7 @@ use Rattle.std.proofs.lemmas.List.{take-append-drop}
 use Rattle.std.proofs.lemmas.List.Sums.{sum_by-set, sum_by-append}
 use Rattle.nm_types.specs.Layout.{Layout, node_of}
 use Rattle.nm_types.specs.State.{State, free_list}
-use Rattle.nm_model.specs.definitions.Sound.{times, IsSoundMidRun}
+use Rattle.nm_model.specs.definitions.Sound.{times, IsSoundInFlight}
 use Rattle.nm_model.specs.definitions.BeforeCopy.{without_fronts, with_fronts}
 use Rattle.nm_laws.proofs.Soundness.Frames.{OnceIn, here, own_set}
 use Rattle.nm_laws.proofs.Soundness.Moved.{other_places}
@@ -36,7 +36,7 @@ fronts_once s node n inside h =
       own = own_set s.layout s.free node (drop n l) inside h.own (all_dropped n l s.layout node (h.own node));
     }
 
-pub fronts_sound : (s : State) (node n : ℕ) → node < length s.free → IsSoundMidRun s [] → IsSoundMidRun (without_fronts s node n) (take n (free_list s node))
+pub fronts_sound : (s : State) (node n : ℕ) → node < length s.free → IsSoundInFlight s [] → IsSoundInFlight (without_fronts s node n) (take n (free_list s node))
 fronts_sound s node n inside h = other_places s [] (take n (free_list s node)) s.place (slice_set s.free node (drop n (free_list s node))) h refl (fronts_once s node n inside h.frames)
 
 return_sum : (p r t a b k : ℕ) → t + b ≡ r + (a + b) → p + r + a ≡ k → p + t + 0 ≡ k
@@ -47,7 +47,7 @@ all_both [] ys g node a b = b
 all_both (x ∷ xs) ys g node a b = (a.0, all_both xs ys g node a.1 b)
 
 -- frames of a node that go back to its front
-pub returned_sound : (s : State) (node : ℕ) (frames : List ℕ) → node < length s.free → AllByRecursion (λ f. node_of s.layout f ≡ node) frames → IsSoundMidRun s frames → IsSoundMidRun (with_fronts s node frames) []
+pub returned_sound : (s : State) (node : ℕ) (frames : List ℕ) → node < length s.free → AllByRecursion (λ f. node_of s.layout f ≡ node) frames → IsSoundInFlight s frames → IsSoundInFlight (with_fronts s node frames) []
 returned_sound s node frames inside own h =
     let l = free_list s node in
     let free = slice_set s.free node (frames ++ l) in

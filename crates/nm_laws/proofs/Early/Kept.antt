@@ -14,9 +14,9 @@ use Rattle.nm_types.proofs.Maps.{page_cmp_total, exact_page, equal, get-set}
 use Rattle.nm_model.specs.definitions.Seen.{sight_at, sight_in}
 use Rattle.nm_model.specs.definitions.Areas.{is_shared}
 use Rattle.nm_model.specs.definitions.Order.{first_touch_order}
-use Rattle.nm_model.specs.definitions.Touch.{AccessSite, shown_at, site_over, site_of, first_free, with_sight, allocated, filled, joined, touched_entry, touched, touch, Access, Read, Write}
+use Rattle.nm_model.specs.definitions.Touch.{AccessSite, shown_at, site_over, site_of, first_free, with_sight, allocate_page, fill_page, share_page, touch_sight, touch_site, touch, Access, Read, Write}
 use Rattle.nm_model.specs.definitions.Touch.{is_held, site_of_access}
-use Rattle.nm_model.specs.definitions.Sound.{IsSoundMidRun}
+use Rattle.nm_model.specs.definitions.Sound.{IsSoundInFlight}
 use Rattle.nm_model.specs.definitions.BeforeCopy.{BeforeCopy, held_before_copy, before_copy, read_before_copy, write_before_copy, access_before_copy, all_before_copy}
 use Rattle.nm_laws.proofs.Seen.Sights.{IsSpot, page_at_spot}
 use Rattle.nm_laws.proofs.Seen.Ranges.{zero_has_none}
@@ -43,33 +43,33 @@ module _ (s : State) (q : Page) (placed : IsSome (get page_cmp s.place q)) (at :
       some_is_none : IsSome {T = ℕ} None → ⊥
       some_is_none e = cc
 
-  allocated_keeps : (o : Option ℕ) → get page_cmp s.place (shown_at at) ≡ None → Keeps s q (allocated s at o)
+  allocated_keeps : (o : Option ℕ) → get page_cmp s.place (shown_at at) ≡ None → Keeps s q (allocate_page s at o)
   unfolding Keeps
   allocated_keeps None none = tt
   allocated_keeps (Some node) none =
       (beside s.place (shown_at at) q (slice_index (free_list s node) 0) (other none), beside s.bytes (shown_at at) q (replicate 4096 0) (other none))
 
-  filled_keeps : get page_cmp s.place (shown_at at) ≡ None → Keeps s q (filled s at)
+  filled_keeps : get page_cmp s.place (shown_at at) ≡ None → Keeps s q (fill_page s at)
   filled_keeps = allocated_keeps (first_free s.free (first_touch_order s.layout s.online at.process.home at.process.allowed at.area.1.policy (shown_at at).index))
 
-  joined_keeps : (o : Option ℕ) → get page_cmp s.place (shown_at at) ≡ o → Keeps s q (joined s at o)
+  joined_keeps : (o : Option ℕ) → get page_cmp s.place (shown_at at) ≡ o → Keeps s q (share_page s at o)
   unfolding Keeps
   joined_keeps None e = filled_keeps e
   joined_keeps (Some f) e = (refl, refl)
 
-  module _ (l : List ℕ) (h : IsSoundMidRun s l) where
+  module _ (l : List ℕ) (h : IsSoundInFlight s l) where
     no_page : {p : Page} → None ≡ Some (Sees p) → ⊥
     no_page e = cc
 
     not_zero : {p : Page} → Some ZeroPage ≡ Some (Sees p) → ⊥
     not_zero e = cc
 
-    entry_keeps : (writes : Bool) (o : Option Sight) → sight_at s at.pid at.vpn ≡ o → Keeps s q (touched_entry s at writes o)
+    entry_keeps : (writes : Bool) (o : Option Sight) → sight_at s at.pid at.vpn ≡ o → Keeps s q (touch_sight s at writes o)
     unfolding Keeps
     entry_keeps writes None e =
-        elim (is_shared s.segments (shown_at at).segment) as (λ b. is_shared s.segments (shown_at at).segment ≡ b → Keeps s q (if b then joined s at (get page_cmp s.place (shown_at at)) else (if writes then filled s at else Ok (with_sight s at ZeroPage)))) [
+        elim (is_shared s.segments (shown_at at).segment) as (λ b. is_shared s.segments (shown_at at).segment ≡ b → Keeps s q (if b then share_page s at (get page_cmp s.place (shown_at at)) else (if writes then fill_page s at else Ok (with_sight s at ZeroPage)))) [
           | true ↦ λ b. joined_keeps (get page_cmp s.place (shown_at at)) refl
-          | false ↦ λ b. elim writes as (λ w. Keeps s q (if w then filled s at else Ok (with_sight s at ZeroPage))) [
+          | false ↦ λ b. elim writes as (λ w. Keeps s q (if w then fill_page s at else Ok (with_sight s at ZeroPage))) [
             | true ↦ filled_keeps (private_unplaced s l at h i (λ p k. no_page (sym e ∙ k)) b)
             | false ↦ (refl, refl)
           ]
@@ -77,14 +77,14 @@ module _ (s : State) (q : Page) (placed : IsSome (get page_cmp s.place q)) (at :
     entry_keeps writes (Some ZeroPage) e =
         let none = zero_has_none s l at.pid at.vpn h e in
         let same : none.0 ≡ shown_at at = some_is (sym none.1 ∙ page_at_spot s at i) in
-        elim writes as (λ w. Keeps s q (if w then filled s at else Ok s)) [
+        elim writes as (λ w. Keeps s q (if w then fill_page s at else Ok s)) [
           | true ↦ filled_keeps (ap (get page_cmp s.place) (sym same) ∙ none.2)
           | false ↦ (refl, refl)
         ]
     entry_keeps writes (Some (Sees p)) e = (refl, refl)
 
-module _ (s : State) (q : Page) (placed : IsSome (get page_cmp s.place q)) (l : List ℕ) (h : IsSoundMidRun s l) where
-  over_keeps : (pid v : ℕ) (process : Process) (writes : Bool) (o : Option Placed) → get nat_cmp s.processes pid ≡ Some process → area_over s.areas pid v ≡ o → Keeps s q (touched s writes (site_over pid process v o))
+module _ (s : State) (q : Page) (placed : IsSome (get page_cmp s.place q)) (l : List ℕ) (h : IsSoundInFlight s l) where
+  over_keeps : (pid v : ℕ) (process : Process) (writes : Bool) (o : Option Placed) → get nat_cmp s.processes pid ≡ Some process → area_over s.areas pid v ≡ o → Keeps s q (touch_site s writes (site_over pid process v o))
   unfolding Keeps
   over_keeps pid v process writes None p a = tt
   over_keeps pid v process writes (Some area) p a =
@@ -92,11 +92,11 @@ module _ (s : State) (q : Page) (placed : IsSome (get page_cmp s.place q)) (l : 
       let i : IsSpot s at = record { process = p; area = a } in
       entry_keeps s q placed at i l h writes (get nat_cmp process.sees v) (ap (λ o. sight_in o v) p)
 
-  process_keeps : (pid address len : ℕ) (writes : Bool) (o : Option Process) → get nat_cmp s.processes pid ≡ o → Keeps s q (touched s writes (site_of s o pid address len))
+  process_keeps : (pid address len : ℕ) (writes : Bool) (o : Option Process) → get nat_cmp s.processes pid ≡ o → Keeps s q (touch_site s writes (site_of s o pid address len))
   unfolding Keeps
   process_keeps pid address len writes None e = tt
   process_keeps pid address len writes (Some process) e =
-      elim ((len == 0) || nat_lt 4096 (address % 4096 + len)) as (λ b. Keeps s q (touched s writes (if b then Err Einval else site_over pid process (address / 4096) (area_over s.areas pid (address / 4096))))) [
+      elim ((len == 0) || nat_lt 4096 (address % 4096 + len)) as (λ b. Keeps s q (touch_site s writes (if b then Err Einval else site_over pid process (address / 4096) (area_over s.areas pid (address / 4096))))) [
         | true ↦ tt
         | false ↦ over_keeps pid (address / 4096) process writes (area_over s.areas pid (address / 4096)) e refl
       ]
@@ -106,7 +106,7 @@ module _ (s : State) (q : Page) (placed : IsSome (get page_cmp s.place q)) (l : 
 
 -- a page that has a frame, on a sound state
 pub record IsPlaced (q : Page) (o : Option ℕ) (b : Option (List ℕ)) (l : List ℕ) (s : State) : Type 0 where
-  pub sound : IsSoundMidRun s l
+  pub sound : IsSoundInFlight s l
   pub some : IsSome o
   pub place : get page_cmp s.place q ≡ o
   pub bytes : get page_cmp s.bytes q ≡ b

@@ -18,10 +18,10 @@ use Rattle.nm_types.proofs.Keys.{some_from_keys}
 use Rattle.nm_model.specs.definitions.Seen.{sight_at}
 use Rattle.nm_model.specs.definitions.Frames.{overwrite}
 use Rattle.nm_model.specs.definitions.Memory.{byte_of, mem_range, stretch_of}
-use Rattle.nm_model.specs.definitions.Touch.{AccessSite, shown_at, touch, Access, Read, Write, AccessAnswer, Bytes, Done, Held, Answered, read_after, write_after, with_bytes, access}
-use Rattle.nm_model.specs.definitions.Touch.{is_held, site_of_access, in_flight, AllAnswered, all_in_flight}
-use Rattle.nm_model.specs.definitions.Sound.{IsSoundMidRun}
-use Rattle.nm_model.specs.definitions.BeforeCopy.{PendingAccess, held_before_copy, Known, ToRead, ToWrite, BeforeCopy, pending_read, pending_write, read_before_copy, write_before_copy, access_before_copy, before_copy, AllBeforeCopy, all_before_copy, at_page, after_copy, answer_after_copy, all_after_copy, Touches}
+use Rattle.nm_model.specs.definitions.Touch.{AccessSite, shown_at, touch, Access, Read, Write, AccessAnswer, Bytes, Done, Held, AccessResult, read_after, write_after, with_bytes, access}
+use Rattle.nm_model.specs.definitions.Touch.{is_held, site_of_access, access_during, AccessResults, all_in_flight}
+use Rattle.nm_model.specs.definitions.Sound.{IsSoundInFlight}
+use Rattle.nm_model.specs.definitions.BeforeCopy.{PendingAccess, held_before_copy, Known, ToRead, ToWrite, BeforeCopy, pending_read, pending_write, read_before_copy, write_before_copy, access_before_copy, before_copy, AllBeforeCopy, all_before_copy, at_page, after_copy, answer_after_copy, all_after_copy, ConcernsPage}
 use Rattle.nm_laws.proofs.Seen.Sights.{IsSpot, page_at_spot}
 use Rattle.nm_laws.proofs.Seen.Ranges.{range_here, zeros_here, parted, zero_has_none}
 use Rattle.nm_laws.proofs.Soundness.Touched.{StaysSound, touch_sound, access_sound, process_fits, private_unplaced}
@@ -65,7 +65,7 @@ new_beside m q g p v other = sym (with_values-set exact_page (at_page q g) m p v
 sight_none : IsSome {T = Sight} None → ⊥
 sight_none e = cc
 
-module _ (t : State) (l : List ℕ) (h : IsSoundMidRun t l) (pid address : ℕ) where
+module _ (t : State) (l : List ℕ) (h : IsSoundInFlight t l) (pid address : ℕ) where
   bytes_there : (p : Page) → sight_at t pid (address / 4096) ≡ Some (Sees p) → (i : ℕ) → byte_of t p (get page_cmp t.place p) i ≡ slice_index (unwrap_or (get page_cmp t.bytes p) []) i
   bytes_there p e i =
       elim (get page_cmp t.place p) as (λ o. IsSome o → byte_of t p o i ≡ slice_index (unwrap_or (get page_cmp t.bytes p) []) i) [ None ↦ λ some. cc | Some f ↦ λ some. refl ] (h.shown pid (address / 4096) p e).1
@@ -108,7 +108,7 @@ module _ (t : State) (l : List ℕ) (h : IsSoundMidRun t l) (pid address : ℕ) 
   write_told new (Some (Sees p)) = refl
 
 -- an access by what its touch leaves to do
-abbrev pub at_once : BeforeCopy → Answered
+abbrev pub at_once : BeforeCopy → AccessResult
 at_once e = record { state = after_copy e.state e.due; answer = answer_after_copy e.state e.due }
 
 read_at_once : (s : State) (l : List ℕ) (pid address len : ℕ) (r : Result State Errno) → StaysSound s l r → Shows s pid (address / 4096) r → ((t : State) → r ≡ Ok t → address % 4096 + len ≤ 4096)
@@ -126,26 +126,26 @@ write_at_once s l pid address new (Ok t) sound =
     let o = sight_at t pid (address / 4096) in
     λ i. record { state = write_is t l sound.0 pid address new o refl i; answer = write_told t l sound.0 pid address new o i }
 
-access_at_once : (s : State) (l : List ℕ) (a : Access) → IsSoundMidRun s l → access s a ≡ at_once (access_before_copy s a)
+access_at_once : (s : State) (l : List ℕ) (a : Access) → IsSoundInFlight s l → access s a ≡ at_once (access_before_copy s a)
 access_at_once s l (Read pid address len) h =
     read_at_once s l pid address len (touch s pid address len false) (touch_sound s l pid address len false h) (touch_shows s pid address len false)
     (λ t e. process_fits s pid address len false (get nat_cmp s.processes pid) t e)
 access_at_once s l (Write pid address new) h =
     write_at_once s l pid address new (touch s pid address (length new) true) (touch_sound s l pid address (length new) true h)
 
-pub flight_at_once : (s : State) (l : List ℕ) (moved : List Page) (a : Access) → IsSoundMidRun s l → in_flight s moved a ≡ at_once (before_copy s moved a)
+pub flight_at_once : (s : State) (l : List ℕ) (moved : List Page) (a : Access) → IsSoundInFlight s l → access_during s moved a ≡ at_once (before_copy s moved a)
 flight_at_once s l moved a h =
     elim (is_held moved (site_of_access s a)) as (λ b. (if b then record { state = s; answer = Held } else access s a) ≡ at_once (if b then held_before_copy s else access_before_copy s a)) [
       | true ↦ refl
       | false ↦ access_at_once s l a h
     ]
 
-abbrev state_of : Answered → State
+abbrev state_of : AccessResult → State
 state_of x = x.state
 
-flight_sound : (s : State) (l : List ℕ) (moved : List Page) (a : Access) → IsSoundMidRun s l → IsSoundMidRun (in_flight s moved a).state l
+flight_sound : (s : State) (l : List ℕ) (moved : List Page) (a : Access) → IsSoundInFlight s l → IsSoundInFlight (access_during s moved a).state l
 flight_sound s l moved a h =
-    elim (is_held moved (site_of_access s a)) as (λ b. IsSoundMidRun (state_of (if b then record { state = s; answer = Held } else access s a)) l) [ true ↦ h | false ↦ access_sound s l a h ]
+    elim (is_held moved (site_of_access s a)) as (λ b. IsSoundInFlight (state_of (if b then record { state = s; answer = Held } else access s a)) l) [ true ↦ h | false ↦ access_sound s l a h ]
 
 -- ---- the touches of later accesses beside bytes that are written
 
@@ -180,14 +180,14 @@ module _ (q : Page) (g : List ℕ → List ℕ) (o : Option ℕ) (b : Option (Li
       (λ s a k held at e. let i = found s a at e in (i, spares s at k i)) (λ s a k. early_stays q o b l moved s a k) accesses s h
 
 -- later touches find what was made, and leave the answers as they are
-made_beside : (s : State) (l : List ℕ) (moved : List Page) (accesses : List Access) (d : PendingAccess) → IsSoundMidRun s l → Touches s d
+made_beside : (s : State) (l : List ℕ) (moved : List Page) (accesses : List Access) (d : PendingAccess) → IsSoundInFlight s l → ConcernsPage s d
     → all_before_copy (after_copy s d) moved accesses ≡ (let e = all_before_copy s moved accesses in record e { state = after_copy e.state d })
 made_beside s l moved accesses (Known answer) h on = refl
 made_beside s l moved accesses (ToRead page at len) h on = refl
 made_beside s l moved accesses (ToWrite page at new) h on =
     all_beside page (λ old. overwrite old at new) (get page_cmp s.place page) (get page_cmp s.bytes page) l moved accesses s (record { sound = h; some = on; place = refl; bytes = refl })
 
-told_later : (s : State) (l : List ℕ) (moved : List Page) (accesses : List Access) (d : PendingAccess) → IsSoundMidRun s l → Touches s d → answer_after_copy s d ≡ answer_after_copy (all_before_copy s moved accesses).state d
+told_later : (s : State) (l : List ℕ) (moved : List Page) (accesses : List Access) (d : PendingAccess) → IsSoundInFlight s l → ConcernsPage s d → answer_after_copy s d ≡ answer_after_copy (all_before_copy s moved accesses).state d
 told_later s l moved accesses (Known answer) h on = refl
 told_later s l moved accesses (ToWrite page at new) h on = refl
 told_later s l moved accesses (ToRead page at len) h on =
@@ -196,50 +196,50 @@ told_later s l moved accesses (ToRead page at len) h on =
 
 -- ---- where what is left to do is done
 
-read_touches : (t : State) (l : List ℕ) (pid v at len : ℕ) (o : Option Sight) → IsSoundMidRun t l → sight_at t pid v ≡ o → Touches t (pending_read o at len)
+read_touches : (t : State) (l : List ℕ) (pid v at len : ℕ) (o : Option Sight) → IsSoundInFlight t l → sight_at t pid v ≡ o → ConcernsPage t (pending_read o at len)
 read_touches t l pid v at len None h e = tt
 read_touches t l pid v at len (Some ZeroPage) h e = tt
 read_touches t l pid v at len (Some (Sees p)) h e = (h.shown pid v p e).1
 
-write_touches : (t : State) (l : List ℕ) (pid v at : ℕ) (new : List ℕ) (o : Option Sight) → IsSoundMidRun t l → sight_at t pid v ≡ o → Touches t (pending_write o at new)
+write_touches : (t : State) (l : List ℕ) (pid v at : ℕ) (new : List ℕ) (o : Option Sight) → IsSoundInFlight t l → sight_at t pid v ≡ o → ConcernsPage t (pending_write o at new)
 write_touches t l pid v at new None h e = tt
 write_touches t l pid v at new (Some ZeroPage) h e = tt
 write_touches t l pid v at new (Some (Sees p)) h e = (h.shown pid v p e).1
 
 -- sound, and what is left to do is done to a page that has a frame
 pub record IsReady (l : List ℕ) (e : BeforeCopy) : Type 0 where
-  pub sound : IsSoundMidRun e.state l
-  pub on : Touches e.state e.due
+  pub sound : IsSoundInFlight e.state l
+  pub on : ConcernsPage e.state e.due
 
-read_ready : (s : State) (l : List ℕ) (pid address len : ℕ) (r : Result State Errno) → IsSoundMidRun s l → StaysSound s l r → IsReady l (read_before_copy s pid address len r)
+read_ready : (s : State) (l : List ℕ) (pid address len : ℕ) (r : Result State Errno) → IsSoundInFlight s l → StaysSound s l r → IsReady l (read_before_copy s pid address len r)
 unfolding StaysSound
 read_ready s l pid address len (Err e) h sound = record { sound = h; on = tt }
 read_ready s l pid address len (Ok t) h sound = record { sound = sound.0; on = read_touches t l pid (address / 4096) (address % 4096) len (sight_at t pid (address / 4096)) sound.0 refl }
 
-write_ready : (s : State) (l : List ℕ) (pid address : ℕ) (new : List ℕ) (r : Result State Errno) → IsSoundMidRun s l → StaysSound s l r → IsReady l (write_before_copy s pid address new r)
+write_ready : (s : State) (l : List ℕ) (pid address : ℕ) (new : List ℕ) (r : Result State Errno) → IsSoundInFlight s l → StaysSound s l r → IsReady l (write_before_copy s pid address new r)
 unfolding StaysSound
 write_ready s l pid address new (Err e) h sound = record { sound = h; on = tt }
 write_ready s l pid address new (Ok t) h sound = record { sound = sound.0; on = write_touches t l pid (address / 4096) (address % 4096) new (sight_at t pid (address / 4096)) sound.0 refl }
 
-access_ready : (s : State) (l : List ℕ) (a : Access) → IsSoundMidRun s l → IsReady l (access_before_copy s a)
+access_ready : (s : State) (l : List ℕ) (a : Access) → IsSoundInFlight s l → IsReady l (access_before_copy s a)
 access_ready s l (Read pid address len) h = read_ready s l pid address len (touch s pid address len false) h (touch_sound s l pid address len false h)
 access_ready s l (Write pid address new) h = write_ready s l pid address new (touch s pid address (length new) true) h (touch_sound s l pid address (length new) true h)
 
-pub early_ready : (s : State) (l : List ℕ) (moved : List Page) (a : Access) → IsSoundMidRun s l → IsReady l (before_copy s moved a)
+pub early_ready : (s : State) (l : List ℕ) (moved : List Page) (a : Access) → IsSoundInFlight s l → IsReady l (before_copy s moved a)
 early_ready s l moved a h =
     elim (is_held moved (site_of_access s a)) as (λ b. IsReady l (if b then held_before_copy s else access_before_copy s a)) [ true ↦ record { sound = h; on = tt } | false ↦ access_ready s l a h ]
 
 -- ---- the law
 
 -- what was left to do is done after all touches
-abbrev pub all_later : AllBeforeCopy → AllAnswered
+abbrev pub all_later : AllBeforeCopy → AccessResults
 all_later e = all_after_copy e.state e.dues
 
 -- an answer before others
-abbrev pub after_first : AccessAnswer → AllAnswered → AllAnswered
+abbrev pub after_first : AccessAnswer → AccessResults → AccessResults
 after_first x more = record { state = more.state; answers = x ∷ more.answers }
 
-pub touches_first : (l : List ℕ) (moved : List Page) (accesses : List Access) (s : State) → IsSoundMidRun s l → all_in_flight s moved accesses ≡ all_later (all_before_copy s moved accesses)
+pub touches_first : (l : List ℕ) (moved : List Page) (accesses : List Access) (s : State) → IsSoundInFlight s l → all_in_flight s moved accesses ≡ all_later (all_before_copy s moved accesses)
 touches_first l moved [] s h = refl
 touches_first l moved (a ∷ accesses) s h =
     let now = before_copy s moved a in
@@ -247,8 +247,8 @@ touches_first l moved (a ∷ accesses) s h =
     let once = flight_at_once s l moved a h in
     let next = after_copy now.state now.due in
     let rest = all_before_copy now.state moved accesses in
-    ap (λ (x : Answered). after_first x.answer (all_in_flight x.state moved accesses)) once
+    ap (λ (x : AccessResult). after_first x.answer (all_in_flight x.state moved accesses)) once
     ∙ ap (after_first (answer_after_copy now.state now.due))
-    (touches_first l moved accesses next (subst (λ (x : Answered). IsSoundMidRun x.state l) once (flight_sound s l moved a h))
+    (touches_first l moved accesses next (subst (λ (x : AccessResult). IsSoundInFlight x.state l) once (flight_sound s l moved a h))
     ∙ ap all_later (made_beside now.state l moved accesses now.due ready.sound ready.on))
     ∙ ap (λ (x : AccessAnswer). after_first x (all_after_copy (after_copy rest.state now.due) rest.dues)) (told_later now.state l moved accesses now.due ready.sound ready.on)

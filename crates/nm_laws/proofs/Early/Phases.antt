@@ -13,12 +13,12 @@ use Rattle.nm_types.proofs.Maps.{page_cmp_total, get-set}
 use Rattle.nm_types.specs.declared.request.Class.TheVariants.{Move}
 use Rattle.nm_types.specs.declared.request.Wanted.{Wanted}
 use Rattle.nm_types.specs.declared.taken.Taken.{Taken}
-use Rattle.nm_model.specs.definitions.Decide.{Planned}
+use Rattle.nm_model.specs.definitions.Decide.{RunPlan}
 use Rattle.nm_model.specs.definitions.Touch.{Access, all_in_flight}
 use Rattle.nm_laws.specs.Laws.{with_move, with_moves}
 use Rattle.nm_laws.specs.Moves.{CanMove, IsPlanOf}
 use Rattle.nm_model.specs.definitions.Run.{moved_page, frames_left}
-use Rattle.nm_model.specs.definitions.Sound.{IsSoundMidRun, IsSound}
+use Rattle.nm_model.specs.definitions.Sound.{IsSoundInFlight, IsSound}
 use Rattle.nm_model.specs.definitions.BeforeCopy.{AllBeforeCopy, all_before_copy, all_after_copy, with_places, without_fronts, with_fronts, frames_taken, IsPending}
 use Rattle.nm_laws.proofs.Soundness.Moved.{decided_sound}
 use Rattle.nm_laws.proofs.Soundness.Counted.{front_is}
@@ -32,12 +32,12 @@ abbrev pub pages_of : List Taken → List Page
 pages_of taken = map (λ t. t.page) taken
 
 -- moves keep a machine sound
-pub moves_sound : (taken : List Taken) (s : State) (l : List ℕ) (target : ℕ) → IsSoundMidRun s l → CanMove s target taken → IsSoundMidRun (with_moves s target taken) (l ++ frames_left taken)
-moves_sound [] s l target h can = subst (IsSoundMidRun s) (sym (append-nil l)) h
+pub moves_sound : (taken : List Taken) (s : State) (l : List ℕ) (target : ℕ) → IsSoundInFlight s l → CanMove s target taken → IsSoundInFlight (with_moves s target taken) (l ++ frames_left taken)
+moves_sound [] s l target h can = subst (IsSoundInFlight s) (sym (append-nil l)) h
 moves_sound (t ∷ taken) s l target h can =
     let front = front_is (free_list s target) t.to can.1 in
-    let now = subst (λ (fs : List ℕ). IsSoundMidRun (moved_page s target t.page t.from fs).state (l ++ frames_left (moved_page s target t.page t.from fs).taken)) front (decided_sound s l target (Move t.page t.from) h can.0) in
-    subst (IsSoundMidRun (with_moves s target (t ∷ taken))) (append_assoc l (t.from ∷ []) (frames_left taken)) (moves_sound taken (with_move target s t) (l ++ t.from ∷ []) target now can.3)
+    let now = subst (λ (fs : List ℕ). IsSoundInFlight (moved_page s target t.page t.from fs).state (l ++ frames_left (moved_page s target t.page t.from fs).taken)) front (decided_sound s l target (Move t.page t.from) h can.0) in
+    subst (IsSoundInFlight (with_moves s target (t ∷ taken))) (append_assoc l (t.from ∷ []) (frames_left taken)) (moves_sound taken (with_move target s t) (l ++ t.from ∷ []) target now can.3)
 
 -- the frames that moves take are the front ones
 pub tos_are : (taken : List Taken) (s : State) (target : ℕ) → target < length s.free → CanMove s target taken → frames_taken taken ≡ take (length taken) (free_list s target)
@@ -100,7 +100,7 @@ module _ (s : State) (target : ℕ) (taken : List Taken) (accesses : List Access
   given_back = with_fronts (touched_all.state) target (frames_taken taken)
 
   pub record IsPhased : Type 0 where
-    pub sound : IsSoundMidRun (touched_all.state) (frames_taken taken)
+    pub sound : IsSoundInFlight (touched_all.state) (frames_taken taken)
     pub back : IsSound given_back
     pub can : CanMove given_back target taken
     pub due : AllByRecursion (IsPending (pages_of taken) (touched_all.state)) (touched_all.dues)
@@ -111,7 +111,7 @@ module _ (s : State) (target : ℕ) (taken : List Taken) (accesses : List Access
       let moved = pages_of taken in
       let n = length taken in
       let frames : frames_taken taken ≡ take n (free_list s target) = tos_are taken s target inside can in
-      let start = subst (IsSoundMidRun fronts_taken) (sym frames) (fronts_sound s target n inside h) in
+      let start = subst (IsSoundInFlight fronts_taken) (sym frames) (fronts_sound s target n inside h) in
       let due = all_due (frames_taken taken) moved accesses fronts_taken start in
       let nodes : touched_all.state.layout ≡ s.layout = all_layout moved accesses fronts_taken in
       let within : target < length touched_all.state.free =
@@ -139,7 +139,7 @@ module _ (s : State) (target : ℕ) (taken : List Taken) (accesses : List Access
       }
 
   -- a run that is planned on the same machine can be made so
-  pub planned_phases : (r : State) (ws : List Wanted) (p : Planned) → s ≡ r → IsPlanOf r target ws p → taken ≡ p.taken → IsSound s → target < node_count r.layout → IsPlanOf s target ws p × IsPhased
+  pub planned_phases : (r : State) (ws : List Wanted) (p : RunPlan) → s ≡ r → IsPlanOf r target ws p → taken ≡ p.taken → IsSound s → target < node_count r.layout → IsPlanOf s target ws p × IsPhased
   planned_phases r ws p same plan taken_is h below =
       let own : IsPlanOf s target ws p = subst (λ (x : State). IsPlanOf x target ws p) (sym same) plan in
       let nodes = ap (λ (x : State). node_count x.layout) same in

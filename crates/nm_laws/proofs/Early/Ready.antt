@@ -12,10 +12,10 @@ use Rattle.nm_types.specs.Map.{get, page_cmp, same_page}
 use Rattle.nm_types.specs.State.{Process, State, Placed, area_over, page_at}
 use Rattle.nm_types.proofs.Cases.{some_is}
 use Rattle.nm_model.specs.definitions.Seen.{sight_at}
-use Rattle.nm_model.specs.definitions.Touch.{AccessSite, shown_at, site_over, site_of, site, touched, touch, Access, Read, Write}
+use Rattle.nm_model.specs.definitions.Touch.{AccessSite, shown_at, site_over, site_of, site, touch_site, touch, Access, Read, Write}
 use Rattle.nm_model.specs.definitions.Touch.{is_held, site_of_access}
-use Rattle.nm_model.specs.definitions.Sound.{IsSoundMidRun}
-use Rattle.nm_model.specs.definitions.BeforeCopy.{PendingAccess, held_before_copy, Known, ToRead, ToWrite, BeforeCopy, pending_read, pending_write, read_before_copy, write_before_copy, access_before_copy, before_copy, all_before_copy, Touches, IsBeside, IsInside, IsPending}
+use Rattle.nm_model.specs.definitions.Sound.{IsSoundInFlight}
+use Rattle.nm_model.specs.definitions.BeforeCopy.{PendingAccess, held_before_copy, Known, ToRead, ToWrite, BeforeCopy, pending_read, pending_write, read_before_copy, write_before_copy, access_before_copy, before_copy, all_before_copy, ConcernsPage, IsBeside, IsInside, IsPending}
 use Rattle.nm_laws.proofs.Seen.Sights.{page_at_spot}
 use Rattle.nm_laws.proofs.Soundness.Touched.{StaysSound, touch_sound, process_fits}
 use Rattle.nm_laws.proofs.Early.Kept.{all_stay}
@@ -39,7 +39,7 @@ beside_at moved p (Known answer) at free = tt
 beside_at moved p (ToRead page i len) at free = ap (λ q. list_any (same_page q) moved) at ∙ free
 beside_at moved p (ToWrite page i new) at free = ap (λ q. list_any (same_page q) moved) at ∙ free
 
-module _ (s t : State) (l : List ℕ) (h : IsSoundMidRun t l) (pid v : ℕ) (p : Page) (same : t.areas ≡ s.areas) (at : page_at s.areas pid v ≡ Some p) where
+module _ (s t : State) (l : List ℕ) (h : IsSoundInFlight t l) (pid v : ℕ) (p : Page) (same : t.areas ≡ s.areas) (at : page_at s.areas pid v ≡ Some p) where
   read_at : (i len : ℕ) (o : Option Sight) → sight_at t pid v ≡ o → IsAt p (pending_read o i len)
   read_at i len None e = tt
   read_at i len (Some ZeroPage) e = tt
@@ -76,16 +76,16 @@ process_page s pid address len (Some process) at p e =
       | false ↦ λ e. over_page s pid (address / 4096) process (area_over s.areas pid (address / 4096)) at p refl e
     ] e
 
-module _ (s : State) (l : List ℕ) (moved : List Page) (h : IsSoundMidRun s l) where
+module _ (s : State) (l : List ℕ) (moved : List Page) (h : IsSoundInFlight s l) where
   read_beside : (pid address len : ℕ) (r : Result AccessSite Errno) → site s pid address len ≡ r → is_held moved r ≡ false → IsBeside moved (access_before_copy s (Read pid address len)).due
-  read_beside pid address len (Err e) is free = subst (λ r. IsBeside moved (read_before_copy s pid address len (touched s false r)).due) (sym is) tt
+  read_beside pid address len (Err e) is free = subst (λ r. IsBeside moved (read_before_copy s pid address len (touch_site s false r)).due) (sym is) tt
   read_beside pid address len (Ok at) is free =
       let page = process_page s pid address len (get nat_cmp s.processes pid) at refl is in
       beside_at moved (shown_at at) (access_before_copy s (Read pid address len)).due
       (read_is_at s l pid address len (shown_at at) (touch s pid address len false) (touch_sound s l pid address len false h) (touch_shows s pid address len false) page) free
 
   write_beside : (pid address : ℕ) (new : List ℕ) (r : Result AccessSite Errno) → site s pid address (length new) ≡ r → is_held moved r ≡ false → IsBeside moved (access_before_copy s (Write pid address new)).due
-  write_beside pid address new (Err e) is free = subst (λ r. IsBeside moved (write_before_copy s pid address new (touched s true r)).due) (sym is) tt
+  write_beside pid address new (Err e) is free = subst (λ r. IsBeside moved (write_before_copy s pid address new (touch_site s true r)).due) (sym is) tt
   write_beside pid address new (Ok at) is free =
       let page = process_page s pid address (length new) (get nat_cmp s.processes pid) at refl is in
       beside_at moved (shown_at at) (access_before_copy s (Write pid address new)).due
@@ -130,14 +130,14 @@ early_inside s moved a =
     elim (is_held moved (site_of_access s a)) as (λ b. IsInside (due_of (if b then held_before_copy s else access_before_copy s a))) [ true ↦ tt | false ↦ access_inside s a ]
 
 -- what is left to do stays so while others are touched
-pub touches_still : (s : State) (l : List ℕ) (moved : List Page) (accesses : List Access) (d : PendingAccess) → IsSoundMidRun s l → Touches s d → Touches (all_before_copy s moved accesses).state d
+pub touches_still : (s : State) (l : List ℕ) (moved : List Page) (accesses : List Access) (d : PendingAccess) → IsSoundInFlight s l → ConcernsPage s d → ConcernsPage (all_before_copy s moved accesses).state d
 touches_still s l moved accesses (Known answer) h on = tt
 touches_still s l moved accesses (ToRead page at len) h on =
     subst (λ o. IsSome o) (sym (all_stay page (get page_cmp s.place page) (get page_cmp s.bytes page) l moved accesses s (record { sound = h; some = on; place = refl; bytes = refl })).place) on
 touches_still s l moved accesses (ToWrite page at new) h on =
     subst (λ o. IsSome o) (sym (all_stay page (get page_cmp s.place page) (get page_cmp s.bytes page) l moved accesses s (record { sound = h; some = on; place = refl; bytes = refl })).place) on
 
-pub all_due : (l : List ℕ) (moved : List Page) (accesses : List Access) (s : State) → IsSoundMidRun s l → let e = all_before_copy s moved accesses in AllByRecursion (IsPending moved e.state) e.dues × IsSoundMidRun e.state l
+pub all_due : (l : List ℕ) (moved : List Page) (accesses : List Access) (s : State) → IsSoundInFlight s l → let e = all_before_copy s moved accesses in AllByRecursion (IsPending moved e.state) e.dues × IsSoundInFlight e.state l
 all_due l moved [] s h = (tt, h)
 all_due l moved (a ∷ accesses) s h =
     let now = before_copy s moved a in

@@ -10,25 +10,25 @@ use Rattle.nm_model.specs.definitions.Seen.{sight_at}
 use Rattle.nm_types.specs.declared.entry.Entry.{Entry}
 use Rattle.nm_model.specs.definitions.Touch as state
 use Rattle.nm_model.specs.definitions.Touch.{AccessSite, site, Access, Read, Write, Bytes, Done, Held, Refused, AccessAnswer}
-use Rattle.nm_model.specs.definitions.Touch.{site_of_access, is_held, in_flight}
+use Rattle.nm_model.specs.definitions.Touch.{site_of_access, is_held, access_during}
 use Rattle.nm_model.specs.definitions.RunMachine.{RunMachine, state_of}
-use Rattle.nm_model.specs.definitions.Accesses.{is_held_at, touched, bytes_at, written_at, answered, read_after, write_after, made, accessed}
+use Rattle.nm_model.specs.definitions.Accesses.{is_held_at, touch_entry_at, bytes_at, written_at, with_answer, read_entry, write_entry, after_free_access, after_access}
 use Rattle.nm_laws.proofs.InFlight.Midway.{IsMidway}
 use Rattle.nm_laws.proofs.InFlight.Steps.{Made}
 use Rattle.nm_laws.proofs.InFlight.Meeting.{ComesTo, comes_to, Both, held_alike, touched_both}
 use Rattle.nm_laws.proofs.InFlight.Bytes.{reads_alike, writes_alike, written_midway}
 
 -- one more answer changes nothing else
-answered_midway : (m : RunMachine) (moved : List Page) (answer : AccessAnswer) → IsMidway m moved → IsMidway (answered m answer) moved
+answered_midway : (m : RunMachine) (moved : List Page) (answer : AccessAnswer) → IsMidway m moved → IsMidway (with_answer m answer) moved
 answered_midway m moved answer h =
     record { moving = h.moving; sound = h.sound; entries = h.entries; pages = h.pages; copies = h.copies; copied = h.copied; buffers = h.buffers; once = h.once }
 
 module _ (m : RunMachine) (moved : List Page) (h : IsMidway m moved) where
-  only_answered : (x y : AccessAnswer) → x ≡ y → Made m (answered m x) moved (record { state = state_of m; answer = y })
+  only_answered : (x y : AccessAnswer) → x ≡ y → Made m (with_answer m x) moved (record { state = state_of m; answer = y })
   only_answered x y e = record { midway = answered_midway m moved x h; state = refl; answers = ap (λ z. m.answers ++ z ∷ []) e; jobs = refl; statuses = refl; layout = refl }
 
   read_both : (pid address len : ℕ) → address % 4096 + len ≤ 4096 → (rm : Result RunMachine Errno) (rs : Result State Errno) → Both m moved pid (address / 4096) rm rs
-      → Made m (read_after m pid address len rm) moved (state.read_after (state_of m) pid address len rs)
+      → Made m (read_entry m pid address len rm) moved (state.read_after (state_of m) pid address len rs)
   unfolding Both
   read_both pid address len fits (Err e) (Err x) b = only_answered (Refused e) (Refused x) (ap Refused b)
   read_both pid address len fits (Err e) (Ok t) b = absurd b
@@ -46,7 +46,7 @@ module _ (m : RunMachine) (moved : List Page) (h : IsMidway m moved) where
       }
 
   write_both : (pid address : ℕ) (new : List ℕ) → address % 4096 + length new ≤ 4096 → (rm : Result RunMachine Errno) (rs : Result State Errno) → Both m moved pid (address / 4096) rm rs
-      → Made m (write_after m pid address new rm) moved (state.write_after (state_of m) pid address new rs)
+      → Made m (write_entry m pid address new rm) moved (state.write_after (state_of m) pid address new rs)
   unfolding Both
   write_both pid address new fits (Err e) (Err x) b = only_answered (Refused e) (Refused x) (ap Refused b)
   write_both pid address new fits (Err e) (Ok t) b = absurd b
@@ -64,22 +64,22 @@ module _ (m : RunMachine) (moved : List Page) (h : IsMidway m moved) where
       }
 
   read_made : (pid address len : ℕ) (r : Result AccessSite Errno) → ComesTo (state_of m) pid address len r → is_held_at m r ≡ false
-      → Made m (read_after m pid address len (touched m false r)) moved (state.read_after (state_of m) pid address len (state.touched (state_of m) false r))
+      → Made m (read_entry m pid address len (touch_entry_at m false r)) moved (state.read_after (state_of m) pid address len (state.touch_site (state_of m) false r))
   unfolding ComesTo
   read_made pid address len (Err e) c free = only_answered (Refused e) (Refused e) refl
   read_made pid address len (Ok at) c free =
-      read_both pid address len c.fits (touched m false (Ok at)) (state.touched (state_of m) false (Ok at))
-      (subst (λ (z : ℕ × ℕ). Both m moved z.0 z.1 (touched m false (Ok at)) (state.touched (state_of m) false (Ok at))) (λ j. (c.pid_is j, c.vpn_is j)) (touched_both m moved h at c.spot false free))
+      read_both pid address len c.fits (touch_entry_at m false (Ok at)) (state.touch_site (state_of m) false (Ok at))
+      (subst (λ (z : ℕ × ℕ). Both m moved z.0 z.1 (touch_entry_at m false (Ok at)) (state.touch_site (state_of m) false (Ok at))) (λ j. (c.pid_is j, c.vpn_is j)) (touched_both m moved h at c.spot false free))
 
   write_made : (pid address : ℕ) (new : List ℕ) (r : Result AccessSite Errno) → ComesTo (state_of m) pid address (length new) r → is_held_at m r ≡ false
-      → Made m (write_after m pid address new (touched m true r)) moved (state.write_after (state_of m) pid address new (state.touched (state_of m) true r))
+      → Made m (write_entry m pid address new (touch_entry_at m true r)) moved (state.write_after (state_of m) pid address new (state.touch_site (state_of m) true r))
   unfolding ComesTo
   write_made pid address new (Err e) c free = only_answered (Refused e) (Refused e) refl
   write_made pid address new (Ok at) c free =
-      write_both pid address new c.fits (touched m true (Ok at)) (state.touched (state_of m) true (Ok at))
-      (subst (λ (z : ℕ × ℕ). Both m moved z.0 z.1 (touched m true (Ok at)) (state.touched (state_of m) true (Ok at))) (λ j. (c.pid_is j, c.vpn_is j)) (touched_both m moved h at c.spot true free))
+      write_both pid address new c.fits (touch_entry_at m true (Ok at)) (state.touch_site (state_of m) true (Ok at))
+      (subst (λ (z : ℕ × ℕ). Both m moved z.0 z.1 (touch_entry_at m true (Ok at)) (state.touch_site (state_of m) true (Ok at))) (λ j. (c.pid_is j, c.vpn_is j)) (touched_both m moved h at c.spot true free))
 
-  made_is : (a : Access) → is_held_at m (site_of_access (state_of m) a) ≡ false → Made m (made m a) moved (state.access (state_of m) a)
+  made_is : (a : Access) → is_held_at m (site_of_access (state_of m) a) ≡ false → Made m (after_free_access m a) moved (state.access (state_of m) a)
   made_is (Read pid address len) free = read_made pid address len (site (state_of m) pid address len) (comes_to (state_of m) pid address len) free
   made_is (Write pid address new) free = write_made pid address new (site (state_of m) pid address (length new)) (comes_to (state_of m) pid address (length new)) free
 
@@ -93,11 +93,11 @@ module _ (m : RunMachine) (moved : List Page) (h : IsMidway m moved) where
   held_is (Read pid address len) = spot_alike pid address len (site (state_of m) pid address len) (comes_to (state_of m) pid address len)
   held_is (Write pid address new) = spot_alike pid address (length new) (site (state_of m) pid address (length new)) (comes_to (state_of m) pid address (length new))
 
-  cases : (a : Access) (b : Bool) → is_held_at m (site_of_access (state_of m) a) ≡ b → Made m (cond b (answered m Held) (made m a)) moved (cond b (record { state = state_of m; answer = Held }) (state.access (state_of m) a))
+  cases : (a : Access) (b : Bool) → is_held_at m (site_of_access (state_of m) a) ≡ b → Made m (cond b (with_answer m Held) (after_free_access m a)) moved (cond b (record { state = state_of m; answer = Held }) (state.access (state_of m) a))
   cases a true e = only_answered Held Held refl
   cases a false e = made_is a e
 
-  pub accessed_is : (a : Access) → Made m (accessed m a) moved (in_flight (state_of m) moved a)
+  pub accessed_is : (a : Access) → Made m (after_access m a) moved (access_during (state_of m) moved a)
   accessed_is a =
-      subst (λ b. Made m (accessed m a) moved (cond b (record { state = state_of m; answer = Held }) (state.access (state_of m) a))) (held_is a)
+      subst (λ b. Made m (after_access m a) moved (cond b (record { state = state_of m; answer = Held }) (state.access (state_of m) a))) (held_is a)
       (cases a (is_held_at m (site_of_access (state_of m) a)) refl)

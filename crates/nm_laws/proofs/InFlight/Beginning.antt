@@ -20,7 +20,7 @@ use Rattle.nm_types.specs.declared.taken.Taken.{Taken}
 use Rattle.nm_model.specs.definitions.PageTables.{entry_at, process_of, sight_of, entry_of}
 use Rattle.nm_model.specs.definitions.Seen.{sight_at}
 use Rattle.nm_model.specs.definitions.Run.{Progress, HasOneAll, each_request, frames_left}
-use Rattle.nm_model.specs.definitions.Sound.{times, IsSound, IsSoundMidRun}
+use Rattle.nm_model.specs.definitions.Sound.{times, IsSound, IsSoundInFlight}
 use Rattle.nm_laws.proofs.Seen.Shown.{sight_shown}
 use Rattle.nm_laws.proofs.Soundness.Frames.{here, times_cons}
 use Rattle.nm_types.proofs.Maps.{page_cmp_total, exact_page, agree}
@@ -28,7 +28,7 @@ use Rattle.nm_laws.proofs.Soundness.Moved.{each_sound}
 use Rattle.nm_laws.proofs.Soundness.Once.{counted_place}
 use Rattle.nm_laws.proofs.OneByOne.Planned.{plan_agrees}
 use Rattle.nm_model.specs.definitions.RunMachine.{RunMachine, Job, Moving, job_from, goes_to, content, state_of}
-use Rattle.nm_model.specs.definitions.Events.{laid_for, without_both, held_by, with_entries, begun, plan, hands}
+use Rattle.nm_model.specs.definitions.Events.{laid_for, without_buffers_of, held_by, with_entries, begin_run, plan, hands}
 use Rattle.nm_laws.specs.Interleavings.{IsAtRest}
 use Rattle.nm_laws.proofs.InFlight.Jobs.{sources, targets, AreCopied, no_source_times, content_home}
 use Rattle.nm_laws.proofs.InFlight.Values.{values_same, entries_show, changed_at}
@@ -103,16 +103,16 @@ times_free (xs ∷ free) (suc node) f =
 
 -- ---- buffers that leave
 
-out_length : (jobs : List Job) (buf : Store) → length (fold without_both buf jobs) ≡ length buf
+out_length : (jobs : List Job) (buf : Store) → length (fold without_buffers_of buf jobs) ≡ length buf
 out_length [] buf = refl
-out_length (job ∷ jobs) buf = out_length jobs (without_both buf job) ∙ length-set (slice_set buf job.source.0 None) job.target.0 None ∙ length-set buf job.source.0 None
+out_length (job ∷ jobs) buf = out_length jobs (without_buffers_of buf job) ∙ length-set (slice_set buf job.source.0 None) job.target.0 None ∙ length-set buf job.source.0 None
 
-out_other : (jobs : List Job) (buf : Store) (f : ℕ) → times f (sources jobs) + times f (targets jobs) ≡ 0 → slice_index_or (fold without_both buf jobs) f None ≡ slice_index_or buf f None
+out_other : (jobs : List Job) (buf : Store) (f : ℕ) → times f (sources jobs) + times f (targets jobs) ≡ 0 → slice_index_or (fold without_buffers_of buf jobs) f None ≡ slice_index_or buf f None
 out_other [] buf f none = refl
 out_other (job ∷ jobs) buf f none =
     let s = times_cons f job.source.0 (sources jobs) in
     let t = times_cons f job.target.0 (targets jobs) in
-    out_other jobs (without_both buf job) f (omega (arith, s, t, none))
+    out_other jobs (without_buffers_of buf job) f (omega (arith, s, t, none))
     ∙ get_or-set_other (slice_set buf job.source.0 None) job.target.0 f None None (λ e. let one : here f job.target.0 ≡ 1 = ap (λ b. cond b 1 0) (eq-eqb job.target.0 f (sym e)) in absurd (omega (arith, one, t, none)))
     ∙ get_or-set_other buf job.source.0 f None None (λ e. let one : here f job.source.0 ≡ 1 = ap (λ b. cond b 1 0) (eq-eqb job.source.0 f (sym e)) in absurd (omega (arith, one, s, none)))
 
@@ -123,14 +123,14 @@ out_still buf g f below gone =
       | false ↦ λ b. get_or-set_other buf g f None None (λ e. no (sym b ∙ eq-eqb g f (sym e))) ∙ gone
     ] refl
 
-all_out : (jobs : List Job) (buf : Store) (f : ℕ) → f < length buf → slice_index_or buf f None ≡ None → slice_index_or (fold without_both buf jobs) f None ≡ None
+all_out : (jobs : List Job) (buf : Store) (f : ℕ) → f < length buf → slice_index_or buf f None ≡ None → slice_index_or (fold without_buffers_of buf jobs) f None ≡ None
 all_out [] buf f below gone = gone
 all_out (job ∷ jobs) buf f below gone =
     let one = length-set buf job.source.0 None in
     let two = length-set (slice_set buf job.source.0 None) job.target.0 None in
-    all_out jobs (without_both buf job) f (omega (arith, below, one, two)) (out_still (slice_set buf job.source.0 None) job.target.0 f (omega (arith, below, one)) (out_still buf job.source.0 f below gone))
+    all_out jobs (without_buffers_of buf job) f (omega (arith, below, one, two)) (out_still (slice_set buf job.source.0 None) job.target.0 f (omega (arith, below, one)) (out_still buf job.source.0 f below gone))
 
-out_mine : (jobs : List Job) (buf : Store) (f : ℕ) → f < length buf → 1 ≤ times f (sources jobs) + times f (targets jobs) → slice_index_or (fold without_both buf jobs) f None ≡ None
+out_mine : (jobs : List Job) (buf : Store) (f : ℕ) → f < length buf → 1 ≤ times f (sources jobs) + times f (targets jobs) → slice_index_or (fold without_buffers_of buf jobs) f None ≡ None
 out_mine [] buf f below some = absurd (omega (arith, some))
 out_mine (job ∷ jobs) buf f below some =
     let s = times_cons f job.source.0 (sources jobs) in
@@ -138,17 +138,17 @@ out_mine (job ∷ jobs) buf f below some =
     let one = length-set buf job.source.0 None in
     let two = length-set (slice_set buf job.source.0 None) job.target.0 None in
     let below_one : f < length (slice_set buf job.source.0 None) = omega (arith, below, one) in
-    let below_two : f < length (without_both buf job) = omega (arith, below, one, two) in
-    elim (job.source.0 == f) as (λ b. (job.source.0 == f) ≡ b → slice_index_or (fold without_both (without_both buf job) jobs) f None ≡ None) [
-      | true ↦ λ b. all_out jobs (without_both buf job) f below_two (out_still (slice_set buf job.source.0 None) job.target.0 f below_one
+    let below_two : f < length (without_buffers_of buf job) = omega (arith, below, one, two) in
+    elim (job.source.0 == f) as (λ b. (job.source.0 == f) ≡ b → slice_index_or (fold without_buffers_of (without_buffers_of buf job) jobs) f None ≡ None) [
+      | true ↦ λ b. all_out jobs (without_buffers_of buf job) f below_two (out_still (slice_set buf job.source.0 None) job.target.0 f below_one
           (ap (λ k. slice_index_or (slice_set buf k None) f None) (eqb-true job.source.0 f b) ∙ get_or-set_same buf f None None below))
-      | false ↦ λ b. elim (job.target.0 == f) as (λ c. (job.target.0 == f) ≡ c → slice_index_or (fold without_both (without_both buf job) jobs) f None ≡ None) [
-        | true ↦ λ c. all_out jobs (without_both buf job) f below_two
+      | false ↦ λ b. elim (job.target.0 == f) as (λ c. (job.target.0 == f) ≡ c → slice_index_or (fold without_buffers_of (without_buffers_of buf job) jobs) f None ≡ None) [
+        | true ↦ λ c. all_out jobs (without_buffers_of buf job) f below_two
             (ap (λ k. slice_index_or (slice_set (slice_set buf job.source.0 None) k None) f None) (eqb-true job.target.0 f c) ∙ get_or-set_same (slice_set buf job.source.0 None) f None None below_one)
         | false ↦ λ c.
             let none : here f job.source.0 ≡ 0 = ap (λ c. cond c 1 0) b in
             let none_too : here f job.target.0 ≡ 0 = ap (λ c. cond c 1 0) c in
-            out_mine jobs (without_both buf job) f below_two (omega (arith, s, t, none, none_too, some))
+            out_mine jobs (without_buffers_of buf job) f below_two (omega (arith, s, t, none, none_too, some))
       ] refl
     ] refl
 
@@ -182,7 +182,7 @@ module _ (m : RunMachine) (target : ℕ) (wanted : List Wanted) (rest : IsAtRest
   laid taken statuses = record m {
     phase = Moving;
     tasks = with_entries (held_by (jobs_of m.buf taken)) m.tasks;
-    buf = fold without_both m.buf (jobs_of m.buf taken);
+    buf = fold without_buffers_of m.buf (jobs_of m.buf taken);
     free = slice_set m.free target (drop (length taken) (slice_index_or m.free target []));
     jobs = jobs_of m.buf taken;
     statuses = statuses;
@@ -191,7 +191,7 @@ module _ (m : RunMachine) (target : ℕ) (wanted : List Wanted) (rest : IsAtRest
   decided_here : IsDecided (state_of m) target m.buf p
   decided_here = each_decided target m.buf wanted (state_of m) [] sound
 
-  sound_then : IsSoundMidRun p.state (frames_left p.taken)
+  sound_then : IsSoundInFlight p.state (frames_left p.taken)
   sound_then = each_sound (state_of m) [] target wanted sound
 
   place_is : (state_of m).place ≡ m.place
@@ -211,16 +211,16 @@ module _ (m : RunMachine) (target : ℕ) (wanted : List Wanted) (rest : IsAtRest
       omega (arith, few, is, free)
 
   -- the bytes of pages stay
-  content_stays : (q : Page) (f : ℕ) → get page_cmp m.place q ≡ Some f → content (fold without_both m.buf jobs) jobs f ≡ content m.buf m.jobs f
+  content_stays : (q : Page) (f : ℕ) → get page_cmp m.place q ≡ Some f → content (fold without_buffers_of m.buf jobs) jobs f ≡ content m.buf m.jobs f
   content_stays q f placed =
-      elim (is_some (job_from jobs f)) as (λ b. is_some (job_from jobs f) ≡ b → content (fold without_both m.buf jobs) jobs f ≡ bytes_of m.buf f) [
-        | true ↦ λ b. content_of m.buf (fold without_both m.buf jobs) p.taken f b
+      elim (is_some (job_from jobs f)) as (λ b. is_some (job_from jobs f) ≡ b → content (fold without_buffers_of m.buf jobs) jobs f ≡ bytes_of m.buf f) [
+        | true ↦ λ b. content_of m.buf (fold without_buffers_of m.buf jobs) p.taken f b
         | false ↦ λ b.
             let s = no_source_times jobs f b in
             let t = target_times f in
             let one = counted_place (state_of m).place q f (was_placed q f placed) in
             let most = free_times f in
-            content_home (fold without_both m.buf jobs) jobs f b
+            content_home (fold without_buffers_of m.buf jobs) jobs f b
             ∙ ap (λ o. unwrap_or o []) (out_other jobs m.buf f (omega (arith, s, t, one, most)))
       ] refl
       ∙ sym (ap (λ js. content m.buf js f) rest.settled.idle)
@@ -233,8 +233,8 @@ module _ (m : RunMachine) (target : ℕ) (wanted : List Wanted) (rest : IsAtRest
       let d = decided_here in
       let processes : with_values (process_of m.areas) (with_entries (held_by jobs) m.tasks) ≡ with_values (process_of m.areas) m.tasks = entries_show (held_by jobs) (held_alike jobs) m.areas m.tasks in
       let place : with_values (λ (q : Page) f. goes_to jobs f) m.place ≡ p.state.place = ap (with_values (λ (q : Page) f. goes_to jobs f)) (sym place_is) ∙ sym d.place in
-      let bytes : with_values (λ (q : Page) f. content (fold without_both m.buf jobs) jobs f) m.place ≡ with_values (λ (q : Page) f. content m.buf m.jobs f) m.place =
-      agree page_cmp_total exact_page (λ (q : Page) f. content (fold without_both m.buf jobs) jobs f) (λ (q : Page) f. content m.buf m.jobs f) m.place in_order content_stays in
+      let bytes : with_values (λ (q : Page) f. content (fold without_buffers_of m.buf jobs) jobs f) m.place ≡ with_values (λ (q : Page) f. content m.buf m.jobs f) m.place =
+      agree page_cmp_total exact_page (λ (q : Page) f. content (fold without_buffers_of m.buf jobs) jobs f) (λ (q : Page) f. content m.buf m.jobs f) m.place in_order content_stays in
       (λ i. record (state_of (laid p.taken statuses)) { processes = processes i; place = place i; bytes = bytes i }) ∙ sym d.state
 
   -- an entry names the frame of the page that is seen there
@@ -283,15 +283,15 @@ module _ (m : RunMachine) (target : ℕ) (wanted : List Wanted) (rest : IsAtRest
       let inside : f < length m.buf = let len = rest.settled.buffers in omega (arith, below, len) in
       let most = once_each f in
       hands_count (laid p.taken statuses) f
-      ∙ elim (nat_lt 0 (times f (sources jobs) + times f (targets jobs))) as (λ b. nat_lt 0 (times f (sources jobs) + times f (targets jobs)) ≡ b → at_home (slice_index_or (fold without_both m.buf jobs) f None) + (times f (sources jobs) + times f (targets jobs)) ≡ 1) [
+      ∙ elim (nat_lt 0 (times f (sources jobs) + times f (targets jobs))) as (λ b. nat_lt 0 (times f (sources jobs) + times f (targets jobs)) ≡ b → at_home (slice_index_or (fold without_buffers_of m.buf jobs) f None) + (times f (sources jobs) + times f (targets jobs)) ≡ 1) [
         | true ↦ λ b.
             let some = ltb-true 0 (times f (sources jobs) + times f (targets jobs)) b in
-            let out : at_home (slice_index_or (fold without_both m.buf jobs) f None) ≡ 0 = ap at_home (out_mine jobs m.buf f inside (omega (arith, some))) in
+            let out : at_home (slice_index_or (fold without_buffers_of m.buf jobs) f None) ≡ 0 = ap at_home (out_mine jobs m.buf f inside (omega (arith, some))) in
             omega (arith, some, out, most)
         | false ↦ λ b.
             let none = ltb-false 0 (times f (sources jobs) + times f (targets jobs)) b in
             let zeros : times f (sources jobs) + times f (targets jobs) ≡ 0 = omega (arith, none) in
-            let home : at_home (slice_index_or (fold without_both m.buf jobs) f None) ≡ 1 = ap at_home (out_other jobs m.buf f zeros) ∙ home_one (slice_index_or m.buf f None) (rest.settled.home f below).here in
+            let home : at_home (slice_index_or (fold without_buffers_of m.buf jobs) f None) ≡ 1 = ap at_home (out_other jobs m.buf f zeros) ∙ home_one (slice_index_or m.buf f None) (rest.settled.home f below).here in
             omega (arith, zeros, home)
       ] refl
 
@@ -300,7 +300,7 @@ module _ (m : RunMachine) (target : ℕ) (wanted : List Wanted) (rest : IsAtRest
       record {
         midway = record {
           moving = refl;
-          sound = subst (IsSoundMidRun (state_of (laid p.taken statuses))) (sym (sources_of m.buf p.taken)) (subst (λ s. IsSoundMidRun s (frames_left p.taken)) (sym (laid_state statuses)) sound_then);
+          sound = subst (IsSoundInFlight (state_of (laid p.taken statuses))) (sym (sources_of m.buf p.taken)) (subst (λ s. IsSoundInFlight s (frames_left p.taken)) (sym (laid_state statuses)) sound_then);
           entries = laid_entries;
           pages = λ q. decided_here.pages q ∙ ap (λ ps. is_source jobs (get page_cmp ps q)) place_is;
           copies = laid_copies statuses (map ends_of jobs) decided_here.copies;
@@ -318,7 +318,7 @@ module _ (m : RunMachine) (target : ℕ) (wanted : List Wanted) (rest : IsAtRest
         layout = refl;
       }
 
-pub begun_is : (m : RunMachine) (target : ℕ) (wanted : List Wanted) → IsAtRest m → IsSound (state_of m) → HasOneAll wanted → Begun m (begun m target wanted) (each_request (state_of m) target wanted)
+pub begun_is : (m : RunMachine) (target : ℕ) (wanted : List Wanted) → IsAtRest m → IsSound (state_of m) → HasOneAll wanted → Begun m (begin_run m target wanted) (each_request (state_of m) target wanted)
 begun_is m target wanted rest sound alike =
     let agrees = plan_agrees (state_of m) target wanted sound.order.processes (sound.frames.own target) alike in
     let d = plan m target wanted in

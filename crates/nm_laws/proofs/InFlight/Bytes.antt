@@ -19,7 +19,7 @@ use Rattle.nm_model.specs.definitions.Seen.{sight_at}
 use Rattle.nm_model.specs.definitions.PageTables.{entry_at, sight_of, page_here}
 use Rattle.nm_model.specs.definitions.Memory.{byte_of, mem_range}
 use Rattle.nm_model.specs.definitions.Touch.{with_bytes}
-use Rattle.nm_model.specs.definitions.Sound.{times, IsSoundMidRun}
+use Rattle.nm_model.specs.definitions.Sound.{times, IsSoundInFlight}
 use Rattle.nm_types.proofs.Maps.{page_cmp_total, exact_page, get-values, with_values-set, set_agree, set_same, replace_is_set}
 use Rattle.nm_types.proofs.Maps.{keys-values}
 use Rattle.nm_laws.proofs.Seen.Frames.{place_in_range}
@@ -141,7 +141,7 @@ module _ (m : RunMachine) (moved : List Page) (h : IsMidway m moved) (pid addres
         let bytes = overwrite (bytes_of m.buf f) (address % 4096) new in
         record {
           moving = h.moving;
-          sound = subst (λ s. IsSoundMidRun s (sources m.jobs)) (sym (frame_written f there))
+          sound = subst (λ s. IsSoundInFlight s (sources m.jobs)) (sym (frame_written f there))
               (bytes_sound (state_of m) (sources m.jobs) pid vpn (address % 4096) new (Some (Sees (page f there))) h.sound (sees f there) fits);
           entries = h.entries;
           pages = h.pages;

@@ -18,7 +18,7 @@ use Rattle.nm_types.specs.declared.request.Wanted.{Wanted}
 use Rattle.nm_model.specs.definitions.Status.{status_or_move}
 use Rattle.nm_types.specs.declared.taken.Taken.{Taken}
 use Rattle.nm_model.specs.definitions.Run.{Decision, Progress, moved_page, decision, each_request, frames_left}
-use Rattle.nm_model.specs.definitions.Sound.{times, IsSoundMidRun}
+use Rattle.nm_model.specs.definitions.Sound.{times, IsSoundInFlight}
 use Rattle.nm_laws.proofs.Soundness.Frames.{here, times_cons}
 use Rattle.nm_types.proofs.Maps.{page_cmp_total, exact_page, equal, get-set, with_values-moved}
 use Rattle.nm_laws.proofs.Soundness.Moved.{decided_sound}
@@ -95,7 +95,7 @@ module _ (s : State) (target : ℕ) (buf : Store) (ws : List Wanted) where
       record { place = d.place; state = d.state; pages = d.pages; copies = d.copies; from_elsewhere = d.from_elsewhere; to_target = d.to_target; few = d.few })
 
   -- a page moves
-  module _ (l : List ℕ) (h : IsSoundMidRun s l) (p : Page) (from frame : ℕ) (rest : List ℕ) (placed : get page_cmp s.place p ≡ Some from) (elsewhere : (node_of s.layout from == target) ≡ false) (front : free_list s target ≡ frame ∷ rest) where
+  module _ (l : List ℕ) (h : IsSoundInFlight s l) (p : Page) (from frame : ℕ) (rest : List ℕ) (placed : get page_cmp s.place p ≡ Some from) (elsewhere : (node_of s.layout from == target) ≡ false) (front : free_list s target ≡ frame ∷ rest) where
     abbrev next : State
     next = record s { place = set page_cmp s.place p frame; free = slice_set s.free target rest }
 
@@ -190,21 +190,21 @@ module _ (s : State) (target : ℕ) (buf : Store) (ws : List Wanted) where
 
 -- requests that are left, from whatever sound state
 abbrev Rest : ℕ → Store → List Wanted → Type 0
-Rest target buf ws = (s : State) (l : List ℕ) → IsSoundMidRun s l → IsDecided s target buf (each_request s target ws)
+Rest target buf ws = (s : State) (l : List ℕ) → IsSoundInFlight s l → IsDecided s target buf (each_request s target ws)
 
-page_decided : (s : State) (l : List ℕ) (target : ℕ) (buf : Store) (ws : List Wanted) (p : Page) (from : ℕ) (front : List ℕ) → Rest target buf ws → IsSoundMidRun s l → get page_cmp s.place p ≡ Some from → (node_of s.layout from == target) ≡ false → free_list s target ≡ front
-    → IsSoundMidRun (moved_page s target p from front).state (l ++ frames_left (moved_page s target p from front).taken) → IsDecided s target buf (then_each (moved_page s target p from front) target ws)
+page_decided : (s : State) (l : List ℕ) (target : ℕ) (buf : Store) (ws : List Wanted) (p : Page) (from : ℕ) (front : List ℕ) → Rest target buf ws → IsSoundInFlight s l → get page_cmp s.place p ≡ Some from → (node_of s.layout from == target) ≡ false → free_list s target ≡ front
+    → IsSoundInFlight (moved_page s target p from front).state (l ++ frames_left (moved_page s target p from front).taken) → IsDecided s target buf (then_each (moved_page s target p from front) target ws)
 page_decided s l target buf ws p from [] rest h placed elsewhere e sound = same_decided s target buf ws (moved_page s target p from []) refl refl (rest s l h)
 page_decided s l target buf ws p from (frame ∷ others) rest h placed elsewhere e sound =
     let next : State = (moved_page s target p from (frame ∷ others)).state in
     moved_decided s target buf ws l h p from frame others placed elsewhere e (each_request next target ws) (rest next (l ++ from ∷ []) sound) (pos target)
 
-class_decided : (s : State) (l : List ℕ) (target : ℕ) (buf : Store) (ws : List Wanted) (c : Class) → Rest target buf ws → IsSoundMidRun s l → ClassIsPlaced s c → IsElsewhere s target c → IsDecided s target buf (then_each (decision s target c) target ws)
+class_decided : (s : State) (l : List ℕ) (target : ℕ) (buf : Store) (ws : List Wanted) (c : Class) → Rest target buf ws → IsSoundInFlight s l → ClassIsPlaced s c → IsElsewhere s target c → IsDecided s target buf (then_each (decision s target c) target ws)
 class_decided s l target buf ws (Status status) rest h placed elsewhere = same_decided s target buf ws (decision s target (Status status)) refl refl (rest s l h)
 class_decided s l target buf ws (Move p from) rest h placed elsewhere =
     page_decided s l target buf ws p from (free_list s target) rest h placed elsewhere refl (decided_sound s l target (Move p from) h placed)
 
-pub each_decided : (target : ℕ) (buf : Store) (ws : List Wanted) (s : State) (l : List ℕ) → IsSoundMidRun s l → IsDecided s target buf (each_request s target ws)
+pub each_decided : (target : ℕ) (buf : Store) (ws : List Wanted) (s : State) (l : List ℕ) → IsSoundInFlight s l → IsDecided s target buf (each_request s target ws)
 each_decided target buf [] s l h = nothing_decided s target buf
 each_decided target buf (w ∷ ws) s l h =
     class_decided s l target buf ws (status_or_move s target w) (each_decided target buf ws) h (status_placed s target w) (status_elsewhere s target w)

@@ -24,19 +24,19 @@ use Rattle.nm_laws.proofs.Soundness.Frames.{here, times_cons}
 use Rattle.nm_types.proofs.Maps.{page_cmp_total, exact_page, agree, get-values, keys-values}
 use Rattle.nm_laws.proofs.Seen.Frames.{place_in_range}
 use Rattle.nm_model.specs.definitions.RunMachine.{RunMachine, Job, job_from, goes_to, content, state_of}
-use Rattle.nm_model.specs.definitions.Events.{is_given, arrived, with_both, freed, ended, with_entries, hands, held_by}
+use Rattle.nm_model.specs.definitions.Events.{is_given, arrival_of, with_both, free_frame, end_run, with_entries, hands, held_by}
 use Rattle.nm_laws.proofs.InFlight.Jobs.{sources, targets, AreCopied, no_source_times, goes_nowhere, content_home}
 use Rattle.nm_laws.proofs.InFlight.Values.{values_twice, values_same, entries_show, changed_at}
 use Rattle.nm_laws.specs.Interleavings.{IsSettled}
 use Rattle.nm_laws.proofs.InFlight.Midway.{IsMidway, CopiesPage, ends_of, at_home, hands_count}
 
-arrived_alike : (areas : Map (ℕ × ℕ) Area) (pid v : ℕ) (e : Entry) → sight_of areas pid v (arrived e) ≡ sight_of areas pid v e
+arrived_alike : (areas : Map (ℕ × ℕ) Area) (pid v : ℕ) (e : Entry) → sight_of areas pid v (arrival_of e) ≡ sight_of areas pid v e
 arrived_alike areas pid v Zero = refl
 arrived_alike areas pid v (Frame f) = refl
 arrived_alike areas pid v (Held f) = refl
 
 -- the lists alone
-freed_is : (frames : List ℕ) (s : State) → with_all_free s frames ≡ record s { free = fold (freed s.layout) s.free frames }
+freed_is : (frames : List ℕ) (s : State) → with_all_free s frames ≡ record s { free = fold (free_frame s.layout) s.free frames }
 freed_is [] s = refl
 freed_is (f ∷ frames) s = freed_is frames (with_free s f)
 
@@ -175,15 +175,15 @@ unmap_some f None b h = cc
 unmap_some f (Some a) b h = (a, refl, some_is h)
 
 -- a held entry that has arrived names the frame where its page is
-arrived_frame : (o : Option Job) (f : ℕ) → arrived (unwrap_or (option_map (λ (job : Job). Held job.target.0) o) (Frame f)) ≡ Frame (unwrap_or (option_map (λ (job : Job). job.target.0) o) f)
+arrived_frame : (o : Option Job) (f : ℕ) → arrival_of (unwrap_or (option_map (λ (job : Job). Held job.target.0) o) (Frame f)) ≡ Frame (unwrap_or (option_map (λ (job : Job). job.target.0) o) f)
 arrived_frame None f = refl
 arrived_frame (Some job) f = refl
 
-arrived_place : (jobs : List Job) (o : Option ℕ) → arrived (held_by jobs (unwrap_or (option_map Frame o) Zero)) ≡ unwrap_or (option_map Frame (option_map (goes_to jobs) o)) Zero
+arrived_place : (jobs : List Job) (o : Option ℕ) → arrival_of (held_by jobs (unwrap_or (option_map Frame o) Zero)) ≡ unwrap_or (option_map Frame (option_map (goes_to jobs) o)) Zero
 arrived_place jobs None = refl
 arrived_place jobs (Some f) = arrived_frame (job_from jobs f) f
 
-arrived_entry : (jobs : List Job) (place : Map Page ℕ) (sight : Sight) → arrived (held_by jobs (entry_of place sight)) ≡ entry_of (with_values (λ (q : Page) f. goes_to jobs f) place) sight
+arrived_entry : (jobs : List Job) (place : Map Page ℕ) (sight : Sight) → arrival_of (held_by jobs (entry_of place sight)) ≡ entry_of (with_values (λ (q : Page) f. goes_to jobs f) place) sight
 arrived_entry jobs place ZeroPage = refl
 arrived_entry jobs place (Sees p) =
     arrived_place jobs (get page_cmp place p)
@@ -237,40 +237,40 @@ module _ (m : RunMachine) (moved : List Page) (h : IsMidway m moved) where
       ] refl
 
   -- the end of a run, read as a state
-  pub ended_is : list_all (λ job. is_given job.stage) m.jobs ≡ true → state_of (ended m) ≡ with_counts (with_all_free (state_of m) (sources m.jobs)) (length m.jobs) (failures m.statuses)
+  pub ended_is : list_all (λ job. is_given job.stage) m.jobs ≡ true → state_of (end_run m) ≡ with_counts (with_all_free (state_of m) (sources m.jobs)) (length m.jobs) (failures m.statuses)
   ended_is all =
       let buf = fold with_both m.buf m.jobs in
-      let processes : with_values (process_of m.areas) (with_entries arrived m.tasks) ≡ with_values (process_of m.areas) m.tasks = entries_show arrived arrived_alike m.areas m.tasks in
+      let processes : with_values (process_of m.areas) (with_entries arrival_of m.tasks) ≡ with_values (process_of m.areas) m.tasks = entries_show arrival_of arrived_alike m.areas m.tasks in
       let place : with_values (λ (q : Page) f. f) (with_values (λ (q : Page) f. goes_to m.jobs f) m.place) ≡ with_values (λ (q : Page) f. goes_to m.jobs f) m.place = values_same _ in
       let bytes : with_values (λ (q : Page) f. bytes_of buf f) (with_values (λ (q : Page) f. goes_to m.jobs f) m.place) ≡ with_values (λ (q : Page) f. content m.buf m.jobs f) m.place =
       values_twice (λ (q : Page) f. bytes_of buf f) (λ (q : Page) f. goes_to m.jobs f) m.place
       ∙ sym (agree page_cmp_total exact_page (λ (q : Page) f. content m.buf m.jobs f) (λ (q : Page) f. bytes_of buf (goes_to m.jobs f)) m.place in_order (back_bytes all)) in
-      (λ i. record (state_of (ended m)) { processes = processes i; place = place i; bytes = bytes i })
+      (λ i. record (state_of (end_run m)) { processes = processes i; place = place i; bytes = bytes i })
       ∙ ap (λ s. with_counts s (length m.jobs) (failures m.statuses)) (sym (freed_is (sources m.jobs) (state_of m)))
 
   -- every buffer is home
-  pub ended_once : (f : ℕ) → f < frame_count m.layout → length (hands (ended m) f) ≡ 1
+  pub ended_once : (f : ℕ) → f < frame_count m.layout → length (hands (end_run m) f) ≡ 1
   ended_once f below =
       let one = sym (hands_count m f) ∙ h.once f below in
       let all : at_home (slice_index_or (fold with_both m.buf m.jobs) f None) ≡ 1 = back_home m.jobs m.buf f (omega (arith, below, h.buffers)) one in
-      let count = hands_count (ended m) f in
+      let count = hands_count (end_run m) f in
       omega (arith, count, all)
 
   -- every entry names the frame of its page
-  ended_entries : (pid v : ℕ) (e : Entry) → entry_at (ended m).tasks pid v ≡ Some e → e ≡ entry_of (ended m).place (sight_of m.areas pid v e)
+  ended_entries : (pid v : ℕ) (e : Entry) → entry_at (end_run m).tasks pid v ≡ Some e → e ≡ entry_of (end_run m).place (sight_of m.areas pid v e)
   ended_entries pid v e there =
-      let was = unmap_some arrived (entry_at m.tasks pid v) e (sym (changed_at arrived m.tasks pid v) ∙ there) in
-      sym was.2 ∙ ap arrived (h.entries pid v was.0 was.1) ∙ arrived_entry m.jobs m.place (sight_of m.areas pid v was.0)
-      ∙ ap (entry_of (ended m).place) (sym (arrived_alike m.areas pid v was.0) ∙ ap (sight_of m.areas pid v) was.2)
+      let was = unmap_some arrival_of (entry_at m.tasks pid v) e (sym (changed_at arrival_of m.tasks pid v) ∙ there) in
+      sym was.2 ∙ ap arrival_of (h.entries pid v was.0 was.1) ∙ arrived_entry m.jobs m.place (sight_of m.areas pid v was.0)
+      ∙ ap (entry_of (end_run m).place) (sym (arrived_alike m.areas pid v was.0) ∙ ap (sight_of m.areas pid v) was.2)
 
-  pub ended_settled : IsSettled (ended m)
+  pub ended_settled : IsSettled (end_run m)
   ended_settled =
       record {
         idle = refl;
         buffers = back_length m.jobs m.buf ∙ h.buffers;
         home = λ f below. record {
           in_range = let len = back_length m.jobs m.buf in let all = h.buffers in omega (arith, below, len, all);
-          here = home_some (slice_index_or (ended m).buf f None) (let one = ended_once f below in let count = hands_count (ended m) f in omega (arith, one, count));
+          here = home_some (slice_index_or (end_run m).buf f None) (let one = ended_once f below in let count = hands_count (end_run m) f in omega (arith, one, count));
         };
         entries = ended_entries;
       }

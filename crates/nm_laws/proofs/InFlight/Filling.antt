@@ -18,14 +18,14 @@ use Rattle.nm_types.specs.declared.entry.Entry.{Entry}
 use Rattle.nm_types.specs.declared.entry.Entry.TheVariants.{Zero, Frame, Held}
 use Rattle.nm_model.specs.definitions.Seen.{sight_at}
 use Rattle.nm_model.specs.definitions.PageTables.{entry_at, sight_of, page_here, entry_of}
-use Rattle.nm_model.specs.definitions.Touch.{AccessSite, shown_at, with_sight, with_page, without_front}
-use Rattle.nm_model.specs.definitions.Sound.{times, IsSoundMidRun}
+use Rattle.nm_model.specs.definitions.Touch.{AccessSite, shown_at, with_sight, with_page, without_front_frame}
+use Rattle.nm_model.specs.definitions.Sound.{times, IsSoundInFlight}
 use Rattle.nm_types.proofs.Maps.{page_cmp_total, exact_page, equal, get-set, get-values, with_values-set, set_agree}
 use Rattle.nm_laws.proofs.Seen.Sights.{IsSpot, is_here, page_at_spot}
 use Rattle.nm_laws.proofs.Soundness.Allocated.{placed_sound}
 use Rattle.nm_model.specs.definitions.RunMachine.{RunMachine, Job, job_from, goes_to, content, state_of}
 use Rattle.nm_model.specs.definitions.Events.{held_by, hands}
-use Rattle.nm_model.specs.definitions.Accesses.{with_entry_at, with_new_page}
+use Rattle.nm_model.specs.definitions.Accesses.{with_entry_at, with_cleared_page}
 use Rattle.nm_laws.proofs.InFlight.Jobs.{sources, targets, goes_nowhere, content_home}
 use Rattle.nm_laws.proofs.InFlight.Midway.{IsMidway, CopiesPage, is_source, ends_of, at_home, hands_count}
 use Rattle.nm_laws.proofs.InFlight.Ending.{in_order}
@@ -80,11 +80,11 @@ frame_fits place areas jobs pid v f p shown placed none =
 
 module _ (m : RunMachine) (moved : List Page) (h : IsMidway m moved) (at : AccessSite) (i : IsSpot (state_of m) at) where
   -- a new entry
-  pub entered_midway : (e : Entry) → Fitting m.place m.areas m.jobs at.pid at.vpn e → IsSoundMidRun (with_sight (state_of m) at (sight_of m.areas at.pid at.vpn e)) (sources m.jobs) → IsMidway (with_entry_at m at e) moved
+  pub entered_midway : (e : Entry) → Fitting m.place m.areas m.jobs at.pid at.vpn e → IsSoundInFlight (with_sight (state_of m) at (sight_of m.areas at.pid at.vpn e)) (sources m.jobs) → IsMidway (with_entry_at m at e) moved
   entered_midway e fits sound =
       record {
         moving = h.moving;
-        sound = subst (λ s. IsSoundMidRun s (sources m.jobs)) (sym (entered_is m at i e)) sound;
+        sound = subst (λ s. IsSoundInFlight s (sources m.jobs)) (sym (entered_is m at i e)) sound;
         entries = all_fit m at i e fits h.entries;
         pages = h.pages;
         copies = h.copies;
@@ -105,7 +105,7 @@ module _ (m : RunMachine) (moved : List Page) (h : IsMidway m moved) (at : Acces
     zeros = replicate 4096 0
 
     abbrev pub filled_machine : RunMachine
-    filled_machine = with_new_page m (shown_at at) node
+    filled_machine = with_cleared_page m (shown_at at) node
 
     place_then : (p : Page) → get page_cmp (set page_cmp m.place (shown_at at) front) p ≡ cond (is_eq (page_cmp p (shown_at at))) (Some front) (get page_cmp m.place p)
     place_then p = get-set page_cmp_total m.place (shown_at at) front p
@@ -134,7 +134,7 @@ module _ (m : RunMachine) (moved : List Page) (h : IsMidway m moved) (at : Acces
     new_content = content_home (slice_set m.buf front (Some zeros)) m.jobs front stays ∙ ap (λ o. unwrap_or o []) (get_or-set_same m.buf front (Some zeros) None inside)
 
     -- the state with the page in it
-    filled_state : state_of filled_machine ≡ with_page (without_front (state_of m) node) (shown_at at) front
+    filled_state : state_of filled_machine ≡ with_page (without_front_frame (state_of m) node) (shown_at at) front
     filled_state =
         let new : List ℕ → Map Page (List ℕ) = λ bytes. set page_cmp (with_values (λ (q : Page) f. content (slice_set m.buf front (Some zeros)) m.jobs f) m.place) (shown_at at) bytes in
         let place : with_values (λ (q : Page) f. goes_to m.jobs f) (set page_cmp m.place (shown_at at) front) ≡ set page_cmp (with_values (λ (q : Page) f. goes_to m.jobs f) m.place) (shown_at at) front =
@@ -153,7 +153,7 @@ module _ (m : RunMachine) (moved : List Page) (h : IsMidway m moved) (at : Acces
     spot_still : IsSpot (state_of filled_machine) at
     spot_still = record { process = i.process; area = i.area }
 
-    pub filled_is : state_of filled_and_seen ≡ with_sight (with_page (without_front (state_of m) node) (shown_at at) front) at (Sees (shown_at at))
+    pub filled_is : state_of filled_and_seen ≡ with_sight (with_page (without_front_frame (state_of m) node) (shown_at at) front) at (Sees (shown_at at))
     filled_is =
         entered_is filled_machine at spot_still (Frame front)
         ∙ (λ j. with_sight (filled_state j) at (Sees (page_here_is j)))
@@ -205,7 +205,7 @@ module _ (m : RunMachine) (moved : List Page) (h : IsMidway m moved) (at : Acces
         let unplaced_now : get page_cmp (state_of m).place (shown_at at) ≡ None = get-values exact_page (λ (q : Page) f. goes_to m.jobs f) m.place (shown_at at) ∙ ap (option_map (goes_to m.jobs)) unplaced in
         record {
           moving = h.moving;
-          sound = subst (λ s. IsSoundMidRun s (sources m.jobs)) (sym filled_is) (placed_sound (state_of m) (sources m.jobs) at node h.sound i unseen unplaced_now some);
+          sound = subst (λ s. IsSoundInFlight s (sources m.jobs)) (sym filled_is) (placed_sound (state_of m) (sources m.jobs) at node h.sound i unseen unplaced_now some);
           entries = all_fit filled_machine at spot_still (Frame front)
               (frame_fits (set page_cmp m.place (shown_at at) front) m.areas m.jobs at.pid at.vpn front (shown_at at) (page_at_spot (state_of m) at i) place_here stays)
               (λ q w e there. fits_still q w e (h.entries q w e there));

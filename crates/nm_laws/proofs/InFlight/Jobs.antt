@@ -9,7 +9,7 @@ use Rattle.nm_model.specs.definitions.Sound.{times}
 pub use Rattle.nm_laws.specs.Midway.{sources, targets, AreCopied}
 use Rattle.nm_laws.proofs.Soundness.Frames.{here, times_cons}
 use Rattle.nm_model.specs.definitions.RunMachine.{Job, InHand, job_from, goes_to, content}
-use Rattle.nm_model.specs.definitions.Events.{is_laid, drawn, given, job_holds, InJob}
+use Rattle.nm_model.specs.definitions.Events.{is_laid, draw_job, give_job, job_holds, InJob}
 
 -- what neither a draw nor a give changes of a job
 abbrev pub Shape : Type 0
@@ -18,15 +18,15 @@ Shape = (ℕ × List ℕ) × ℕ
 abbrev pub shape : Job → Shape
 shape job = (job.source, job.target.0)
 
-pub drawn_shape : (w : ℕ) (jobs : List Job) → map shape (drawn w jobs) ≡ map shape jobs
+pub drawn_shape : (w : ℕ) (jobs : List Job) → map shape (draw_job w jobs) ≡ map shape jobs
 drawn_shape w [] = refl
 drawn_shape w (job ∷ jobs) =
-    elim (is_laid job.stage) as (λ b. map shape (if b then record job { stage = InHand w } ∷ jobs else job ∷ drawn w jobs) ≡ map shape (job ∷ jobs)) [
+    elim (is_laid job.stage) as (λ b. map shape (if b then record job { stage = InHand w } ∷ jobs else job ∷ draw_job w jobs) ≡ map shape (job ∷ jobs)) [
       | true ↦ refl
       | false ↦ ap (λ xs. shape job ∷ xs) (drawn_shape w jobs)
     ]
 
-pub given_shape : (t : ℕ) (jobs : List Job) → map shape (given t jobs) ≡ map shape jobs
+pub given_shape : (t : ℕ) (jobs : List Job) → map shape (give_job t jobs) ≡ map shape jobs
 given_shape t [] = refl
 given_shape zero (job ∷ jobs) = refl
 given_shape (suc t) (job ∷ jobs) = ap (λ xs. shape job ∷ xs) (given_shape t jobs)
@@ -95,15 +95,15 @@ module _ (jobs others : List Job) (same : map shape jobs ≡ map shape others) w
   pub length_same : length jobs ≡ length others
   length_same = length_of_shapes jobs ∙ ap length same ∙ sym (length_of_shapes others)
 
-pub drawn_copied : (w : ℕ) (jobs : List Job) → AreCopied jobs → AreCopied (drawn w jobs)
+pub drawn_copied : (w : ℕ) (jobs : List Job) → AreCopied jobs → AreCopied (draw_job w jobs)
 drawn_copied w [] h = tt
 drawn_copied w (job ∷ jobs) h =
-    elim (is_laid job.stage) as (λ b. AreCopied (if b then record job { stage = InHand w } ∷ jobs else job ∷ drawn w jobs)) [
+    elim (is_laid job.stage) as (λ b. AreCopied (if b then record job { stage = InHand w } ∷ jobs else job ∷ draw_job w jobs)) [
       | true ↦ (λ e. cc, h.1)
       | false ↦ (h.0, drawn_copied w jobs h.1)
     ]
 
-pub given_copied : (t : ℕ) (jobs : List Job) → AreCopied jobs → AreCopied (given t jobs)
+pub given_copied : (t : ℕ) (jobs : List Job) → AreCopied jobs → AreCopied (give_job t jobs)
 given_copied t [] h = tt
 given_copied zero (job ∷ jobs) h = (λ e. refl, h.1)
 given_copied (suc t) (job ∷ jobs) h = (h.0, given_copied t jobs h.1)

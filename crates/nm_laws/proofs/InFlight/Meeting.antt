@@ -22,7 +22,7 @@ use Rattle.nm_types.proofs.Maps.{exact_page, get-values}
 use Rattle.nm_laws.proofs.Seen.Sights.{IsSpot, page_at_spot, with_sight_sound}
 use Rattle.nm_laws.proofs.Soundness.Touched.{private_unplaced, has_front}
 use Rattle.nm_model.specs.definitions.RunMachine.{RunMachine, goes_to, state_of}
-use Rattle.nm_model.specs.definitions.Accesses.{is_held_by, is_held_at, with_entry_at, allocated, filled, joined, touched_entry, touched}
+use Rattle.nm_model.specs.definitions.Accesses.{is_held_by, is_held_at, with_entry_at, allocate_entry, fill_entry, share_entry, touch_entry, touch_entry_at}
 use Rattle.nm_laws.proofs.InFlight.Jobs.{sources}
 use Rattle.nm_laws.proofs.InFlight.Midway.{IsMidway, is_source}
 use Rattle.nm_laws.proofs.InFlight.Whereabouts.{sight_is, frame_there, held_there, leaving_is}
@@ -136,7 +136,7 @@ module _ (m : RunMachine) (moved : List Page) (h : IsMidway m moved) (at : Acces
 
   -- a page gets a frame
   allocated_both : (o : Option ℕ) → ((node : ℕ) → o ≡ Some node → (length (free_list (state_of m) node) == 0) ≡ false) → get page_cmp m.place (shown_at at) ≡ None → ((p : Page) → sight_at (state_of m) at.pid at.vpn ≡ Some (Sees p) → ⊥)
-      → Both m moved at.pid at.vpn (allocated m at o) (state.allocated (state_of m) at o)
+      → Both m moved at.pid at.vpn (allocate_entry m at o) (state.allocate_page (state_of m) at o)
   unfolding Both
   allocated_both None some unplaced unseen = refl
   allocated_both (Some node) some unplaced unseen =
@@ -152,14 +152,14 @@ module _ (m : RunMachine) (moved : List Page) (h : IsMidway m moved) (at : Acces
         used = tt;
       }
 
-  filled_both : get page_cmp m.place (shown_at at) ≡ None → ((p : Page) → sight_at (state_of m) at.pid at.vpn ≡ Some (Sees p) → ⊥) → Both m moved at.pid at.vpn (filled m at) (state.filled (state_of m) at)
+  filled_both : get page_cmp m.place (shown_at at) ≡ None → ((p : Page) → sight_at (state_of m) at.pid at.vpn ≡ Some (Sees p) → ⊥) → Both m moved at.pid at.vpn (fill_entry m at) (state.fill_page (state_of m) at)
   filled_both unplaced unseen =
       let order = first_touch_order m.layout m.online at.process.home at.process.allowed at.area.1.policy (shown_at at).index in
       allocated_both (first_free m.free order) (λ node. has_front m.free order node) unplaced unseen
 
   -- the state's page is in this frame, or none
   joined_both : (o : Option ℕ) → get page_cmp m.place (shown_at at) ≡ o → is_source m.jobs o ≡ false → entry_at m.tasks at.pid at.vpn ≡ None
-      → Both m moved at.pid at.vpn (joined m at o) (state.joined (state_of m) at (option_map (goes_to m.jobs) o))
+      → Both m moved at.pid at.vpn (share_entry m at o) (state.share_page (state_of m) at (option_map (goes_to m.jobs) o))
   unfolding Both
   joined_both None placed stays e = filled_both placed (λ p k. none_sees (sym (sight_is m moved h at.pid at.vpn ∙ ap (option_map (sight_of m.areas at.pid at.vpn)) e) ∙ k))
   joined_both (Some f) placed stays e =
@@ -195,35 +195,35 @@ module _ (m : RunMachine) (moved : List Page) (h : IsMidway m moved) (at : Acces
         used = tt;
       }
 
-  absent_both : (writes : Bool) → is_source m.jobs (get page_cmp m.place (shown_at at)) ≡ false → entry_at m.tasks at.pid at.vpn ≡ None → Both m moved at.pid at.vpn (touched_entry m at writes None) (state.touched_entry (state_of m) at writes None)
+  absent_both : (writes : Bool) → is_source m.jobs (get page_cmp m.place (shown_at at)) ≡ false → entry_at m.tasks at.pid at.vpn ≡ None → Both m moved at.pid at.vpn (touch_entry m at writes None) (state.touch_sight (state_of m) at writes None)
   absent_both writes stays e =
       let unseen : (p : Page) → sight_at (state_of m) at.pid at.vpn ≡ Some (Sees p) → ⊥ = λ p k. none_sees (sym (sight_is m moved h at.pid at.vpn ∙ ap (option_map (sight_of m.areas at.pid at.vpn)) e) ∙ k) in
       elim (is_shared m.segments (shown_at at).segment) as (λ b. is_shared m.segments (shown_at at).segment ≡ b → Both m moved at.pid at.vpn
-      (if b then joined m at (get page_cmp m.place (shown_at at)) else (if writes then filled m at else Ok (with_entry_at m at Zero)))
-      (if b then state.joined (state_of m) at (get page_cmp (state_of m).place (shown_at at)) else (if writes then state.filled (state_of m) at else Ok (with_sight (state_of m) at ZeroPage)))) [
+      (if b then share_entry m at (get page_cmp m.place (shown_at at)) else (if writes then fill_entry m at else Ok (with_entry_at m at Zero)))
+      (if b then state.share_page (state_of m) at (get page_cmp (state_of m).place (shown_at at)) else (if writes then state.fill_page (state_of m) at else Ok (with_sight (state_of m) at ZeroPage)))) [
         | true ↦ λ b.
-            subst (λ o. Both m moved at.pid at.vpn (joined m at (get page_cmp m.place (shown_at at))) (state.joined (state_of m) at o)) (sym (get-values exact_page (λ (q : Page) f. goes_to m.jobs f) m.place (shown_at at)))
+            subst (λ o. Both m moved at.pid at.vpn (share_entry m at (get page_cmp m.place (shown_at at))) (state.share_page (state_of m) at o)) (sym (get-values exact_page (λ (q : Page) f. goes_to m.jobs f) m.place (shown_at at)))
             (joined_both (get page_cmp m.place (shown_at at)) refl stays e)
-        | false ↦ λ b. elim writes as (λ w. Both m moved at.pid at.vpn (if w then filled m at else Ok (with_entry_at m at Zero)) (if w then state.filled (state_of m) at else Ok (with_sight (state_of m) at ZeroPage))) [
+        | false ↦ λ b. elim writes as (λ w. Both m moved at.pid at.vpn (if w then fill_entry m at else Ok (with_entry_at m at Zero)) (if w then state.fill_page (state_of m) at else Ok (with_sight (state_of m) at ZeroPage))) [
           | true ↦ filled_both (place_none (private_unplaced (state_of m) (sources m.jobs) at h.sound i unseen b)) unseen
           | false ↦ zero_both b e
         ]
       ] refl
 
   entry_both : (writes : Bool) (o : Option Entry) → entry_at m.tasks at.pid at.vpn ≡ o → is_held_by m at o ≡ false
-      → Both m moved at.pid at.vpn (touched_entry m at writes o) (state.touched_entry (state_of m) at writes (option_map (sight_of m.areas at.pid at.vpn) o))
+      → Both m moved at.pid at.vpn (touch_entry m at writes o) (state.touch_sight (state_of m) at writes (option_map (sight_of m.areas at.pid at.vpn) o))
   unfolding Both
   entry_both writes None e free = absent_both writes (sym (held_is None e) ∙ free) e
   entry_both writes (Some (Frame f)) e free = unchanged (Frame f) e tt
   entry_both writes (Some (OnItsWay f)) e free = cc
   entry_both writes (Some Zero) e free =
-      elim writes as (λ w. Both m moved at.pid at.vpn (if w then filled m at else Ok m) (if w then state.filled (state_of m) at else Ok (state_of m))) [
+      elim writes as (λ w. Both m moved at.pid at.vpn (if w then fill_entry m at else Ok m) (if w then state.fill_page (state_of m) at else Ok (state_of m))) [
         | true ↦ filled_both (zero_unplaced e) (λ p k. zero_sees (sym (sight_is m moved h at.pid at.vpn ∙ ap (option_map (sight_of m.areas at.pid at.vpn)) e) ∙ k))
         | false ↦ unchanged Zero e tt
       ]
 
-  pub touched_both : (writes : Bool) → is_held_at m (Ok at) ≡ false → Both m moved at.pid at.vpn (touched m writes (Ok at)) (state.touched (state_of m) writes (Ok at))
+  pub touched_both : (writes : Bool) → is_held_at m (Ok at) ≡ false → Both m moved at.pid at.vpn (touch_entry_at m writes (Ok at)) (state.touch_site (state_of m) writes (Ok at))
   touched_both writes free =
-      subst (λ o. Both m moved at.pid at.vpn (touched m writes (Ok at)) (state.touched_entry (state_of m) at writes o))
+      subst (λ o. Both m moved at.pid at.vpn (touch_entry_at m writes (Ok at)) (state.touch_sight (state_of m) at writes o))
       (sym (ap (λ o. sight_in o at.vpn) (sym i.process) ∙ sight_is m moved h at.pid at.vpn))
       (entry_both writes (entry_at m.tasks at.pid at.vpn) refl free)

@@ -8,7 +8,7 @@ use Rattle.nm_types.specs.Map.{get, page_cmp, with_values}
 use Rattle.nm_types.specs.declared.entry.Entry.{Entry}
 use Rattle.nm_types.specs.declared.entry.Entry.TheVariants.{Zero, Frame, Held}
 use Rattle.nm_model.specs.definitions.PageTables.{sight_of, entry_of}
-use Rattle.nm_model.specs.definitions.Sound.{times, IsSoundMidRun}
+use Rattle.nm_model.specs.definitions.Sound.{times, IsSoundInFlight}
 use Rattle.nm_model.specs.definitions.RunMachine.{RunMachine, Job, job_from, state_of}
 use Rattle.nm_model.specs.definitions.Events.{held_by, hands, job_holds, home_hold}
 pub use Rattle.nm_laws.specs.Midway.{is_source, CopiesPage, ends_of, IsMidway}
@@ -55,7 +55,7 @@ module _ (m : RunMachine) (jobs : List Job) (same : map shape jobs ≡ map shape
   same_midway moved copied h =
       record {
         moving = h.moving;
-        sound = subst (λ l. IsSoundMidRun (state_of (record m { jobs = jobs })) l) (sym (sources_same jobs m.jobs same)) (subst (λ s. IsSoundMidRun s (sources m.jobs)) (sym same_state) h.sound);
+        sound = subst (λ l. IsSoundInFlight (state_of (record m { jobs = jobs })) l) (sym (sources_same jobs m.jobs same)) (subst (λ s. IsSoundInFlight s (sources m.jobs)) (sym same_state) h.sound);
         entries = λ pid v e at. h.entries pid v e at ∙ sym (same_held (entry_of m.place (sight_of m.areas pid v e)));
         pages = λ p. h.pages p ∙ same_source (get page_cmp m.place p);
         copies = subst (AllByRecursion (CopiesPage (record m { jobs = jobs }) jobs)) same_ends (same_copies (map ends_of m.jobs) h.copies);

@@ -7,11 +7,11 @@ use Rattle.std.proofs.lemmas.Bool.{and_parts}
 use Rattle.nm_types.specs.declared.page.Page.{Page}
 use Rattle.nm_types.specs.Layout.{frame_count}
 use Rattle.nm_types.specs.State.{State}
-use Rattle.nm_model.specs.definitions.Touch.{Access, in_flight, all_in_flight, AllAnswered}
+use Rattle.nm_model.specs.definitions.Touch.{Access, access_during, all_in_flight, AccessResults}
 use Rattle.nm_model.specs.definitions.Run.{each_request, with_all_free, with_counts, failures}
 use Rattle.nm_model.specs.definitions.RunMachine.{RunMachine, Job, Moving, Ended, state_of}
-use Rattle.nm_model.specs.definitions.Events.{Event, Begin, Draw, Give, Touch, End, after, accesses_in, drawn, given, ended, begun, hands, is_ready, is_moving, is_laid, is_given, is_with}
-use Rattle.nm_model.specs.definitions.Accesses.{accessed}
+use Rattle.nm_model.specs.definitions.Events.{Event, Begin, Draw, Give, Touch, End, after, accesses_in, draw_job, give_job, end_run, begin_run, hands, is_ready, is_moving, is_laid, is_given, is_with}
+use Rattle.nm_model.specs.definitions.Accesses.{after_access}
 use Rattle.nm_laws.specs.Interleavings.{IsSettled, EveryOrderIsTheRun, EveryBufferIsInOneHand, EveryEntryOfAMovingPageIsHeld}
 use Rattle.nm_laws.proofs.InFlight.Jobs.{shape, sources, drawn_shape, drawn_copied, given_shape, given_copied, sources_same, length_same}
 use Rattle.nm_laws.proofs.InFlight.Midway.{IsMidway, ends_of, same_state, same_ends, same_midway}
@@ -49,7 +49,7 @@ after_end (Touch a ∷ events) m n p j h = absurd (refused _ _ n (ap is_moving p
 after_end (End ∷ events) m n p j h = absurd (refused _ _ n (ap (λ q. is_moving q && list_all (λ (job : Job). is_given job.stage) m.jobs) p) h)
 
 -- what the rest of a run makes of a machine in which this one's accesses were made
-record Finishes (m n : RunMachine) (d : AllAnswered) : Type 0 where
+record Finishes (m n : RunMachine) (d : AccessResults) : Type 0 where
   state : state_of n ≡ with_counts (with_all_free d.state (sources m.jobs)) (length m.jobs) (failures m.statuses)
   statuses : n.statuses ≡ m.statuses
   answers : n.answers ≡ m.answers ++ d.answers
@@ -65,7 +65,7 @@ module _ (m n : RunMachine) (moved : List Page) (h : IsMidway m moved) where
       → Finishes (record m { jobs = jobs }) n (all_in_flight (state_of (record m { jobs = jobs })) moved (accesses_in events))
       → Finishes m n (all_in_flight (state_of m) moved (accesses_in events))
   finish_same jobs events same rest =
-      let d : State → AllAnswered = λ s. all_in_flight s moved (accesses_in events) in
+      let d : State → AccessResults = λ s. all_in_flight s moved (accesses_in events) in
       let s = same_state m jobs same in
       record {
         state = rest.state ∙ (λ i. with_counts (with_all_free (d (s i)).state (sources_same jobs m.jobs same i)) (length_same jobs m.jobs same i) (failures m.statuses));
@@ -78,21 +78,21 @@ finish : (events : List Event) (m n : RunMachine) (moved : List Page) → IsMidw
 finish [] m n moved h leads end = absurd (moving_ended (sym h.moving ∙ ap (λ (k : RunMachine). k.phase) (some_is leads) ∙ end))
 finish (Begin target wanted ∷ events) m n moved h leads end = absurd (refused _ _ n (ap is_ready h.moving) leads)
 finish (Draw w ∷ events) m n moved h leads end =
-    let jobs = drawn w m.jobs in
+    let jobs = draw_job w m.jobs in
     let same = drawn_shape w m.jobs in
     finish_same m n moved h jobs events same
     (finish events (record m { jobs = jobs }) n moved (same_midway m jobs same moved (drawn_copied w m.jobs h.copied) h) (allowed _ _ n leads).1 end)
 finish (Give w t ∷ events) m n moved h leads end =
-    let jobs = given t m.jobs in
+    let jobs = give_job t m.jobs in
     let same = given_shape t m.jobs in
     finish_same m n moved h jobs events same
     (finish events (record m { jobs = jobs }) n moved (same_midway m jobs same moved (given_copied t m.jobs h.copied) h) (allowed _ _ n leads).1 end)
 finish (Touch a ∷ events) m n moved h leads end =
-    let k = accessed m a in
+    let k = after_access m a in
     let made = accessed_is m moved h a in
     let rest = finish events k n moved made.midway (allowed _ _ n leads).1 end in
-    let now = in_flight (state_of m) moved a in
-    let d : State → AllAnswered = λ s. all_in_flight s moved (accesses_in events) in
+    let now = access_during (state_of m) moved a in
+    let d : State → AccessResults = λ s. all_in_flight s moved (accesses_in events) in
     record {
       state = rest.state ∙ (λ i. with_counts (with_all_free (d (made.state i)).state (sources (made.jobs i))) (length (made.jobs i)) (failures (made.statuses i)));
       statuses = rest.statuses ∙ made.statuses;
@@ -102,8 +102,8 @@ finish (Touch a ∷ events) m n moved h leads end =
 finish (End ∷ events) m n moved h leads end =
     let both = allowed _ _ n leads in
     let all = (and_parts (is_moving m.phase) (list_all (λ (job : Job). is_given job.stage) m.jobs) both.0).1 in
-    let is = after_end events (ended m) n refl refl both.1 in
-    let d : List Access → AllAnswered = λ xs. all_in_flight (state_of m) moved xs in
+    let is = after_end events (end_run m) n refl refl both.1 in
+    let d : List Access → AccessResults = λ xs. all_in_flight (state_of m) moved xs in
     record {
       state = ap state_of (sym is.1) ∙ ended_is m moved h all ∙ ap (λ xs. with_counts (with_all_free (d xs).state (sources m.jobs)) (length m.jobs) (failures m.statuses)) (sym is.0);
       statuses = ap (λ (k : RunMachine). k.statuses) (sym is.1);
@@ -114,11 +114,11 @@ finish (End ∷ events) m n moved h leads end =
 pub every_order_is_the_run : EveryOrderIsTheRun
 every_order_is_the_run m target wanted events n h end =
     let first = begun_is m target wanted h.rest h.sound h.alike in
-    let k = begun m target wanted in
+    let k = begin_run m target wanted in
     let p = each_request (state_of m) target wanted in
     let pages = map (λ t. t.page) p.taken in
     let rest = finish events k n pages first.midway (allowed _ _ n h.leads).1 end in
-    let d : State → AllAnswered = λ s. all_in_flight s pages (accesses_in events) in
+    let d : State → AccessResults = λ s. all_in_flight s pages (accesses_in events) in
     record {
       state = rest.state ∙ (λ i. with_counts (with_all_free (d (first.state i)).state (first.sources_are i)) (first.count i) (failures (first.statuses i)));
       statuses = rest.statuses ∙ first.statuses;
@@ -131,23 +131,23 @@ once_after : (events : List Event) (m n : RunMachine) (moved : List Page) → Is
 once_after [] m n moved h leads f below = ap (λ k. length (hands k f)) (sym (some_is leads)) ∙ h.once f below
 once_after (Begin target wanted ∷ events) m n moved h leads f below = absurd (refused _ _ n (ap is_ready h.moving) leads)
 once_after (Draw w ∷ events) m n moved h leads f below =
-    once_after events (record m { jobs = drawn w m.jobs }) n moved (same_midway m (drawn w m.jobs) (drawn_shape w m.jobs) moved (drawn_copied w m.jobs h.copied) h) (allowed _ _ n leads).1 f below
+    once_after events (record m { jobs = draw_job w m.jobs }) n moved (same_midway m (draw_job w m.jobs) (drawn_shape w m.jobs) moved (drawn_copied w m.jobs h.copied) h) (allowed _ _ n leads).1 f below
 once_after (Give w t ∷ events) m n moved h leads f below =
-    once_after events (record m { jobs = given t m.jobs }) n moved (same_midway m (given t m.jobs) (given_shape t m.jobs) moved (given_copied t m.jobs h.copied) h) (allowed _ _ n leads).1 f below
+    once_after events (record m { jobs = give_job t m.jobs }) n moved (same_midway m (give_job t m.jobs) (given_shape t m.jobs) moved (given_copied t m.jobs h.copied) h) (allowed _ _ n leads).1 f below
 once_after (Touch a ∷ events) m n moved h leads f below =
     let made = accessed_is m moved h a in
-    once_after events (accessed m a) n moved made.midway (allowed _ _ n leads).1 f (subst (λ g. f < frame_count g) (sym made.layout) below)
+    once_after events (after_access m a) n moved made.midway (allowed _ _ n leads).1 f (subst (λ g. f < frame_count g) (sym made.layout) below)
 once_after (End ∷ events) m n moved h leads f below =
-    let is = after_end events (ended m) n refl refl (allowed _ _ n leads).1 in
+    let is = after_end events (end_run m) n refl refl (allowed _ _ n leads).1 in
     ap (λ k. length (hands k f)) (sym is.1) ∙ ended_once m moved h f below
 
 pub every_buffer_is_in_one_hand : EveryBufferIsInOneHand
 every_buffer_is_in_one_hand m target wanted events n h f below =
     let first = begun_is m target wanted h.rest h.sound h.alike in
-    once_after events (begun m target wanted) n (map (λ t. t.page) (each_request (state_of m) target wanted).taken) first.midway (allowed _ _ n h.leads).1 f (subst (λ g. f < frame_count g) (sym first.layout) below)
+    once_after events (begin_run m target wanted) n (map (λ t. t.page) (each_request (state_of m) target wanted).taken) first.midway (allowed _ _ n h.leads).1 f (subst (λ g. f < frame_count g) (sym first.layout) below)
 
 -- what a run that is under way, and does not end, makes of a machine
-pub record Flies (m n : RunMachine) (moved : List Page) (d : AllAnswered) : Type 0 where
+pub record Flies (m n : RunMachine) (moved : List Page) (d : AccessResults) : Type 0 where
   pub midway : IsMidway n moved
   pub state : state_of n ≡ d.state
   pub answers : n.answers ≡ m.answers ++ d.answers
@@ -159,7 +159,7 @@ module _ (m n : RunMachine) (moved : List Page) (h : IsMidway m moved) where
       → Flies (record m { jobs = jobs }) n moved (all_in_flight (state_of (record m { jobs = jobs })) moved (accesses_in events))
       → Flies m n moved (all_in_flight (state_of m) moved (accesses_in events))
   flies_same jobs events same rest =
-      let d : State → AllAnswered = λ s. all_in_flight s moved (accesses_in events) in
+      let d : State → AccessResults = λ s. all_in_flight s moved (accesses_in events) in
       let s = same_state m jobs same in
       record {
         midway = rest.midway;
@@ -179,20 +179,20 @@ flies [] m n moved h leads on =
     }
 flies (Begin target wanted ∷ events) m n moved h leads on = absurd (refused _ _ n (ap is_ready h.moving) leads)
 flies (Draw w ∷ events) m n moved h leads on =
-    let jobs = drawn w m.jobs in
+    let jobs = draw_job w m.jobs in
     let same = drawn_shape w m.jobs in
     flies_same m n moved h jobs events same
     (flies events (record m { jobs = jobs }) n moved (same_midway m jobs same moved (drawn_copied w m.jobs h.copied) h) (allowed _ _ n leads).1 on)
 flies (Give w t ∷ events) m n moved h leads on =
-    let jobs = given t m.jobs in
+    let jobs = give_job t m.jobs in
     let same = given_shape t m.jobs in
     flies_same m n moved h jobs events same
     (flies events (record m { jobs = jobs }) n moved (same_midway m jobs same moved (given_copied t m.jobs h.copied) h) (allowed _ _ n leads).1 on)
 flies (Touch a ∷ events) m n moved h leads on =
     let made = accessed_is m moved h a in
-    let rest = flies events (accessed m a) n moved made.midway (allowed _ _ n leads).1 on in
-    let now = in_flight (state_of m) moved a in
-    let d : State → AllAnswered = λ s. all_in_flight s moved (accesses_in events) in
+    let rest = flies events (after_access m a) n moved made.midway (allowed _ _ n leads).1 on in
+    let now = access_during (state_of m) moved a in
+    let d : State → AccessResults = λ s. all_in_flight s moved (accesses_in events) in
     record {
       midway = rest.midway;
       state = rest.state ∙ ap (λ t. (d t).state) made.state;
@@ -200,14 +200,14 @@ flies (Touch a ∷ events) m n moved h leads on =
       ends = rest.ends ∙ ap (map ends_of) made.jobs;
     }
 flies (End ∷ events) m n moved h leads on =
-    let is = after_end events (ended m) n refl refl (allowed _ _ n leads).1 in
+    let is = after_end events (end_run m) n refl refl (allowed _ _ n leads).1 in
     absurd (moving_ended (sym on ∙ sym (ap (λ (k : RunMachine). k.phase) is.1)))
 
 pub every_entry_of_a_moving_page_is_held : EveryEntryOfAMovingPageIsHeld
 every_entry_of_a_moving_page_is_held m target wanted events n h on =
     let first = begun_is m target wanted h.rest h.sound h.alike in
     let moved = map (λ t. t.page) (each_request (state_of m) target wanted).taken in
-    entry_is n moved (flies events (begun m target wanted) n moved first.midway (allowed _ _ n h.leads).1 on).midway
+    entry_is n moved (flies events (begin_run m target wanted) n moved first.midway (allowed _ _ n h.leads).1 on).midway
 
 -- a run that ends has a last moment: every job is given back, and its accesses are made
 pub record IsBeforeEnd (m : RunMachine) (events : List Event) (n : RunMachine) : Type 0 where
@@ -217,27 +217,27 @@ pub record IsBeforeEnd (m : RunMachine) (events : List Event) (n : RunMachine) :
   pub moving : now.phase ≡ Moving
   pub given : list_all (λ job. is_given job.stage) now.jobs ≡ true
   pub accesses : accesses_in till ≡ accesses_in events
-  pub over : ended now ≡ n
+  pub over : end_run now ≡ n
 
 pub before_end : (events : List Event) (m n : RunMachine) (moved : List Page) → IsMidway m moved → after m events ≡ Some n → n.phase ≡ Ended → IsBeforeEnd m events n
 before_end [] m n moved h leads end = absurd (moving_ended (sym h.moving ∙ ap (λ (k : RunMachine). k.phase) (some_is leads) ∙ end))
 before_end (Begin target wanted ∷ events) m n moved h leads end = absurd (refused _ _ n (ap is_ready h.moving) leads)
 before_end (Draw w ∷ events) m n moved h leads end =
-    let jobs = drawn w m.jobs in
+    let jobs = draw_job w m.jobs in
     let both = allowed _ _ n leads in
     let rest = before_end events (record m { jobs = jobs }) n moved (same_midway m jobs (drawn_shape w m.jobs) moved (drawn_copied w m.jobs h.copied) h) both.1 end in
     record { till = Draw w ∷ rest.till; now = rest.now; leads = one_more _ _ both.0 ∙ rest.leads; moving = rest.moving; given = rest.given; accesses = rest.accesses; over = rest.over }
 before_end (Give w t ∷ events) m n moved h leads end =
-    let jobs = given t m.jobs in
+    let jobs = give_job t m.jobs in
     let both = allowed _ _ n leads in
     let rest = before_end events (record m { jobs = jobs }) n moved (same_midway m jobs (given_shape t m.jobs) moved (given_copied t m.jobs h.copied) h) both.1 end in
     record { till = Give w t ∷ rest.till; now = rest.now; leads = one_more _ _ both.0 ∙ rest.leads; moving = rest.moving; given = rest.given; accesses = rest.accesses; over = rest.over }
 before_end (Touch a ∷ events) m n moved h leads end =
     let both = allowed _ _ n leads in
-    let rest = before_end events (accessed m a) n moved (accessed_is m moved h a).midway both.1 end in
+    let rest = before_end events (after_access m a) n moved (accessed_is m moved h a).midway both.1 end in
     record { till = Touch a ∷ rest.till; now = rest.now; leads = one_more _ _ both.0 ∙ rest.leads; moving = rest.moving; given = rest.given; accesses = ap (λ xs. a ∷ xs) rest.accesses; over = rest.over }
 before_end (End ∷ events) m n moved h leads end =
     let both = allowed _ _ n leads in
     let all = (and_parts (is_moving m.phase) (list_all (λ (job : Job). is_given job.stage) m.jobs) both.0).1 in
-    let is = after_end events (ended m) n refl refl both.1 in
+    let is = after_end events (end_run m) n refl refl both.1 in
     record { till = []; now = m; leads = refl; moving = h.moving; given = all; accesses = sym is.0; over = is.1 }

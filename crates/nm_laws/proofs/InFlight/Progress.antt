@@ -9,8 +9,8 @@ use Rattle.nm_types.specs.declared.taken.Taken.{Taken}
 use Rattle.nm_model.specs.definitions.Touch.{Access}
 use Rattle.nm_model.specs.definitions.Run.{each_request}
 use Rattle.nm_model.specs.definitions.RunMachine.{RunMachine, Job, InHand, Moving, Ended, state_of}
-use Rattle.nm_model.specs.definitions.Events.{Event, Draw, Give, Touch, End, after, is_allowed, effect, accesses_in, drawn, copied, given, ended, begun, plan, laid_for, is_ready, is_moving, is_laid, is_given, is_with}
-use Rattle.nm_model.specs.definitions.Accesses.{accessed}
+use Rattle.nm_model.specs.definitions.Events.{Event, Draw, Give, Touch, End, after, is_allowed, effect, accesses_in, draw_job, copy_job, give_job, end_run, begin_run, plan, laid_for, is_ready, is_moving, is_laid, is_given, is_with}
+use Rattle.nm_model.specs.definitions.Accesses.{after_access}
 use Rattle.nm_laws.specs.Interleavings.{EveryRunCanEnd}
 use Rattle.nm_laws.proofs.InFlight.Midway.{IsMidway}
 use Rattle.nm_laws.proofs.InFlight.Accessing.{accessed_is}
@@ -41,8 +41,8 @@ touch_all : (accesses : List Access) (m : RunMachine) (moved : List Page) → Is
 touch_all [] m moved h = (m, record { made = refl; midway = h; jobs = refl })
 touch_all (a ∷ accesses) m moved h =
     let one = accessed_is m moved h a in
-    let rest = touch_all accesses (accessed m a) moved one.midway in
-    (rest.0, record { made = one_more (is_moving m.phase) (after (accessed m a) (map Touch accesses)) (ap is_moving h.moving) ∙ rest.1.made; midway = rest.1.midway; jobs = rest.1.jobs ∙ one.jobs })
+    let rest = touch_all accesses (after_access m a) moved one.midway in
+    (rest.0, record { made = one_more (is_moving m.phase) (after (after_access m a) (map Touch accesses)) (ap is_moving h.moving) ∙ rest.1.made; midway = rest.1.midway; jobs = rest.1.jobs ∙ one.jobs })
 
 -- ---- the jobs
 
@@ -65,22 +65,22 @@ some_laid (x ∷ xs) job ys h = ap (λ b. is_laid x.stage || b) (some_laid xs jo
     either true = refl
     either false = refl
 
-draw_next : (xs : List Job) (job : Job) (ys : List Job) → AreGiven xs → is_laid job.stage ≡ true → drawn 0 (xs ++ job ∷ ys) ≡ xs ++ record job { stage = InHand 0 } ∷ ys
+draw_next : (xs : List Job) (job : Job) (ys : List Job) → AreGiven xs → is_laid job.stage ≡ true → draw_job 0 (xs ++ job ∷ ys) ≡ xs ++ record job { stage = InHand 0 } ∷ ys
 unfolding AreGiven
-draw_next [] job ys g h = ap (λ b. cond b (record job { stage = InHand 0 } ∷ ys) (job ∷ drawn 0 ys)) h
+draw_next [] job ys g h = ap (λ b. cond b (record job { stage = InHand 0 } ∷ ys) (job ∷ draw_job 0 ys)) h
 draw_next (x ∷ xs) job ys g h =
-    ap (λ b. cond b (record x { stage = InHand 0 } ∷ (xs ++ job ∷ ys)) (x ∷ drawn 0 (xs ++ job ∷ ys))) g.0.1
+    ap (λ b. cond b (record x { stage = InHand 0 } ∷ (xs ++ job ∷ ys)) (x ∷ draw_job 0 (xs ++ job ∷ ys))) g.0.1
     ∙ ap (λ js. x ∷ js) (draw_next xs job ys g.1 h)
 
 at_ticket : (xs : List Job) (job : Job) (ys : List Job) (k : ℕ) → k ≡ length xs → slice_get (xs ++ job ∷ ys) k ≡ Some job
 at_ticket [] job ys k e = ap (slice_get (job ∷ ys)) e
 at_ticket (x ∷ xs) job ys k e = ap (slice_get (x ∷ (xs ++ job ∷ ys))) e ∙ at_ticket xs job ys (length xs) refl
 
-give_next : (xs : List Job) (job : Job) (ys : List Job) (k : ℕ) → k ≡ length xs → given k (xs ++ job ∷ ys) ≡ xs ++ copied job ∷ ys
-give_next [] job ys k e = ap (λ n. given n (job ∷ ys)) e
-give_next (x ∷ xs) job ys k e = ap (λ n. given n (x ∷ (xs ++ job ∷ ys))) e ∙ ap (λ js. x ∷ js) (give_next xs job ys (length xs) refl)
+give_next : (xs : List Job) (job : Job) (ys : List Job) (k : ℕ) → k ≡ length xs → give_job k (xs ++ job ∷ ys) ≡ xs ++ copy_job job ∷ ys
+give_next [] job ys k e = ap (λ n. give_job n (job ∷ ys)) e
+give_next (x ∷ xs) job ys k e = ap (λ n. give_job n (x ∷ (xs ++ job ∷ ys))) e ∙ ap (λ js. x ∷ js) (give_next xs job ys (length xs) refl)
 
-more_given : (xs : List Job) (job : Job) → AreGiven xs → AreGiven (xs ++ copied job ∷ [])
+more_given : (xs : List Job) (job : Job) → AreGiven xs → AreGiven (xs ++ copy_job job ∷ [])
 unfolding AreGiven
 more_given [] job g = ((refl, refl), tt)
 more_given (x ∷ xs) job g = (g.0, more_given xs job g.1)
@@ -94,20 +94,20 @@ copy_all : (ys xs : List Job) (m : RunMachine) (k : ℕ) → m.phase ≡ Moving 
     → (n : RunMachine) × (after (record m { jobs = xs ++ ys }) (copying k ys) ≡ Some n) × (n.phase ≡ Ended)
 unfolding copying AreLaid
 copy_all [] xs m k moving g l e = (
-  ended (record m { jobs = xs ++ [] }),
-  one_more _ (Some (ended (record m { jobs = xs ++ [] }))) (ap (λ p. is_moving p && list_all (λ (job : Job). is_given job.stage) (xs ++ [])) moving ∙ all_given xs g),
+  end_run (record m { jobs = xs ++ [] }),
+  one_more _ (Some (end_run (record m { jobs = xs ++ [] }))) (ap (λ p. is_moving p && list_all (λ (job : Job). is_given job.stage) (xs ++ [])) moving ∙ all_given xs g),
   refl,
 )
 copy_all (job ∷ ys) xs m k moving g l e =
     let taken = record job { stage = InHand 0 } in
-    let more : k + 1 ≡ length (xs ++ copied taken ∷ []) = omega (arith, e, length-append xs (copied taken ∷ [])) in
-    let rest = copy_all ys (xs ++ copied taken ∷ []) m (k + 1) moving (more_given xs taken g) l.1 more in
+    let more : k + 1 ≡ length (xs ++ copy_job taken ∷ []) = omega (arith, e, length-append xs (copy_job taken ∷ [])) in
+    let rest = copy_all ys (xs ++ copy_job taken ∷ []) m (k + 1) moving (more_given xs taken g) l.1 more in
     let held : unwrap_or (option_map (λ (j : Job). is_with 0 j.stage) (slice_get (xs ++ taken ∷ ys) k)) false ≡ true = ap (λ o. unwrap_or (option_map (λ (j : Job). is_with 0 j.stage) o) false) (at_ticket xs taken ys k e) in (
       rest.0,
       one_more _ _ (some_laid xs job ys l.0)
           ∙ ap (λ js. after (record m { jobs = js }) (Give 0 k ∷ copying (k + 1) ys)) (draw_next xs job ys g l.0)
-          ∙ one_more _ (after (record m { jobs = given k (xs ++ taken ∷ ys) }) (copying (k + 1) ys)) held
-          ∙ ap (λ js. after (record m { jobs = js }) (copying (k + 1) ys)) (give_next xs taken ys k e ∙ sym (append_assoc xs (copied taken ∷ []) ys))
+          ∙ one_more _ (after (record m { jobs = give_job k (xs ++ taken ∷ ys) }) (copying (k + 1) ys)) held
+          ∙ ap (λ js. after (record m { jobs = js }) (copying (k + 1) ys)) (give_next xs taken ys k e ∙ sym (append_assoc xs (copy_job taken ∷ []) ys))
           ∙ rest.1,
       rest.2,
     )
@@ -131,7 +131,7 @@ accesses_are (a ∷ accesses) ys h = ap (λ xs. a ∷ xs) (accesses_are accesses
 pub every_run_can_end : EveryRunCanEnd
 unfolding AreGiven
 every_run_can_end m target wanted accesses rest sound alike =
-    let k = begun m target wanted in
+    let k = begin_run m target wanted in
     let first = begun_is m target wanted rest sound alike in
     let touched = touch_all accesses k (map (λ t. t.page) (each_request (state_of m) target wanted).taken) first.midway in
     let n = touched.0 in

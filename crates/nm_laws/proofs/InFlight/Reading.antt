@@ -26,7 +26,7 @@ use Rattle.nm_types.proofs.Keys.{All-get}
 use Rattle.nm_types.proofs.Maps.{page_cmp_total, exact_page, agree, get-values, all_from_get}
 use Rattle.nm_laws.proofs.Seen.Frames.{place_in_range}
 use Rattle.nm_model.specs.definitions.RunMachine.{RunMachine, state_of}
-use Rattle.nm_model.specs.examples.Interleaved.{task_of, machine_of}
+use Rattle.nm_model.specs.examples.Interleaved.{task_of, machine_at_rest}
 use Rattle.nm_laws.specs.Interleavings.{IsSettled, IsAtRest, EverySoundStateIsRead}
 use Rattle.nm_laws.proofs.InFlight.Values.{values_twice, values_same}
 use Rattle.nm_laws.proofs.InFlight.Entering.{unmap_some}
@@ -94,7 +94,7 @@ module _ (s : State) (h : IsSound s) where
   buffers = map buffer (up_from 0 (frame_count s.layout))
 
   abbrev machine : RunMachine
-  machine = machine_of s buffers
+  machine = machine_at_rest s buffers
 
   all_placed : AllByRecursion (λ e. get page_cmp s.place e.0 ≡ Some e.1) s.place
   all_placed = all_from_get page_cmp_total exact_page (λ q f. get page_cmp s.place q ≡ Some f) s.place h.order.place (λ q f e. e)

@@ -5,14 +5,14 @@ use Rattle.nm_types.specs.declared.page.Page.{Page}
 use Rattle.nm_model.specs.definitions.Events.{held_by, laid_for}
 use Rattle.nm_model.specs.definitions.PageTables.{entry_at, entry_of}
 use Rattle.nm_model.specs.definitions.Seen.{sight_at}
-use Rattle.nm_model.specs.definitions.Touch.{Answered}
+use Rattle.nm_model.specs.definitions.Touch.{AccessResult}
 use Rattle.nm_model.specs.definitions.Run.{Progress, frames_left}
 use Rattle.nm_model.specs.definitions.RunMachine.{RunMachine, state_of}
 use Rattle.nm_laws.proofs.InFlight.Jobs.{sources}
 use Rattle.nm_laws.proofs.InFlight.Midway.{IsMidway, ends_of}
 
 -- an access was made
-pub record Made (m n : RunMachine) (moved : List Page) (a : Answered) : Type 0 where
+pub record Made (m n : RunMachine) (moved : List Page) (a : AccessResult) : Type 0 where
   pub midway : IsMidway n moved
   pub state : state_of n ≡ a.state
   pub answers : n.answers ≡ m.answers ++ a.answer ∷ []

@@ -10,7 +10,7 @@ use Rattle.nm_types.specs.Layout.{frame_count}
 use Rattle.nm_types.specs.Map.{Map, get, page_cmp}
 use Rattle.nm_types.specs.State.{State}
 use Rattle.nm_model.specs.definitions.Seen.{frame_of}
-use Rattle.nm_model.specs.definitions.Sound.{times, IsSoundMidRun}
+use Rattle.nm_model.specs.definitions.Sound.{times, IsSoundInFlight}
 use Rattle.nm_laws.proofs.Soundness.Counted.{counted_below}
 use Rattle.nm_laws.proofs.Soundness.Once.{counted_place}
 
@@ -26,6 +26,6 @@ page_of_frame place None f h = cc
 page_of_frame place (Some ZeroPage) f h = cc
 page_of_frame place (Some (Sees q)) f h = (q, refl, h)
 
-pub place_in_range : (s : State) (l : List ℕ) (q : Page) (f : ℕ) → IsSoundMidRun s l → get page_cmp s.place q ≡ Some f → f < frame_count s.layout
+pub place_in_range : (s : State) (l : List ℕ) (q : Page) (f : ℕ) → IsSoundInFlight s l → get page_cmp s.place q ≡ Some f → f < frame_count s.layout
 place_in_range s l q f h e =
     counted_below (times f (values_of s.place)) (sum_by (times f) s.free) (times f l) f (frame_count s.layout) (h.frames.once f) (let some = counted_place s.place q f e in omega (arith, some))

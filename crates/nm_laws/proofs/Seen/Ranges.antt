@@ -9,7 +9,7 @@ use Rattle.nm_types.specs.Map.{get, page_cmp}
 use Rattle.nm_types.specs.State.{State, page_at}
 use Rattle.nm_model.specs.definitions.Seen.{sight_at}
 use Rattle.nm_model.specs.definitions.Memory.{byte_of, mem, mem_range, stretch_of}
-use Rattle.nm_model.specs.definitions.Sound.{IsSoundMidRun}
+use Rattle.nm_model.specs.definitions.Sound.{IsSoundInFlight}
 use Rattle.nm_laws.proofs.Seen.Frames.{zero_sees}
 
 module _ (s : State) (pid v : ℕ) (p : Page) (at : page_at s.areas pid v ≡ Some p) where
@@ -44,7 +44,7 @@ pub parted : (address : ℕ) → address ≡ address / 4096 * 4096 + address % 4
 parted address = omega arith
 
 -- where the page of zeros is seen, the page that is shown has no frame
-pub zero_has_none : (s : State) (l : List ℕ) (pid v : ℕ) → IsSoundMidRun s l → sight_at s pid v ≡ Some ZeroPage → (p : Page) × (page_at s.areas pid v ≡ Some p) × (get page_cmp s.place p ≡ None)
+pub zero_has_none : (s : State) (l : List ℕ) (pid v : ℕ) → IsSoundInFlight s l → sight_at s pid v ≡ Some ZeroPage → (p : Page) × (page_at s.areas pid v ≡ Some p) × (get page_cmp s.place p ≡ None)
 zero_has_none s l pid v h e =
     let zero = h.zeros pid v e in (
       zero.0,

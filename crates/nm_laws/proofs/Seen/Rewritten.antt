@@ -14,11 +14,11 @@ use Rattle.nm_model.specs.definitions.Seen.{sight_at}
 use Rattle.nm_model.specs.definitions.Cut.{Stretch}
 use Rattle.nm_model.specs.definitions.Memory.{mem}
 use Rattle.nm_model.specs.definitions.Touch.{Access, Read, Write, AccessAnswer, Done, Held, touch, read_after, with_bytes, write_after, access}
-use Rattle.nm_model.specs.definitions.Touch.{site_of_access, is_held, in_flight, all_in_flight}
+use Rattle.nm_model.specs.definitions.Touch.{site_of_access, is_held, access_during, all_in_flight}
 use Rattle.nm_model.specs.definitions.Run.{moved_page, decision, one_request, each_request, with_free, with_all_free, frames_left, run}
 use Rattle.nm_model.specs.definitions.Run.{accesses_of, runs_from}
 use Rattle.nm_laws.specs.Laws.{written, all_written, runs_written, RunKeepsMemory, RunsKeepMemory}
-use Rattle.nm_model.specs.definitions.Sound.{IsSoundMidRun, IsSound}
+use Rattle.nm_model.specs.definitions.Sound.{IsSoundInFlight, IsSound}
 use Rattle.nm_laws.proofs.Early.Seen.{touch_areas}
 use Rattle.nm_laws.proofs.OneByOne.Memory.{each_keeps, frees_keep}
 use Rattle.nm_laws.proofs.Seen.Written.{writing_is_exact}
@@ -61,7 +61,7 @@ access_areas : (s : State) (a : Access) → (access s a).state.areas ≡ s.areas
 access_areas s (Read pid address len) = read_areas s pid address len (touch s pid address len false) (λ t. touch_areas s t pid address len false)
 access_areas s (Write pid address new) = write_areas s pid address new (touch s pid address (length new) true) (λ t. touch_areas s t pid address (length new) true)
 
-flight_areas : (s : State) (moved : List Page) (a : Access) → (in_flight s moved a).state.areas ≡ s.areas
+flight_areas : (s : State) (moved : List Page) (a : Access) → (access_during s moved a).state.areas ≡ s.areas
 flight_areas s moved a =
     elim (is_held moved (site_of_access s a)) as (λ b. (if b then record { state = s; answer = Held } else access s a).state.areas ≡ s.areas) [
       | true ↦ refl
@@ -70,7 +70,7 @@ flight_areas s moved a =
 
 flights_areas : (s : State) (moved : List Page) (accesses : List Access) → (all_in_flight s moved accesses).state.areas ≡ s.areas
 flights_areas s moved [] = refl
-flights_areas s moved (a ∷ accesses) = flights_areas (in_flight s moved a).state moved accesses ∙ flight_areas s moved a
+flights_areas s moved (a ∷ accesses) = flights_areas (access_during s moved a).state moved accesses ∙ flight_areas s moved a
 
 -- ---- the byte of a process at an address
 
@@ -85,7 +85,7 @@ module _ (q at : ℕ) where
   write_writes s pid address new (Err e) exact = refl
   write_writes s pid address new (Ok t) exact = exact refl
 
-  access_writes : (s : State) (l : List ℕ) (a : Access) → IsSoundMidRun s l → mem (access s a).state q at ≡ written s.areas q at (mem s q at) a (access s a).answer
+  access_writes : (s : State) (l : List ℕ) (a : Access) → IsSoundInFlight s l → mem (access s a).state q at ≡ written s.areas q at (mem s q at) a (access s a).answer
   access_writes s l (Read pid address len) h = read_writes s pid address len (touch s pid address len false) (reading_keeps s l pid address len h q at)
   access_writes s l (Write pid address new) h = write_writes s pid address new (touch s pid address (length new) true) (writing_is_exact s l pid address new q at h)
 
@@ -93,17 +93,17 @@ module _ (q at : ℕ) where
   held_writes s (Read pid address len) = refl
   held_writes s (Write pid address new) = refl
 
-  flight_writes : (s : State) (l : List ℕ) (moved : List Page) (a : Access) → IsSoundMidRun s l → mem (in_flight s moved a).state q at ≡ written s.areas q at (mem s q at) a (in_flight s moved a).answer
+  flight_writes : (s : State) (l : List ℕ) (moved : List Page) (a : Access) → IsSoundInFlight s l → mem (access_during s moved a).state q at ≡ written s.areas q at (mem s q at) a (access_during s moved a).answer
   flight_writes s l moved a h =
       elim (is_held moved (site_of_access s a)) as (λ b. let now = if b then record { state = s; answer = Held } else access s a in mem now.state q at ≡ written s.areas q at (mem s q at) a now.answer) [
         | true ↦ held_writes s a
         | false ↦ access_writes s l a h
       ]
 
-  flights_write : (s : State) (l : List ℕ) (moved : List Page) (accesses : List Access) → IsSoundMidRun s l → mem (all_in_flight s moved accesses).state q at ≡ all_written s.areas q at (mem s q at) accesses (all_in_flight s moved accesses).answers
+  flights_write : (s : State) (l : List ℕ) (moved : List Page) (accesses : List Access) → IsSoundInFlight s l → mem (all_in_flight s moved accesses).state q at ≡ all_written s.areas q at (mem s q at) accesses (all_in_flight s moved accesses).answers
   flights_write s l moved [] h = refl
   flights_write s l moved (a ∷ accesses) h =
-      let now = in_flight s moved a in
+      let now = access_during s moved a in
       let rest = all_in_flight now.state moved accesses in
       flights_write now.state l moved accesses (in_flight_sound s l moved a h)
       ∙ (ap (λ areas. all_written areas q at (mem now.state q at) accesses rest.answers) (flight_areas s moved a)

@@ -15,7 +15,7 @@ use Rattle.nm_types.proofs.Cases.{some_is}
 use Rattle.nm_model.specs.definitions.Seen.{sight_in, sight_at}
 use Rattle.nm_model.specs.definitions.Areas.{is_shared}
 use Rattle.nm_model.specs.definitions.Touch.{AccessSite, shown_at, with_sight}
-use Rattle.nm_model.specs.definitions.Sound.{IsInOrder, IsSoundMidRun, IsWhole}
+use Rattle.nm_model.specs.definitions.Sound.{IsInOrder, IsSoundInFlight, IsWhole}
 use Rattle.nm_types.proofs.Maps.{equal, get-set, get-replace}
 use Rattle.nm_model.proofs.areas.Apart.{all_then}
 use Rattle.nm_types.proofs.Keys.{as_many-replace, some_from_keys, keys-replace, All-replace, All-get, sorted-set}
@@ -102,8 +102,8 @@ fit_zero : (s : State) (at : AccessSite) (x : Sight) → Fits s at x → x ≡ Z
 fit_zero s at ZeroPage f e = f
 fit_zero s at (Sees q) f e = cc
 
-pub with_sight_sound : (s : State) (l : List ℕ) (at : AccessSite) (x : Sight) → IsSoundMidRun s l → IsSpot s at → Fits s at x → ((p : Page) → sight_at s at.pid at.vpn ≡ Some (Sees p) → ⊥)
-    → IsSoundMidRun (with_sight s at x) l
+pub with_sight_sound : (s : State) (l : List ℕ) (at : AccessSite) (x : Sight) → IsSoundInFlight s l → IsSpot s at → Fits s at x → ((p : Page) → sight_at s at.pid at.vpn ≡ Some (Sees p) → ⊥)
+    → IsSoundInFlight (with_sight s at x) l
 with_sight_sound s l at x h i fits unseen =
     record {
       order = order_kept s at x i h.order;

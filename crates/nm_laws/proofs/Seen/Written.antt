@@ -17,8 +17,8 @@ use Rattle.nm_model.specs.definitions.Order.{first_touch_order}
 use Rattle.nm_model.specs.definitions.Memory.{mem, byte_of}
 use Rattle.nm_model.specs.definitions.Areas.{is_shared}
 use Rattle.nm_model.specs.definitions.Frames.{overwrite}
-use Rattle.nm_model.specs.definitions.Touch.{AccessSite, Done, shown_at, site_over, site_of, first_free, allocated, filled, joined, touched_entry, touched, touch, with_page, without_front, with_bytes, write_after}
-use Rattle.nm_model.specs.definitions.Sound.{IsSoundMidRun}
+use Rattle.nm_model.specs.definitions.Touch.{AccessSite, Done, shown_at, site_over, site_of, first_free, allocate_page, fill_page, share_page, touch_sight, touch_site, touch, with_page, without_front_frame, with_bytes, write_after}
+use Rattle.nm_model.specs.definitions.Sound.{IsSoundInFlight}
 use Rattle.nm_laws.specs.Laws.{is_one_page, is_within, WritingIsExact}
 use Rattle.nm_types.proofs.Keys.{some_from_keys}
 use Rattle.nm_types.proofs.Maps.{page_cmp_total, exact_page, equal, get-replace}
@@ -33,43 +33,43 @@ Reaches s pid v (Err e) = Unit {0}
 Reaches s pid v (Ok t) = (t.areas ≡ s.areas) × ((p : Page) × (sight_at t pid v ≡ Some (Sees p)))
 
 module _ (s : State) (at : AccessSite) (i : IsSpot s at) where
-  allocated_reaches : (o : Option ℕ) → Reaches s at.pid at.vpn (allocated s at o)
+  allocated_reaches : (o : Option ℕ) → Reaches s at.pid at.vpn (allocate_page s at o)
   unfolding Reaches
   allocated_reaches None = tt
   allocated_reaches (Some node) =
-      let placed = with_page (without_front s node) (shown_at at) (slice_index (free_list s node) 0) in
+      let placed = with_page (without_front_frame s node) (shown_at at) (slice_index (free_list s node) 0) in
       (refl, (shown_at at, sight_here placed at (Sees (shown_at at)) (record { process = i.process; area = i.area })))
 
-  filled_reaches : Reaches s at.pid at.vpn (filled s at)
+  filled_reaches : Reaches s at.pid at.vpn (fill_page s at)
   filled_reaches = allocated_reaches (first_free s.free (first_touch_order s.layout s.online at.process.home at.process.allowed at.area.1.policy (shown_at at).index))
 
-  joined_reaches : (o : Option ℕ) → Reaches s at.pid at.vpn (joined s at o)
+  joined_reaches : (o : Option ℕ) → Reaches s at.pid at.vpn (share_page s at o)
   unfolding Reaches
   joined_reaches None = filled_reaches
   joined_reaches (Some frame) = (refl, (shown_at at, sight_here s at (Sees (shown_at at)) i))
 
-  entry_reaches : (o : Option Sight) → sight_at s at.pid at.vpn ≡ o → Reaches s at.pid at.vpn (touched_entry s at true o)
+  entry_reaches : (o : Option Sight) → sight_at s at.pid at.vpn ≡ o → Reaches s at.pid at.vpn (touch_sight s at true o)
   unfolding Reaches
   entry_reaches None e =
-      elim (is_shared s.segments (shown_at at).segment) as (λ b. Reaches s at.pid at.vpn (if b then joined s at (get page_cmp s.place (shown_at at)) else filled s at)) [
+      elim (is_shared s.segments (shown_at at).segment) as (λ b. Reaches s at.pid at.vpn (if b then share_page s at (get page_cmp s.place (shown_at at)) else fill_page s at)) [
         | true ↦ joined_reaches (get page_cmp s.place (shown_at at))
         | false ↦ filled_reaches
       ]
   entry_reaches (Some ZeroPage) e = filled_reaches
   entry_reaches (Some (Sees p)) e = (refl, (p, e))
 
-over_reaches : (s : State) (pid v : ℕ) (process : Process) (o : Option Placed) → get nat_cmp s.processes pid ≡ Some process → area_over s.areas pid v ≡ o → Reaches s pid v (touched s true (site_over pid process v o))
+over_reaches : (s : State) (pid v : ℕ) (process : Process) (o : Option Placed) → get nat_cmp s.processes pid ≡ Some process → area_over s.areas pid v ≡ o → Reaches s pid v (touch_site s true (site_over pid process v o))
 unfolding Reaches
 over_reaches s pid v process None p a = tt
 over_reaches s pid v process (Some area) p a =
     let at : AccessSite = record { pid = pid; process = process; area = area; vpn = v } in
     entry_reaches s at (record { process = p; area = a }) (get nat_cmp process.sees v) (ap (λ o. sight_in o v) p)
 
-process_reaches : (s : State) (pid address len : ℕ) (o : Option Process) → get nat_cmp s.processes pid ≡ o → Reaches s pid (address / 4096) (touched s true (site_of s o pid address len))
+process_reaches : (s : State) (pid address len : ℕ) (o : Option Process) → get nat_cmp s.processes pid ≡ o → Reaches s pid (address / 4096) (touch_site s true (site_of s o pid address len))
 unfolding Reaches
 process_reaches s pid address len None e = tt
 process_reaches s pid address len (Some process) e =
-    elim ((len == 0) || nat_lt 4096 (address % 4096 + len)) as (λ b. Reaches s pid (address / 4096) (touched s true (if b then Err Einval else site_over pid process (address / 4096) (area_over s.areas pid (address / 4096))))) [
+    elim ((len == 0) || nat_lt 4096 (address % 4096 + len)) as (λ b. Reaches s pid (address / 4096) (touch_site s true (if b then Err Einval else site_over pid process (address / 4096) (area_over s.areas pid (address / 4096))))) [
       | true ↦ tt
       | false ↦ over_reaches s pid (address / 4096) process (area_over s.areas pid (address / 4096)) e refl
     ]
@@ -115,7 +115,7 @@ some_cond false x y = refl
 abbrev shown_byte : State → Option Page → ℕ → Option ℕ
 shown_byte s o j = option_map (λ p. byte_of s p (get page_cmp s.place p) j) o
 
-module _ (t : State) (l : List ℕ) (pid v first : ℕ) (new : List ℕ) (p : Page) (h : IsSoundMidRun t l) (seen : sight_at t pid v ≡ Some (Sees p)) (fits : first + length new ≤ 4096) where
+module _ (t : State) (l : List ℕ) (pid v first : ℕ) (new : List ℕ) (p : Page) (h : IsSoundInFlight t l) (seen : sight_at t pid v ≡ Some (Sees p)) (fits : first + length new ≤ 4096) where
   placed : IsSome (get page_cmp t.place p)
   placed = (h.shown pid v p seen).1
 

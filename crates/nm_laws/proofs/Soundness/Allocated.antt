@@ -22,7 +22,7 @@ use Rattle.nm_model.specs.definitions.Seen.{sight_at}
 use Rattle.nm_model.specs.definitions.Areas.{is_shared}
 use Rattle.nm_model.specs.definitions.Touch.{AccessSite, shown_at, with_sight, with_page}
 use Rattle.nm_model.specs.definitions.Effect.{covers_page, is_covered}
-use Rattle.nm_model.specs.definitions.Sound.{times, IsWhole, IsSoundMidRun}
+use Rattle.nm_model.specs.definitions.Sound.{times, IsWhole, IsSoundInFlight}
 use Rattle.nm_types.proofs.Maps.{page_cmp_total, exact_page, equal, get-set}
 use Rattle.nm_types.proofs.Keys.{as_many-replace, All-set, sorted-set, keys_same-set}
 use Rattle.nm_laws.proofs.Soundness.Frames.{OnceIn, here, times_cons, within, own_set}
@@ -105,8 +105,8 @@ sees_zero e = cc
 zeros_whole : length {A = ℕ} (replicate 4096 0) ≡ 4096
 zeros_whole = length-replicate {A = ℕ} 4096 0
 
-pub placed_sound : (s : State) (l : List ℕ) (at : AccessSite) (node : ℕ) → IsSoundMidRun s l → IsSpot s at → ((p : Page) → sight_at s at.pid at.vpn ≡ Some (Sees p) → ⊥)
-    → get page_cmp s.place (shown_at at) ≡ None → (length (free_list s node) == 0) ≡ false → IsSoundMidRun (with_sight (placed_front s node (free_list s node) (shown_at at)) at (Sees (shown_at at))) l
+pub placed_sound : (s : State) (l : List ℕ) (at : AccessSite) (node : ℕ) → IsSoundInFlight s l → IsSpot s at → ((p : Page) → sight_at s at.pid at.vpn ≡ Some (Sees p) → ⊥)
+    → get page_cmp s.place (shown_at at) ≡ None → (length (free_list s node) == 0) ≡ false → IsSoundInFlight (with_sight (placed_front s node (free_list s node) (shown_at at)) at (Sees (shown_at at))) l
 placed_sound s l at node h i unseen unplaced some =
     let p = shown_at at in
     let f = slice_index (free_list s node) 0 in

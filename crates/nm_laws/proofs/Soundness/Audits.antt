@@ -10,7 +10,7 @@ use Rattle.std.proofs.lemmas.Option.{slice_get_within, get_or_from_slice_get}
 use Rattle.nm_types.specs.Layout.{Layout, frame_count}
 use Rattle.nm_types.specs.Nodes.{up_from}
 use Rattle.nm_types.proofs.Cases.{true_false}
-use Rattle.nm_model.specs.definitions.Sound.{times, is_frame, is_own, is_audited, numbered}
+use Rattle.nm_model.specs.definitions.Sound.{times, is_frame, is_on_its_node, is_audited, with_numbers}
 
 pub take_found : (xs : List ℕ) (i x : ℕ) → slice_get xs i ≡ Some x → take (i + 1) xs ≡ take i xs ++ x ∷ []
 take_found xs i x h = take_more xs i x (slice_get_within xs i x h) ∙ ap (λ y. take i xs ++ y ∷ []) (get_or_from_slice_get xs i x x h)
@@ -31,14 +31,14 @@ pushed_more node xs i x front old now h was e =
     ∙ ap (λ t. front ++ t) (sym (ap (map (beside node)) (take_found xs i x h) ∙ map_end (beside node) (take i xs) x))
 
 -- one more node
-pub listed_more : (lists : List (List ℕ)) (n : ℕ) (old now all : List (ℕ × ℕ)) → n < length lists → old ++ numbered n (drop n lists) ≡ all → now ≡ old ++ map (beside n) (get_or lists n [])
-    → now ++ numbered (n + 1) (drop (n + 1) lists) ≡ all
+pub listed_more : (lists : List (List ℕ)) (n : ℕ) (old now all : List (ℕ × ℕ)) → n < length lists → old ++ with_numbers n (drop n lists) ≡ all → now ≡ old ++ map (beside n) (get_or lists n [])
+    → now ++ with_numbers (n + 1) (drop (n + 1) lists) ≡ all
 listed_more lists n old now all lt was e =
     let same : n + 1 ≡ suc n = omega arith in
-    let rest = numbered (n + 1) (drop (suc n) lists) in
-    ap (λ m. now ++ numbered (n + 1) (drop m lists)) same
+    let rest = with_numbers (n + 1) (drop (suc n) lists) in
+    ap (λ m. now ++ with_numbers (n + 1) (drop m lists)) same
     ∙ ap (λ o. o ++ rest) e ∙ append_assoc old (map (beside n) (get_or lists n [])) rest
-    ∙ ap (λ ls. old ++ numbered n ls) (sym (drop-cons lists n [] lt)) ∙ was
+    ∙ ap (λ ls. old ++ with_numbers n ls) (sym (drop-cons lists n [] lt)) ∙ was
 
 -- the counts are those of the frames so far
 abbrev pub Tallies : List ℕ → ℕ → List ℕ → Type 0
@@ -76,7 +76,7 @@ once_all (c ∷ cs) a F h =
     ∙ ap (λ t. (F a == 1) && t) (once_all cs (a + 1) F (λ k lt. let next : a + suc k ≡ a + 1 + k = omega arith in h (suc k) (omega (arith, lt)) ∙ ap F next))
 
 -- the counts show whether each frame is in one place
-pub audit_ones : (g : Layout) (free : List (ℕ × ℕ)) (placed frames counts : List ℕ) → list_all (is_own g) free ≡ true → list_all (is_frame g) placed ≡ true → frames ≡ map (λ (f : ℕ × ℕ). f.1) free ++ placed
+pub audit_ones : (g : Layout) (free : List (ℕ × ℕ)) (placed frames counts : List ℕ) → list_all (is_on_its_node g) free ≡ true → list_all (is_frame g) placed ≡ true → frames ≡ map (λ (f : ℕ × ℕ). f.1) free ++ placed
     → length counts ≡ frame_count g → Tallies counts (frame_count g) frames → list_all (λ n. n == 1) counts ≡ is_audited g free placed
 audit_ones g free placed frames counts own below e len h =
     let all = map (λ (f : ℕ × ℕ). f.1) free ++ placed in

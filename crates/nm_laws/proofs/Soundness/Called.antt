@@ -26,7 +26,7 @@ use Rattle.nm_model.specs.definitions.Areas.{is_shared}
 use Rattle.nm_model.specs.definitions.Effect.{spawn, attach, map_new, with_pins, pin, unpin, covers_page, is_covered}
 use Rattle.nm_model.specs.definitions.AreaRefusal.{is_room}
 use Rattle.nm_model.specs.definitions.Effect.{first_error, is_unknown, pins_refusal, pin_refusal, spawn_refusal, is_range, overlaps, map_refusal, is_stretch, attach_refusal}
-use Rattle.nm_model.specs.definitions.Sound.{HasPages, IsWhole, IsSoundMidRun, IsSound}
+use Rattle.nm_model.specs.definitions.Sound.{HasPages, IsWhole, IsSoundInFlight, IsSound}
 use Rattle.nm_types.proofs.Maps.{equal, get-set, spot_cmp_total}
 use Rattle.nm_types.proofs.Keys.{keys-replace, All-set, All-replace, All-get, sorted-set, few-set}
 use Rattle.nm_model.proofs.looks.{sees_page}
@@ -50,8 +50,8 @@ or_parts true b h = absurd (true_false h)
 or_parts false b h = (refl, h)
 
 -- other processes that see the same
-pub other_processes : (s : State) (l : List ℕ) (ps : Map ℕ Process) → IsSoundMidRun s l → IsStrictlySortedBy nat_cmp (keys_of ps) → AllByRecursion (λ e. IsStrictlySortedBy nat_cmp (keys_of e.1.sees)) ps
-    → ((q w : ℕ) → sight_in (get nat_cmp ps q) w ≡ sight_at s q w) → AllByRecursion (IsWhole (record s { processes = ps })) s.areas → length ps ≤ 1024 → IsSoundMidRun (record s { processes = ps }) l
+pub other_processes : (s : State) (l : List ℕ) (ps : Map ℕ Process) → IsSoundInFlight s l → IsStrictlySortedBy nat_cmp (keys_of ps) → AllByRecursion (λ e. IsStrictlySortedBy nat_cmp (keys_of e.1.sees)) ps
+    → ((q w : ℕ) → sight_in (get nat_cmp ps q) w ≡ sight_at s q w) → AllByRecursion (IsWhole (record s { processes = ps })) s.areas → length ps ≤ 1024 → IsSoundInFlight (record s { processes = ps }) l
 other_processes s l ps h sorted sees same there few =
     record {
       order = record { processes = sorted; sees = sees; areas = h.order.areas; segments = h.order.segments; place = h.order.place };
@@ -109,7 +109,7 @@ spawn_sound s pid uid home allowed privileged h fine =
     few
 
 -- another number of pins of a page
-pub repinned_sound : (s : State) (l : List ℕ) (p : Page) (n : ℕ) → IsSoundMidRun s l → n ≤ 65535 → IsSoundMidRun (record s { pins = replace page_cmp s.pins p n }) l
+pub repinned_sound : (s : State) (l : List ℕ) (p : Page) (n : ℕ) → IsSoundInFlight s l → n ≤ 65535 → IsSoundInFlight (record s { pins = replace page_cmp s.pins p n }) l
 repinned_sound s l p n h most =
     record {
       order = record { processes = h.order.processes; sees = h.order.sees; areas = h.order.areas; segments = h.order.segments; place = h.order.place };
@@ -130,7 +130,7 @@ repinned_sound s l p n h most =
     }
 
 -- a page has at most 65,535 pins
-pub few_pins : (s : State) (l : List ℕ) (p : Page) → IsSoundMidRun s l → pins_of s p ≤ 65535
+pub few_pins : (s : State) (l : List ℕ) (p : Page) → IsSoundInFlight s l → pins_of s p ≤ 65535
 few_pins s l p h =
     elim (get page_cmp s.pins p) as (λ o. get page_cmp s.pins p ≡ o → unwrap_or o 0 ≤ 65535) [
       | None ↦ λ o. omega arith
@@ -184,7 +184,7 @@ same_place : (index first w x : ℕ) → first ≤ w → first ≤ x → index +
 same_place index first w x a b e = omega arith
 
 -- one more area, of a stretch that may be shown there
-module _ (s : State) (l : List ℕ) (h : IsSoundMidRun s l) (pid first : ℕ) (new : Area) (whole : IsWhole s ((pid, first), new)) (none : NoneOverlaps pid first new s.areas)
+module _ (s : State) (l : List ℕ) (h : IsSoundInFlight s l) (pid first : ℕ) (new : Area) (whole : IsWhole s ((pid, first), new)) (none : NoneOverlaps pid first new s.areas)
     (alone : is_shared s.segments new.page.segment ≡ false → (q w : ℕ) (p : Page) → page_at s.areas q w ≡ Some p → p.segment ≡ new.page.segment → ⊥) where
   each_some : AllByRecursion (λ a. 0 < a.1.pages) s.areas
   each_some = all_then s.areas (IsWhole s) (λ a. 0 < a.1.pages) (λ a whole. whole.0) h.areas
@@ -229,7 +229,7 @@ module _ (s : State) (l : List ℕ) (h : IsSoundMidRun s l) (pid first : ℕ) (n
       (λ b. absurd (alone (private_new x p b.2 private) q w p a (segment_of x p b.2)))
       (λ b. h.once q w r x p a b private))
 
-  pub one_more_sound : IsSoundMidRun (record s { areas = set spot_cmp s.areas (pid, first) new }) l
+  pub one_more_sound : IsSoundInFlight (record s { areas = set spot_cmp s.areas (pid, first) new }) l
   unfolding after
   one_more_sound =
       record {
@@ -303,7 +303,7 @@ covered_there s (a ∷ areas) p h e =
     ] refl e
 
 -- a segment with a new number
-module _ (s : State) (l : List ℕ) (h : IsSoundMidRun s l) (segment : Segment) (room : s.next_segment < 65536) where
+module _ (s : State) (l : List ℕ) (h : IsSoundInFlight s l) (segment : Segment) (room : s.next_segment < 65536) where
   pub numbered : State
   numbered = record s { segments = set nat_cmp s.segments s.next_segment segment; next_segment = suc s.next_segment }
 
@@ -333,7 +333,7 @@ module _ (s : State) (l : List ℕ) (h : IsSoundMidRun s l) (segment : Segment) 
         | false ↦ λ b k. let below = h.numbers.below n k in omega (arith, below)
       ] refl (subst IsSome (get_numbered n) there)
 
-  pub numbered_sound : IsSoundMidRun numbered l
+  pub numbered_sound : IsSoundInFlight numbered l
   unfolding numbered
   numbered_sound =
       let of_shown = λ (q w : ℕ) (p : Page) (e : page_at s.areas q w ≡ Some p). same_shared p (shown_there s s.areas q w p h.areas e) in

@@ -23,8 +23,8 @@ use Rattle.nm_types.specs.State.{Process, State, Placed, covers, area_over, page
 use Rattle.nm_types.proofs.Cases.{true_false, none_some, some_is}
 use Rattle.nm_model.specs.definitions.Seen.{sight_in, sight_at}
 use Rattle.nm_model.specs.definitions.Areas.{is_shared}
-use Rattle.nm_model.specs.definitions.Effect.{pages_from, pages_between, parts_outside, covers_page, is_covered, released_from, released, blind_between, dropped, unmap, exit}
-use Rattle.nm_model.specs.definitions.Sound.{AreasAreApart, HasPages, IsWhole, IsSoundMidRun, IsSound}
+use Rattle.nm_model.specs.definitions.Effect.{pages_from, pages_between, parts_outside, covers_page, is_covered, released_from, release_page, blind_between, drop_range, unmap, exit}
+use Rattle.nm_model.specs.definitions.Sound.{AreasAreApart, HasPages, IsWhole, IsSoundInFlight, IsSound}
 use Rattle.nm_types.proofs.Maps.{equal, get-values, keys-values}
 use Rattle.nm_types.proofs.Keys.{some_from_keys, sorted-without, few-without, as_many-values}
 use Rattle.nm_model.proofs.areas.Apart.{covers_parts, covers_from, all_then}
@@ -108,7 +108,7 @@ all_blind pid first end (e ∷ ps) h = (
   all_blind pid first end ps h.1,
 )
 
-module _ (s : State) (l : List ℕ) (h : IsSoundMidRun s l) (pid first end : ℕ) (range : first ≤ end) where
+module _ (s : State) (l : List ℕ) (h : IsSoundInFlight s l) (pid first end : ℕ) (range : first ≤ end) where
   -- what is not between
   abbrev Out : ℕ → ℕ → Type 0
   Out q w = q ≡ pid → (w < first) ⊎ (end ≤ w)
@@ -383,7 +383,7 @@ module _ (s : State) (l : List ℕ) (h : IsSoundMidRun s l) (pid first end : ℕ
         few = subst (λ n. n ≤ 1024) (sym (as_many-values (λ q process. if q == pid then blind_between first end process else process) s.processes)) h.few;
       }
 
-  pub dropped_sound : IsSoundMidRun (dropped s pid first end) l
+  pub dropped_sound : IsSoundInFlight (drop_range s pid first end) l
   unfolding left blind areas segments pages
   dropped_sound = all_released pages left l left_pending
 
@@ -392,19 +392,19 @@ unmap_sound s pid address pages h = dropped_sound s [] h pid (address / 4096) (a
 
 -- ---- a process that goes
 
-released_areas : (s : State) (p : Page) → (released s p).areas ≡ s.areas
+released_areas : (s : State) (p : Page) → (release_page s p).areas ≡ s.areas
 released_areas s p =
     elim (is_covered s.areas p) as (λ b. (if b then s else released_from s p (get page_cmp s.place p)).areas ≡ s.areas) [
       | true ↦ refl
       | false ↦ elim (get page_cmp s.place p) as (λ o. (released_from s p o).areas ≡ s.areas) [ None ↦ refl | Some frame ↦ refl ]
     ]
 
-all_areas : (pages : List Page) (s : State) → (fold released s pages).areas ≡ s.areas
+all_areas : (pages : List Page) (s : State) → (fold release_page s pages).areas ≡ s.areas
 all_areas [] s = refl
-all_areas (p ∷ pages) s = all_areas pages (released s p) ∙ released_areas s p
+all_areas (p ∷ pages) s = all_areas pages (release_page s p) ∙ released_areas s p
 
 -- a sight needs an area
-sight_area : (s : State) (l : List ℕ) (q w : ℕ) (o : Option Sight) → IsSoundMidRun s l → sight_at s q w ≡ o → ((p : Page) → page_at s.areas q w ≡ Some p → ⊥) → o ≡ None
+sight_area : (s : State) (l : List ℕ) (q w : ℕ) (o : Option Sight) → IsSoundInFlight s l → sight_at s q w ≡ o → ((p : Page) → page_at s.areas q w ≡ Some p → ⊥) → o ≡ None
 sight_area s l q w None h e none = refl
 sight_area s l q w (Some ZeroPage) h e none = let zero = h.zeros q w e in absurd (none zero.0 zero.1)
 sight_area s l q w (Some (Sees p)) h e none = absurd (none p (h.shown q w p e).0)
@@ -427,7 +427,7 @@ all_left (e ∷ ps) pid h = elim (is_eq (nat_cmp pid e.0)) as (λ b. AllByRecurs
 
 module _ (s : State) (h : IsSound s) (pid : ℕ) where
   rest : State
-  rest = dropped s pid 0 (2 ^ 35)
+  rest = drop_range s pid 0 (2 ^ 35)
 
   rest_sound : IsSound rest
   unfolding rest
@@ -490,6 +490,6 @@ module _ (s : State) (h : IsSound s) (pid : ℕ) where
       (let fewer = few-without nat_cmp rest.processes pid in let few = rest_sound.few in omega (arith, fewer, few))
 
   -- it sees nothing before it is removed
-  pub sees_none : (w : ℕ) → sight_at (dropped s pid 0 (2 ^ 35)) pid w ≡ None
+  pub sees_none : (w : ℕ) → sight_at (drop_range s pid 0 (2 ^ 35)) pid w ≡ None
   unfolding rest
   sees_none = nothing_seen

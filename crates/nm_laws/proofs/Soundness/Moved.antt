@@ -11,7 +11,7 @@ use Rattle.nm_types.specs.declared.request.Class.TheVariants.{Status, Move}
 use Rattle.nm_types.specs.declared.request.Wanted.{Wanted}
 use Rattle.nm_model.specs.definitions.Status.{status_or_move}
 use Rattle.nm_model.specs.definitions.Run.{moved_page, decision, one_request, each_request, with_free, with_all_free, frames_left, with_counts}
-use Rattle.nm_model.specs.definitions.Sound.{AreNodes, FramesAreOnce, IsSoundMidRun}
+use Rattle.nm_model.specs.definitions.Sound.{AreNodes, FramesAreOnce, IsSoundInFlight}
 use Rattle.nm_types.proofs.Maps.{page_cmp_total, exact_page, keys-set}
 use Rattle.nm_types.proofs.Keys.{some_from_keys}
 use Rattle.nm_laws.proofs.Soundness.Frames.{moved_frames, frame_freed, left-append, append-nil}
@@ -19,8 +19,8 @@ use Rattle.nm_laws.proofs.Soundness.Once.{places_are_apart}
 use Rattle.nm_laws.proofs.OneByOne.Placed.{ClassIsPlaced, status_placed}
 
 -- the same pages have a place, and the frames are once
-pub other_places : (s : State) (l k : List ℕ) (m : Map Page ℕ) (free : List (List ℕ)) → IsSoundMidRun s l → keys_of m ≡ keys_of s.place
-    → FramesAreOnce s.layout m free k → IsSoundMidRun (record s { place = m; free = free }) k
+pub other_places : (s : State) (l k : List ℕ) (m : Map Page ℕ) (free : List (List ℕ)) → IsSoundInFlight s l → keys_of m ≡ keys_of s.place
+    → FramesAreOnce s.layout m free k → IsSoundInFlight (record s { place = m; free = free }) k
 other_places s l k m free h same frames =
     let was : (p : Page) → IsSome (get page_cmp m p) → IsSome (get page_cmp s.place p) = λ p. some_from_keys page_cmp m s.place p same in
     record {
@@ -47,35 +47,35 @@ other_places s l k m free h same frames =
       few = h.few;
     }
 
-page_moved : (s : State) (l : List ℕ) (target : ℕ) (p : Page) (from : ℕ) (front : List ℕ) → IsSoundMidRun s l → get page_cmp s.place p ≡ Some from → free_list s target ≡ front
-    → IsSoundMidRun (moved_page s target p from front).state (l ++ frames_left (moved_page s target p from front).taken)
-page_moved s l target p from [] h placed e = subst (IsSoundMidRun s) (sym (append-nil l)) h
+page_moved : (s : State) (l : List ℕ) (target : ℕ) (p : Page) (from : ℕ) (front : List ℕ) → IsSoundInFlight s l → get page_cmp s.place p ≡ Some from → free_list s target ≡ front
+    → IsSoundInFlight (moved_page s target p from front).state (l ++ frames_left (moved_page s target p from front).taken)
+page_moved s l target p from [] h placed e = subst (IsSoundInFlight s) (sym (append-nil l)) h
 page_moved s l target p from (frame ∷ rest) h placed e =
     other_places s l (l ++ from ∷ []) (set page_cmp s.place p frame) _ h
     (keys-set page_cmp_total exact_page p s.place frame from h.order.place placed)
     (moved_frames s l target p from (frame ∷ rest) h.frames h.order.place placed e)
 
-pub decided_sound : (s : State) (l : List ℕ) (target : ℕ) (c : Class) → IsSoundMidRun s l → ClassIsPlaced s c → IsSoundMidRun (decision s target c).state (l ++ frames_left (decision s target c).taken)
-decided_sound s l target (Status status) h placed = subst (IsSoundMidRun s) (sym (append-nil l)) h
+pub decided_sound : (s : State) (l : List ℕ) (target : ℕ) (c : Class) → IsSoundInFlight s l → ClassIsPlaced s c → IsSoundInFlight (decision s target c).state (l ++ frames_left (decision s target c).taken)
+decided_sound s l target (Status status) h placed = subst (IsSoundInFlight s) (sym (append-nil l)) h
 decided_sound s l target (Move p from) h placed = page_moved s l target p from (free_list s target) h placed refl
 
-pub each_sound : (s : State) (l : List ℕ) (target : ℕ) (ws : List Wanted) → IsSoundMidRun s l → IsSoundMidRun (each_request s target ws).state (l ++ frames_left (each_request s target ws).taken)
-each_sound s l target [] h = subst (IsSoundMidRun s) (sym (append-nil l)) h
+pub each_sound : (s : State) (l : List ℕ) (target : ℕ) (ws : List Wanted) → IsSoundInFlight s l → IsSoundInFlight (each_request s target ws).state (l ++ frames_left (each_request s target ws).taken)
+each_sound s l target [] h = subst (IsSoundInFlight s) (sym (append-nil l)) h
 each_sound s l target (w ∷ ws) h =
     let now = one_request s target w in
     let rest = each_request now.state target ws in
-    subst (IsSoundMidRun rest.state) (append_assoc l (frames_left now.taken) (frames_left rest.taken) ∙ ap (λ xs. l ++ xs) (sym (left-append now.taken rest.taken)))
+    subst (IsSoundInFlight rest.state) (append_assoc l (frames_left now.taken) (frames_left rest.taken) ∙ ap (λ xs. l ++ xs) (sym (left-append now.taken rest.taken)))
     (each_sound now.state (l ++ frames_left now.taken) target ws (decided_sound s l target (status_or_move s target w) h (status_placed s target w)))
 
-pub frame_freed_sound : (s : State) (frame : ℕ) (l : List ℕ) → IsSoundMidRun s (frame ∷ l) → IsSoundMidRun (with_free s frame) l
+pub frame_freed_sound : (s : State) (frame : ℕ) (l : List ℕ) → IsSoundInFlight s (frame ∷ l) → IsSoundInFlight (with_free s frame) l
 frame_freed_sound s frame l h = other_places s (frame ∷ l) l s.place (with_free s frame).free h refl (frame_freed s.layout s.place s.free frame l h.frames)
 
-pub freed_sound : (frames : List ℕ) (s : State) → IsSoundMidRun s frames → IsSoundMidRun (with_all_free s frames) []
+pub freed_sound : (frames : List ℕ) (s : State) → IsSoundInFlight s frames → IsSoundInFlight (with_all_free s frames) []
 freed_sound [] s h = h
 freed_sound (frame ∷ frames) s h = freed_sound frames (with_free s frame) (frame_freed_sound s frame frames h)
 
 -- the totals and the set of nodes that are online are free
-pub freely_sound : (s : State) (l nodes : List ℕ) (moved failed : ℕ) → AreNodes s.layout nodes → IsSoundMidRun s l → IsSoundMidRun (record s { online = nodes; moved = moved; failed = failed }) l
+pub freely_sound : (s : State) (l nodes : List ℕ) (moved failed : ℕ) → AreNodes s.layout nodes → IsSoundInFlight s l → IsSoundInFlight (record s { online = nodes; moved = moved; failed = failed }) l
 freely_sound s l nodes moved failed are h =
     record {
       order = record { processes = h.order.processes; sees = h.order.sees; areas = h.order.areas; segments = h.order.segments; place = h.order.place };
@@ -95,5 +95,5 @@ freely_sound s l nodes moved failed are h =
       few = h.few;
     }
 
-pub counted_sound : (s : State) (l : List ℕ) (moved failed : ℕ) → IsSoundMidRun s l → IsSoundMidRun (with_counts s moved failed) l
+pub counted_sound : (s : State) (l : List ℕ) (moved failed : ℕ) → IsSoundInFlight s l → IsSoundInFlight (with_counts s moved failed) l
 counted_sound s l moved failed h = freely_sound s l s.online (with_counts s moved failed).moved (with_counts s moved failed).failed h.online h

@@ -9,10 +9,10 @@ use Rattle.std.proofs.lemmas.List.Elements.{All-from_recursion, recursion_from_A
 use Rattle.std.proofs.lemmas.Map.Views.{All-insert_key}
 use Rattle.nm_types.specs.Nodes.{IsNodeSet, without_node}
 use Rattle.nm_types.specs.State.{State}
-use Rattle.nm_model.specs.definitions.Sound.{AreNodes, IsSoundMidRun}
+use Rattle.nm_model.specs.definitions.Sound.{AreNodes, IsSoundInFlight}
 use Rattle.nm_laws.proofs.Soundness.Moved.{freely_sound}
 
-pub online_sound : (s : State) (l nodes : List ℕ) → AreNodes s.layout nodes → IsSoundMidRun s l → IsSoundMidRun (record s { online = nodes }) l
+pub online_sound : (s : State) (l nodes : List ℕ) → AreNodes s.layout nodes → IsSoundInFlight s l → IsSoundInFlight (record s { online = nodes }) l
 online_sound s l nodes are h = freely_sound s l nodes s.moved s.failed are h
 
 -- the node at a place of a set is no lower than the place

@@ -15,8 +15,8 @@ use Rattle.nm_types.specs.State.{State, area_over, page_shown, page_at}
 use Rattle.nm_types.proofs.Cases.{none_some, some_is}
 use Rattle.nm_model.specs.definitions.Memory.{byte_of, mem}
 use Rattle.nm_model.specs.definitions.Effect.{areas_of, with_areas_of, parts_outside, covers_page, is_covered}
-use Rattle.nm_model.specs.definitions.Sound.{AreasAreApart, IsWhole, IsSoundMidRun}
-use Rattle.nm_model.specs.definitions.Effect.{repoliced, set_range_policy}
+use Rattle.nm_model.specs.definitions.Sound.{AreasAreApart, IsWhole, IsSoundInFlight}
+use Rattle.nm_model.specs.definitions.Effect.{parts_with_policy, set_range_policy}
 use Rattle.nm_model.proofs.areas.Apart.{all_then}
 use Rattle.nm_laws.proofs.Soundness.Allocated.{area_covers}
 use Rattle.nm_model.proofs.areas.Parted.{All-among, all_from_among, over_among, among_flat, part_of, any_among}
@@ -35,7 +35,7 @@ record IsAlike (s : State) (areas : Map (ℕ × ℕ) Area) : Type 0 where
   pub same : (q w : ℕ) → page_at areas q w ≡ page_at s.areas q w
 
 -- with such areas a state is sound
-module _ (s : State) (l : List ℕ) (h : IsSoundMidRun s l) (areas : Map (ℕ × ℕ) Area) (alike : IsAlike s areas) where
+module _ (s : State) (l : List ℕ) (h : IsSoundInFlight s l) (areas : Map (ℕ × ℕ) Area) (alike : IsAlike s areas) where
   shown_covered : (q w : ℕ) (p : Page) → page_at areas q w ≡ Some p → is_covered areas p ≡ true
   shown_covered q w p e =
       elim (area_over areas q w) as (λ o. area_over areas q w ≡ o → page_shown o w ≡ Some p → is_covered areas p ≡ true) [
@@ -51,7 +51,7 @@ module _ (s : State) (l : List ℕ) (h : IsSoundMidRun s l) (areas : Map (ℕ ×
       let w = shown_number a p in
       shown_covered a.0.0 w p (alike.same a.0.0 w ∙ ap (λ o. page_shown o w) (over_among s.areas a.0.0 w a h.disjoint found.1 at.0) ∙ ap Some at.1)
 
-  alike_sound : IsSoundMidRun (record s { areas = areas }) l
+  alike_sound : IsSoundInFlight (record s { areas = areas }) l
   alike_sound =
       record {
         order = record { processes = h.order.processes; sees = h.order.sees; areas = alike.sorted; segments = h.order.segments; place = h.order.place };
@@ -108,37 +108,37 @@ module _ (pid first end : ℕ) (policy : Policy) where
 
 -- ---- the whole call
 
-alike_itself : (s : State) (l : List ℕ) → IsSoundMidRun s l → IsAlike s s.areas
+alike_itself : (s : State) (l : List ℕ) → IsSoundInFlight s l → IsAlike s s.areas
 alike_itself s l h = record { sorted = h.order.areas; apart = h.disjoint; whole = h.areas; same = λ q w. refl }
 
-alike_repoliced : (s : State) (l : List ℕ) (pid first end : ℕ) (policy : Policy) → first < end → IsSoundMidRun s l → IsAlike s (flat_map (repoliced pid first end policy) s.areas)
+alike_repoliced : (s : State) (l : List ℕ) (pid first end : ℕ) (policy : Policy) → first < end → IsSoundInFlight s l → IsAlike s (flat_map (parts_with_policy pid first end policy) s.areas)
 alike_repoliced s l pid first end policy range h =
     subst (IsAlike s) (all_repoliced pid first end policy range s.areas (all_some s s.areas h.areas))
     (alike_painted pid first end policy s (split_at pid end (split_at pid first s.areas)) (alike_split s (split_at pid first s.areas) pid end (alike_split s s.areas pid first (alike_itself s l h))))
 
-pub repoliced_sound : (s : State) (l : List ℕ) (pid first end : ℕ) (policy : Policy) → first < end → IsSoundMidRun s l → IsSoundMidRun (record s { areas = flat_map (repoliced pid first end policy) s.areas }) l
+pub repoliced_sound : (s : State) (l : List ℕ) (pid first end : ℕ) (policy : Policy) → first < end → IsSoundInFlight s l → IsSoundInFlight (record s { areas = flat_map (parts_with_policy pid first end policy) s.areas }) l
 repoliced_sound s l pid first end policy range h =
-    alike_sound s l h (flat_map (repoliced pid first end policy) s.areas) (alike_repoliced s l pid first end policy range h)
+    alike_sound s l h (flat_map (parts_with_policy pid first end policy) s.areas) (alike_repoliced s l pid first end policy range h)
 
-pub policy_sound : (s : State) (l : List ℕ) (pid first end : ℕ) (policy : Policy) → IsSoundMidRun s l → IsSoundMidRun (set_range_policy s pid first end policy) l
+pub policy_sound : (s : State) (l : List ℕ) (pid first end : ℕ) (policy : Policy) → IsSoundInFlight s l → IsSoundInFlight (set_range_policy s pid first end policy) l
 policy_sound s l pid first end policy h =
-    let after = flat_map (repoliced pid first end policy) s.areas in
-    elim (nat_lt first end) as (λ b. nat_lt first end ≡ b → IsSoundMidRun (with_areas_of s (if b then record (areas_of s) { areas = after } else areas_of s)) l) [
+    let after = flat_map (parts_with_policy pid first end policy) s.areas in
+    elim (nat_lt first end) as (λ b. nat_lt first end ≡ b → IsSoundInFlight (with_areas_of s (if b then record (areas_of s) { areas = after } else areas_of s)) l) [
       | true ↦ λ b. repoliced_sound s l pid first end policy (ltb-true first end b) h
       | false ↦ λ b. h
     ] refl
 
-pub policy_shows : (s : State) (l : List ℕ) (pid first end : ℕ) (policy : Policy) (q v : ℕ) → IsSoundMidRun s l → page_at (set_range_policy s pid first end policy).areas q v ≡ page_at s.areas q v
+pub policy_shows : (s : State) (l : List ℕ) (pid first end : ℕ) (policy : Policy) (q v : ℕ) → IsSoundInFlight s l → page_at (set_range_policy s pid first end policy).areas q v ≡ page_at s.areas q v
 policy_shows s l pid first end policy q v h =
-    let after = flat_map (repoliced pid first end policy) s.areas in
+    let after = flat_map (parts_with_policy pid first end policy) s.areas in
     elim (nat_lt first end) as (λ b. nat_lt first end ≡ b → page_at (if b then record (areas_of s) { areas = after } else areas_of s).areas q v ≡ page_at s.areas q v) [
       | true ↦ λ b. (alike_repoliced s l pid first end policy (ltb-true first end b) h).same q v
       | false ↦ λ b. refl
     ] refl
 
-pub policy_keeps : (s : State) (l : List ℕ) (pid first end : ℕ) (policy : Policy) (q at : ℕ) → IsSoundMidRun s l → mem (set_range_policy s pid first end policy) q at ≡ mem s q at
+pub policy_keeps : (s : State) (l : List ℕ) (pid first end : ℕ) (policy : Policy) (q at : ℕ) → IsSoundInFlight s l → mem (set_range_policy s pid first end policy) q at ≡ mem s q at
 policy_keeps s l pid first end policy q at h =
-    let after = flat_map (repoliced pid first end policy) s.areas in
+    let after = flat_map (parts_with_policy pid first end policy) s.areas in
     let byte : Page → ℕ = λ p. byte_of s p (get page_cmp s.place p) (at % 4096) in
     elim (nat_lt first end) as (λ b. nat_lt first end ≡ b → mem (with_areas_of s (if b then record (areas_of s) { areas = after } else areas_of s)) q at ≡ mem s q at) [
       | true ↦ λ b. ap (option_map byte) ((alike_repoliced s l pid first end policy (ltb-true first end b) h).same q (at / 4096))

@@ -5,22 +5,22 @@ use Rattle.nm_types.specs.declared.page.Page.{Page}
 use Rattle.nm_types.specs.State.{State}
 use Rattle.nm_types.specs.declared.request.Wanted.{Wanted}
 use Rattle.nm_model.specs.definitions.Cut.{Request, Stretch, cut_within}
-use Rattle.nm_model.specs.definitions.Touch.{Access, Held, access, site_of_access, is_held, in_flight, all_in_flight}
+use Rattle.nm_model.specs.definitions.Touch.{Access, Held, access, site_of_access, is_held, access_during, all_in_flight}
 use Rattle.nm_model.specs.definitions.Run.{each_request, with_all_free, frames_left, failures, run, accesses_of, runs_from, batch}
-use Rattle.nm_model.specs.definitions.Sound.{IsSoundMidRun, IsSound}
+use Rattle.nm_model.specs.definitions.Sound.{IsSoundInFlight, IsSound}
 use Rattle.nm_laws.proofs.Soundness.Moved.{each_sound, freed_sound, counted_sound}
 use Rattle.nm_laws.proofs.Soundness.Touched.{access_sound}
 
-pub in_flight_sound : (s : State) (l : List ℕ) (moved : List Page) (a : Access) → IsSoundMidRun s l → IsSoundMidRun (in_flight s moved a).state l
+pub in_flight_sound : (s : State) (l : List ℕ) (moved : List Page) (a : Access) → IsSoundInFlight s l → IsSoundInFlight (access_during s moved a).state l
 in_flight_sound s l moved a h =
-    elim (is_held moved (site_of_access s a)) as (λ b. IsSoundMidRun (if b then record { state = s; answer = Held } else access s a).state l) [
+    elim (is_held moved (site_of_access s a)) as (λ b. IsSoundInFlight (if b then record { state = s; answer = Held } else access s a).state l) [
       | true ↦ h
       | false ↦ access_sound s l a h
     ]
 
-all_in_flight_sound : (s : State) (l : List ℕ) (moved : List Page) (accesses : List Access) → IsSoundMidRun s l → IsSoundMidRun (all_in_flight s moved accesses).state l
+all_in_flight_sound : (s : State) (l : List ℕ) (moved : List Page) (accesses : List Access) → IsSoundInFlight s l → IsSoundInFlight (all_in_flight s moved accesses).state l
 all_in_flight_sound s l moved [] h = h
-all_in_flight_sound s l moved (a ∷ accesses) h = all_in_flight_sound (in_flight s moved a).state l moved accesses (in_flight_sound s l moved a h)
+all_in_flight_sound s l moved (a ∷ accesses) h = all_in_flight_sound (access_during s moved a).state l moved accesses (in_flight_sound s l moved a h)
 
 pub run_sound : (s : State) (target : ℕ) (ws : List Wanted) (accesses : List Access) → IsSound s → IsSound (run s target ws accesses).state
 run_sound s target ws accesses h =

@@ -23,8 +23,8 @@ use Rattle.nm_types.proofs.Cases.{true_false, some_is, none_is_not}
 use Rattle.nm_model.specs.definitions.Seen.{sight_at}
 use Rattle.nm_model.specs.definitions.Areas.{is_shared}
 use Rattle.nm_model.specs.definitions.Run.{with_free}
-use Rattle.nm_model.specs.definitions.Effect.{is_covered, released_from, released}
-use Rattle.nm_model.specs.definitions.Sound.{IsInOrder, times, SeesWhatIsShown, ZeroIsPrivate, PlacedHasBytes, PlacedHasPins, PrivateIsOnce, IsWhole, SegmentsAreNumbered, AreNodes, ProcessesAreFew, AreasAreApart, IsSoundMidRun}
+use Rattle.nm_model.specs.definitions.Effect.{is_covered, released_from, release_page}
+use Rattle.nm_model.specs.definitions.Sound.{IsInOrder, times, SeesWhatIsShown, ZeroIsPrivate, PlacedHasBytes, PlacedHasPins, PrivateIsOnce, IsWhole, SegmentsAreNumbered, AreNodes, ProcessesAreFew, AreasAreApart, IsSoundInFlight}
 use Rattle.nm_types.proofs.Maps.{page_cmp_total, exact_page, equal}
 use Rattle.nm_types.proofs.Keys.{All-without, sorted-without, keys_same-without}
 use Rattle.nm_laws.proofs.Soundness.Frames.{OnceIn, here, times_push, owner_below, own_set, all_push}
@@ -155,7 +155,7 @@ release_sound s l p pages (Some frame) h bare e =
       few = h.few;
     }
 
-one_released : (s : State) (l : List ℕ) (p : Page) (pages : List Page) → Pending s l (p ∷ pages) → Pending (released s p) l pages
+one_released : (s : State) (l : List ℕ) (p : Page) (pages : List Page) → Pending s l (p ∷ pages) → Pending (release_page s p) l pages
 one_released s l p pages h =
     elim (is_covered s.areas p) as (λ b. is_covered s.areas p ≡ b → Pending (if b then s else released_from s p (get page_cmp s.place p)) l pages) [
       | true ↦ λ b. fewer s l p pages h (λ q k same. ap (is_covered s.areas) same ∙ b)
@@ -166,7 +166,7 @@ no_page : (s : State) (p : Page) → (is_covered s.areas p ≡ true) ⊎ Listed 
 no_page s p (inl c) = c
 no_page s p (inr m) = absurd m
 
-pub all_released : (pages : List Page) (s : State) (l : List ℕ) → Pending s l pages → IsSoundMidRun (fold released s pages) l
+pub all_released : (pages : List Page) (s : State) (l : List ℕ) → Pending s l pages → IsSoundInFlight (fold release_page s pages) l
 all_released [] s l h =
     record {
       order = h.order;
@@ -185,4 +185,4 @@ all_released [] s l h =
       online = h.online;
       few = h.few;
     }
-all_released (p ∷ pages) s l h = all_released pages (released s p) l (one_released s l p pages h)
+all_released (p ∷ pages) s l h = all_released pages (release_page s p) l (one_released s l p pages h)

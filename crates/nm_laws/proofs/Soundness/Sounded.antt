@@ -8,7 +8,7 @@ use Rattle.std.proofs.lemmas.List.Folds.{list_all-append}
 use Rattle.std.proofs.lemmas.List.Sums.{sum_by-append, sum_by-cons}
 use Rattle.nm_types.specs.Layout.{Layout, frame_count, node_of}
 use Rattle.nm_types.specs.Nodes.{up_from}
-use Rattle.nm_model.specs.definitions.Sound.{times, is_frame, is_own, numbered}
+use Rattle.nm_model.specs.definitions.Sound.{times, is_frame, is_on_its_node, with_numbers}
 use Rattle.nm_laws.specs.Laws.{SoundIsAudited}
 use Rattle.nm_laws.proofs.Soundness.Frames.{here, times_cons}
 use Rattle.nm_laws.proofs.Soundness.Counted.{counted_below, part_of}
@@ -32,19 +32,19 @@ all_both P Q R [] f p q = tt
 all_both P Q R (x ∷ xs) f p q = (f x p.0 q.0, all_both P Q R xs f p.1 q.1)
 
 -- frames beside their nodes
-all_beside : (g : Layout) (node : ℕ) (xs : List ℕ) → AllByRecursion (λ f. is_own g (node, f) ≡ true) xs → list_all (is_own g) (map {B = ℕ × ℕ} (λ (f : ℕ). (node, f)) xs) ≡ true
+all_beside : (g : Layout) (node : ℕ) (xs : List ℕ) → AllByRecursion (λ f. is_on_its_node g (node, f) ≡ true) xs → list_all (is_on_its_node g) (map {B = ℕ × ℕ} (λ (f : ℕ). (node, f)) xs) ≡ true
 all_beside g node [] h = refl
 all_beside g node (x ∷ xs) h = and_from _ _ h.0 (all_beside g node xs h.1)
 
-numbered_own : (g : Layout) (n : ℕ) (free : List (List ℕ)) → ((k : ℕ) → AllByRecursion (λ f. is_own g (n + k, f) ≡ true) (slice_index_or free k [])) → list_all (is_own g) (numbered n free) ≡ true
+numbered_own : (g : Layout) (n : ℕ) (free : List (List ℕ)) → ((k : ℕ) → AllByRecursion (λ f. is_on_its_node g (n + k, f) ≡ true) (slice_index_or free k [])) → list_all (is_on_its_node g) (with_numbers n free) ≡ true
 numbered_own g n [] h = refl
 numbered_own g n (xs ∷ free) h =
     let first : n + 0 ≡ n = omega arith in
-    list_all-append (is_own g) (map {B = ℕ × ℕ} (λ (f : ℕ). (n, f)) xs) (numbered (n + 1) free)
-    ∙ and_from _ _ (all_beside g n xs (subst (λ m. AllByRecursion (λ f. is_own g (m, f) ≡ true) xs) first (h 0)))
+    list_all-append (is_on_its_node g) (map {B = ℕ × ℕ} (λ (f : ℕ). (n, f)) xs) (with_numbers (n + 1) free)
+    ∙ and_from _ _ (all_beside g n xs (subst (λ m. AllByRecursion (λ f. is_on_its_node g (m, f) ≡ true) xs) first (h 0)))
     (numbered_own g (n + 1) free (λ k.
     let next : n + suc k ≡ n + 1 + k = omega arith in
-    subst (λ m. AllByRecursion (λ f. is_own g (m, f) ≡ true) (slice_index_or free k [])) next (h (suc k))))
+    subst (λ m. AllByRecursion (λ f. is_on_its_node g (m, f) ≡ true) (slice_index_or free k [])) next (h (suc k))))
 
 -- each frame is as often beside nodes as in their lists
 times_beside : (f node : ℕ) (xs : List ℕ) (rest : List (ℕ × ℕ)) → times f (map (λ (e : ℕ × ℕ). e.1) (map {B = ℕ × ℕ} (λ (x : ℕ). (node, x)) xs ++ rest)) ≡ times f xs + times f (map (λ (e : ℕ × ℕ). e.1) rest)
@@ -53,11 +53,11 @@ times_beside f node (x ∷ xs) rest =
     let more = times_beside f node xs rest in
     omega (arith, more, times_cons f x xs, times_cons f x (map (λ (e : ℕ × ℕ). e.1) (map {B = ℕ × ℕ} (λ (x : ℕ). (node, x)) xs ++ rest)))
 
-times_numbered : (f n : ℕ) (free : List (List ℕ)) → times f (map (λ (e : ℕ × ℕ). e.1) (numbered n free)) ≡ sum_by (times f) free
+times_numbered : (f n : ℕ) (free : List (List ℕ)) → times f (map (λ (e : ℕ × ℕ). e.1) (with_numbers n free)) ≡ sum_by (times f) free
 times_numbered f n [] = refl
 times_numbered f n (xs ∷ free) =
     let more = times_numbered f (n + 1) free in
-    omega (arith, more, times_beside f n xs (numbered (n + 1) free), sum_by-cons (times f) xs free)
+    omega (arith, more, times_beside f n xs (with_numbers (n + 1) free), sum_by-cons (times f) xs free)
 
 one_place : (a b c : ℕ) → a + b + 0 ≡ 1 → c ≡ b + a → (c == 1) ≡ true
 one_place a b c e k = eq-eqb c 1 (omega (arith, e, k))
@@ -66,10 +66,10 @@ pub sound_is_audited : SoundIsAudited
 sound_is_audited s h =
     let g = s.layout in
     let placed = values_of s.place in
-    let free : List ℕ = map (λ (e : ℕ × ℕ). e.1) (numbered 0 s.free) in
+    let free : List ℕ = map (λ (e : ℕ × ℕ). e.1) (with_numbers 0 s.free) in
     let below : (f : ℕ) → 1 ≤ times f placed + sum_by (times f) s.free + 0 → f < frame_count g = λ f some. counted_below (times f placed) (sum_by (times f) s.free) 0 f (frame_count g) (h.frames.once f) some in
     let own = numbered_own g 0 s.free (λ node.
-    all_both (λ f. f < frame_count g) (λ f. node_of g f ≡ node) (λ f. is_own g (0 + node, f) ≡ true) (slice_index_or s.free node [])
+    all_both (λ f. f < frame_count g) (λ f. node_of g f ≡ node) (λ f. is_on_its_node g (0 + node, f) ≡ true) (slice_index_or s.free node [])
     (λ f lt is. and_from _ _ (lt-ltb f (frame_count g) lt) (eq-eqb (node_of g f) (0 + node) (omega (arith, is))))
     (all_counted (λ f. f < frame_count g) (slice_index_or s.free node []) (λ f some. let part = part_of s.free node f in below f (omega (arith, some, part)))) (h.frames.own node)) in
     let frames = all_true (is_frame g) placed (all_counted (λ f. is_frame g f ≡ true) placed (λ f some. lt-ltb f (frame_count g) (below f (omega (arith, some))))) in

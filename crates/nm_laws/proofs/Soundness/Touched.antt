@@ -18,8 +18,8 @@ use Rattle.nm_model.specs.definitions.Seen.{sight_in, sight_at}
 use Rattle.nm_model.specs.definitions.Order.{first_touch_order}
 use Rattle.nm_model.specs.definitions.Areas.{is_shared}
 use Rattle.nm_model.specs.definitions.Frames.{overwrite}
-use Rattle.nm_model.specs.definitions.Touch.{AccessSite, shown_at, site_over, site_of, first_free, allocated, filled, joined, touched_entry, touched, touch, with_sight, Access, Read, Write, read_after, with_bytes, write_after, access, with_page, read}
-use Rattle.nm_model.specs.definitions.Sound.{IsSoundMidRun}
+use Rattle.nm_model.specs.definitions.Touch.{AccessSite, shown_at, site_over, site_of, first_free, allocate_page, fill_page, share_page, touch_sight, touch_site, touch, with_sight, Access, Read, Write, read_after, with_bytes, write_after, access, with_page, read}
+use Rattle.nm_model.specs.definitions.Sound.{IsSoundInFlight}
 use Rattle.nm_types.proofs.Keys.{keys-replace, All-replace, All-get, some_from_keys}
 use Rattle.nm_laws.proofs.Seen.Sights.{IsSpot, page_at_spot, with_sight_sound}
 use Rattle.nm_laws.proofs.Soundness.Allocated.{placed_sound, placed_front}
@@ -58,7 +58,7 @@ placed_keeps s at node unplaced q a =
 -- if it is not refused, the state is sound, and every process has the bytes that it had
 unfoldable pub StaysSound : State → List ℕ → Result State Errno → Type 0
 StaysSound s l (Err e) = Unit {0}
-StaysSound s l (Ok t) = IsSoundMidRun t l × ((q a : ℕ) → mem t q a ≡ mem s q a)
+StaysSound s l (Ok t) = IsSoundInFlight t l × ((q a : ℕ) → mem t q a ≡ mem s q a)
 
 -- the node that is found has a free frame
 pub has_front : (free : List (List ℕ)) (nodes : List ℕ) (node : ℕ) → first_free free nodes ≡ Some node → (length (slice_index_or free node []) == 0) ≡ false
@@ -69,13 +69,13 @@ has_front free (n ∷ nodes) node h =
       | false ↦ λ b h. subst (λ k. (length (slice_index_or free k []) == 0) ≡ false) (some_is h) b
     ] refl h
 
-module _ (s : State) (l : List ℕ) (at : AccessSite) (h : IsSoundMidRun s l) (i : IsSpot s at) (unseen : (p : Page) → sight_at s at.pid at.vpn ≡ Some (Sees p) → ⊥) where
-  allocated_sound : (o : Option ℕ) → get page_cmp s.place (shown_at at) ≡ None → ((node : ℕ) → o ≡ Some node → (length (free_list s node) == 0) ≡ false) → StaysSound s l (allocated s at o)
+module _ (s : State) (l : List ℕ) (at : AccessSite) (h : IsSoundInFlight s l) (i : IsSpot s at) (unseen : (p : Page) → sight_at s at.pid at.vpn ≡ Some (Sees p) → ⊥) where
+  allocated_sound : (o : Option ℕ) → get page_cmp s.place (shown_at at) ≡ None → ((node : ℕ) → o ≡ Some node → (length (free_list s node) == 0) ≡ false) → StaysSound s l (allocate_page s at o)
   unfolding StaysSound
   allocated_sound None unplaced some = tt
   allocated_sound (Some node) unplaced some = (placed_sound s l at node h i unseen unplaced (some node refl), placed_keeps s at node unplaced)
 
-  filled_sound : get page_cmp s.place (shown_at at) ≡ None → StaysSound s l (filled s at)
+  filled_sound : get page_cmp s.place (shown_at at) ≡ None → StaysSound s l (fill_page s at)
   filled_sound unplaced =
       let order = first_touch_order s.layout s.online at.process.home at.process.allowed at.area.1.policy (shown_at at).index in
       allocated_sound (first_free s.free order) unplaced (λ node. has_front s.free order node)
@@ -92,26 +92,26 @@ module _ (s : State) (l : List ℕ) (at : AccessSite) (h : IsSoundMidRun s l) (i
             absurd (unseen (shown_at at) (ap (λ (z : ℕ × ℕ). sight_at s z.0 z.1) (λ j. (sym same.0 j, sym same.1 j)) ∙ seen.2))
       ] refl
 
-  joined_sound : (o : Option ℕ) → get page_cmp s.place (shown_at at) ≡ o → StaysSound s l (joined s at o)
+  joined_sound : (o : Option ℕ) → get page_cmp s.place (shown_at at) ≡ o → StaysSound s l (share_page s at o)
   unfolding StaysSound
   joined_sound None e = filled_sound e
   joined_sound (Some frame) e = (with_sight_sound s l at (Sees (shown_at at)) h i (refl, subst IsSome (sym e) refl) unseen, λ q a. refl)
 
-  absent_sound : (writes : Bool) → StaysSound s l (touched_entry s at writes None)
+  absent_sound : (writes : Bool) → StaysSound s l (touch_sight s at writes None)
   unfolding StaysSound
   absent_sound writes =
-      elim (is_shared s.segments (shown_at at).segment) as (λ b. is_shared s.segments (shown_at at).segment ≡ b → StaysSound s l (if b then joined s at (get page_cmp s.place (shown_at at)) else (if writes then filled s at else Ok (with_sight s at ZeroPage)))) [
+      elim (is_shared s.segments (shown_at at).segment) as (λ b. is_shared s.segments (shown_at at).segment ≡ b → StaysSound s l (if b then share_page s at (get page_cmp s.place (shown_at at)) else (if writes then fill_page s at else Ok (with_sight s at ZeroPage)))) [
         | true ↦ λ b. joined_sound (get page_cmp s.place (shown_at at)) refl
-        | false ↦ λ b. elim writes as (λ w. StaysSound s l (if w then filled s at else Ok (with_sight s at ZeroPage))) [
+        | false ↦ λ b. elim writes as (λ w. StaysSound s l (if w then fill_page s at else Ok (with_sight s at ZeroPage))) [
           | true ↦ filled_sound (private_unplaced b)
           | false ↦ (with_sight_sound s l at ZeroPage h i b unseen, λ q a. refl)
         ]
       ] refl
 
-  zero_sound : (writes : Bool) → is_shared s.segments (shown_at at).segment ≡ false → StaysSound s l (touched_entry s at writes (Some ZeroPage))
+  zero_sound : (writes : Bool) → is_shared s.segments (shown_at at).segment ≡ false → StaysSound s l (touch_sight s at writes (Some ZeroPage))
   unfolding StaysSound
   zero_sound writes private =
-      elim writes as (λ w. StaysSound s l (if w then filled s at else Ok s)) [ true ↦ filled_sound (private_unplaced private) | false ↦ (h, λ q a. refl) ]
+      elim writes as (λ w. StaysSound s l (if w then fill_page s at else Ok s)) [ true ↦ filled_sound (private_unplaced private) | false ↦ (h, λ q a. refl) ]
 
 sight_of_spot : (s : State) (at : AccessSite) → IsSpot s at → sight_at s at.pid at.vpn ≡ get nat_cmp at.process.sees at.vpn
 sight_of_spot s at i = ap (λ o. sight_in o at.vpn) i.process
@@ -122,7 +122,7 @@ zero_page p e = cc
 none_page : (p : Page) → None ≡ Some (Sees p) → ⊥
 none_page p e = cc
 
-entry_sound : (s : State) (l : List ℕ) (at : AccessSite) (writes : Bool) (o : Option Sight) → IsSoundMidRun s l → IsSpot s at → sight_at s at.pid at.vpn ≡ o → StaysSound s l (touched_entry s at writes o)
+entry_sound : (s : State) (l : List ℕ) (at : AccessSite) (writes : Bool) (o : Option Sight) → IsSoundInFlight s l → IsSpot s at → sight_at s at.pid at.vpn ≡ o → StaysSound s l (touch_sight s at writes o)
 unfolding StaysSound
 entry_sound s l at writes None h i e = absent_sound s l at h i (λ p k. none_page p (sym e ∙ k)) writes
 entry_sound s l at writes (Some ZeroPage) h i e =
@@ -131,8 +131,8 @@ entry_sound s l at writes (Some ZeroPage) h i e =
     zero_sound s l at h i (λ p k. zero_page p (sym e ∙ k)) writes (subst (λ p. is_shared s.segments p.segment ≡ false) (some_is same) zero.2)
 entry_sound s l at writes (Some (Sees p)) h i e = (h, λ q a. refl)
 
-over_sound : (s : State) (l : List ℕ) (pid v : ℕ) (process : Process) (writes : Bool) (o : Option Placed) → IsSoundMidRun s l → get nat_cmp s.processes pid ≡ Some process → area_over s.areas pid v ≡ o
-    → StaysSound s l (touched s writes (site_over pid process v o))
+over_sound : (s : State) (l : List ℕ) (pid v : ℕ) (process : Process) (writes : Bool) (o : Option Placed) → IsSoundInFlight s l → get nat_cmp s.processes pid ≡ Some process → area_over s.areas pid v ≡ o
+    → StaysSound s l (touch_site s writes (site_over pid process v o))
 unfolding StaysSound
 over_sound s l pid v process writes None h p a = tt
 over_sound s l pid v process writes (Some area) h p a =
@@ -140,19 +140,19 @@ over_sound s l pid v process writes (Some area) h p a =
     let i : IsSpot s at = record { process = p; area = a } in
     entry_sound s l at writes (get nat_cmp process.sees v) h i (sight_of_spot s at i)
 
-process_sound : (s : State) (l : List ℕ) (pid address len : ℕ) (writes : Bool) (o : Option Process) → IsSoundMidRun s l → get nat_cmp s.processes pid ≡ o → StaysSound s l (touched s writes (site_of s o pid address len))
+process_sound : (s : State) (l : List ℕ) (pid address len : ℕ) (writes : Bool) (o : Option Process) → IsSoundInFlight s l → get nat_cmp s.processes pid ≡ o → StaysSound s l (touch_site s writes (site_of s o pid address len))
 unfolding StaysSound
 process_sound s l pid address len writes None h e = tt
 process_sound s l pid address len writes (Some process) h e =
-    elim ((len == 0) || nat_lt 4096 (address % 4096 + len)) as (λ b. StaysSound s l (touched s writes (if b then Err Einval else site_over pid process (address / 4096) (area_over s.areas pid (address / 4096))))) [
+    elim ((len == 0) || nat_lt 4096 (address % 4096 + len)) as (λ b. StaysSound s l (touch_site s writes (if b then Err Einval else site_over pid process (address / 4096) (area_over s.areas pid (address / 4096))))) [
       | true ↦ tt
       | false ↦ over_sound s l pid (address / 4096) process writes (area_over s.areas pid (address / 4096)) h e refl
     ]
 
-pub touch_sound : (s : State) (l : List ℕ) (pid address len : ℕ) (writes : Bool) → IsSoundMidRun s l → StaysSound s l (touch s pid address len writes)
+pub touch_sound : (s : State) (l : List ℕ) (pid address len : ℕ) (writes : Bool) → IsSoundInFlight s l → StaysSound s l (touch s pid address len writes)
 touch_sound s l pid address len writes h = process_sound s l pid address len writes (get nat_cmp s.processes pid) h refl
 
-read_sound : (s : State) (l : List ℕ) (pid address len : ℕ) (r : Result State Errno) → IsSoundMidRun s l → StaysSound s l r → IsSoundMidRun (read_after s pid address len r).state l
+read_sound : (s : State) (l : List ℕ) (pid address len : ℕ) (r : Result State Errno) → IsSoundInFlight s l → StaysSound s l r → IsSoundInFlight (read_after s pid address len r).state l
 unfolding StaysSound
 read_sound s l pid address len (Err e) h k = h
 read_sound s l pid address len (Ok t) h k = k.0
@@ -161,12 +161,12 @@ read_sound s l pid address len (Ok t) h k = k.0
 length-overwrite : (old : List ℕ) (i : ℕ) (new : List ℕ) → length old ≡ 4096 → i + length new ≤ 4096 → length (overwrite old i new) ≡ 4096
 length-overwrite old i new whole fits = simp (length-append, length-take, length-drop) (omega arith)
 
-pub seen_bytes : (s : State) (l : List ℕ) (p : Page) (o : Option (List ℕ)) → IsSoundMidRun s l → get page_cmp s.bytes p ≡ o → IsSome o → length (unwrap_or o []) ≡ 4096
+pub seen_bytes : (s : State) (l : List ℕ) (p : Page) (o : Option (List ℕ)) → IsSoundInFlight s l → get page_cmp s.bytes p ≡ o → IsSome o → length (unwrap_or o []) ≡ 4096
 seen_bytes s l p None h e some = cc
 seen_bytes s l p (Some b) h e some = All-get page_cmp (λ b. length b ≡ 4096) s.bytes p b h.bytes.whole e
 
 -- other bytes of a page
-rewritten_sound : (s : State) (l : List ℕ) (p : Page) (new : List ℕ) → IsSoundMidRun s l → length new ≡ 4096 → IsSoundMidRun (record s { bytes = replace page_cmp s.bytes p new }) l
+rewritten_sound : (s : State) (l : List ℕ) (p : Page) (new : List ℕ) → IsSoundInFlight s l → length new ≡ 4096 → IsSoundInFlight (record s { bytes = replace page_cmp s.bytes p new }) l
 rewritten_sound s l p new h whole =
     record {
       order = record { processes = h.order.processes; sees = h.order.sees; areas = h.order.areas; segments = h.order.segments; place = h.order.place };
@@ -189,7 +189,7 @@ rewritten_sound s l p new h whole =
       few = h.few;
     }
 
-pub bytes_sound : (s : State) (l : List ℕ) (pid v i : ℕ) (new : List ℕ) (o : Option Sight) → IsSoundMidRun s l → sight_at s pid v ≡ o → i + length new ≤ 4096 → IsSoundMidRun (with_bytes s o i new) l
+pub bytes_sound : (s : State) (l : List ℕ) (pid v i : ℕ) (new : List ℕ) (o : Option Sight) → IsSoundInFlight s l → sight_at s pid v ≡ o → i + length new ≤ 4096 → IsSoundInFlight (with_bytes s o i new) l
 bytes_sound s l pid v i new None h e fits = h
 bytes_sound s l pid v i new (Some ZeroPage) h e fits = h
 bytes_sound s l pid v i new (Some (Sees p)) h e fits =
@@ -197,8 +197,8 @@ bytes_sound s l pid v i new (Some (Sees p)) h e fits =
     let had = seen_bytes s l p (get page_cmp s.bytes p) h refl (some_from_keys page_cmp s.place s.bytes p (sym h.bytes.same_pages) placed) in
     rewritten_sound s l p (overwrite (unwrap_or (get page_cmp s.bytes p) []) i new) h (length-overwrite _ i new had fits)
 
-write_after_sound : (s : State) (l : List ℕ) (pid address : ℕ) (new : List ℕ) (r : Result State Errno) → IsSoundMidRun s l → StaysSound s l r → ((t : State) → r ≡ Ok t → address % 4096 + length new ≤ 4096)
-    → IsSoundMidRun (write_after s pid address new r).state l
+write_after_sound : (s : State) (l : List ℕ) (pid address : ℕ) (new : List ℕ) (r : Result State Errno) → IsSoundInFlight s l → StaysSound s l r → ((t : State) → r ≡ Ok t → address % 4096 + length new ≤ 4096)
+    → IsSoundInFlight (write_after s pid address new r).state l
 unfolding StaysSound
 write_after_sound s l pid address new (Err e) h k fits = h
 write_after_sound s l pid address new (Ok t) h k fits = bytes_sound t l pid (address / 4096) (address % 4096) new (sight_at t pid (address / 4096)) k.0 refl (fits t refl)
@@ -206,15 +206,15 @@ write_after_sound s l pid address new (Ok t) h k fits = bytes_sound t l pid (add
 err_ok : {e : Errno} {t : State} → Err e ≡ Ok t → ⊥
 err_ok e = cc
 
-pub process_fits : (s : State) (pid address len : ℕ) (writes : Bool) (o : Option Process) (t : State) → touched s writes (site_of s o pid address len) ≡ Ok t → address % 4096 + len ≤ 4096
+pub process_fits : (s : State) (pid address len : ℕ) (writes : Bool) (o : Option Process) (t : State) → touch_site s writes (site_of s o pid address len) ≡ Ok t → address % 4096 + len ≤ 4096
 process_fits s pid address len writes None t e = absurd (err_ok e)
 process_fits s pid address len writes (Some process) t e =
-    elim (nat_lt 4096 (address % 4096 + len)) as (λ b. nat_lt 4096 (address % 4096 + len) ≡ b → touched s writes (if (len == 0) || b then Err Einval else site_over pid process (address / 4096) (area_over s.areas pid (address / 4096))) ≡ Ok t → address % 4096 + len ≤ 4096) [
-      | true ↦ λ b e. absurd (err_ok (sym (ap (λ c. touched s writes (if c then Err Einval else site_over pid process (address / 4096) (area_over s.areas pid (address / 4096)))) (or_right (len == 0) true refl)) ∙ e))
+    elim (nat_lt 4096 (address % 4096 + len)) as (λ b. nat_lt 4096 (address % 4096 + len) ≡ b → touch_site s writes (if (len == 0) || b then Err Einval else site_over pid process (address / 4096) (area_over s.areas pid (address / 4096))) ≡ Ok t → address % 4096 + len ≤ 4096) [
+      | true ↦ λ b e. absurd (err_ok (sym (ap (λ c. touch_site s writes (if c then Err Einval else site_over pid process (address / 4096) (area_over s.areas pid (address / 4096)))) (or_right (len == 0) true refl)) ∙ e))
       | false ↦ λ b e. ltb-false 4096 (address % 4096 + len) b
     ] refl e
 
-pub access_sound : (s : State) (l : List ℕ) (a : Access) → IsSoundMidRun s l → IsSoundMidRun (access s a).state l
+pub access_sound : (s : State) (l : List ℕ) (a : Access) → IsSoundInFlight s l → IsSoundInFlight (access s a).state l
 access_sound s l (Read pid address len) h = read_sound s l pid address len (touch s pid address len false) h (touch_sound s l pid address len false h)
 access_sound s l (Write pid address new) h =
     write_after_sound s l pid address new (touch s pid address (length new) true) h (touch_sound s l pid address (length new) true h)
@@ -225,5 +225,5 @@ unfolding StaysSound
 read_keeps s l pid address len (Err e) k q a = refl
 read_keeps s l pid address len (Ok t) k q a = k.1 q a
 
-pub reading_keeps : (s : State) (l : List ℕ) (pid address len : ℕ) → IsSoundMidRun s l → (q a : ℕ) → mem (read s pid address len).state q a ≡ mem s q a
+pub reading_keeps : (s : State) (l : List ℕ) (pid address len : ℕ) → IsSoundInFlight s l → (q a : ℕ) → mem (read s pid address len).state q a ≡ mem s q a
 reading_keeps s l pid address len h = read_keeps s l pid address len (touch s pid address len false) (touch_sound s l pid address len false h)

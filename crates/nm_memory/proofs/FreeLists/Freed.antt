@@ -9,8 +9,8 @@ use Rattle.nm_memory.specs.views.Frames.{with_freed}
 -- the number of lists is the same after frames were freed
 pub lists_stay : (p : pool.Pool) (frames : List ℕ) → length (with_freed p frames).lists ≡ length p.lists
 lists_stay p [] = refl
-lists_stay p (frame ∷ frames) = lists_stay (pool.appended p frame) frames ∙ length-set p.lists (owner p.sizes frame) (slice_index_or p.lists (owner p.sizes frame) [] ++ frame ∷ [])
+lists_stay p (frame ∷ frames) = lists_stay (pool.with_back p frame) frames ∙ length-set p.lists (owner p.sizes frame) (slice_index_or p.lists (owner p.sizes frame) [] ++ frame ∷ [])
 
 pub sizes_stay : (p : pool.Pool) (frames : List ℕ) → (with_freed p frames).sizes ≡ p.sizes
 sizes_stay p [] = refl
-sizes_stay p (frame ∷ frames) = sizes_stay (pool.appended p frame) frames
+sizes_stay p (frame ∷ frames) = sizes_stay (pool.with_back p frame) frames

@@ -8,7 +8,7 @@ use Rattle.std.proofs.lemmas.List.Sums.{sum_by_more_le}
 use Rattle.nm_types.specs.Layout.{Layout, owner, node_of, frame_count}
 use Rattle.nm_types.specs.Nodes.{is_in}
 use Rattle.nm_types.specs.State.{State, free_list}
-use Rattle.nm_model.specs.definitions.Frames.{Pool, list_of, with_list, prepended}
+use Rattle.nm_model.specs.definitions.Frames.{Pool, list_of, with_list, with_front}
 use Rattle.nm_types.specs.declared.taken.Taken.{Taken}
 use Rattle.nm_model.specs.definitions.BeforeCopy.{frames_taken, with_fronts}
 use Rattle.nm_model.specs.definitions.Sound.{times, IsSound}
@@ -37,7 +37,7 @@ can_drop (suc k) [] p node can = tt
 can_drop (suc k) (frame ∷ frames) p node can = can_drop k frames p node can.3
 
 -- one frame goes to the front of a node's list that has others already
-pub one_back : (p : Pool) (node : ℕ) (others : List ℕ) (frame : ℕ) → node < length p.lists → owner p.sizes frame ≡ node → prepended (with_list p node others) frame ≡ with_list p node (frame ∷ others)
+pub one_back : (p : Pool) (node : ℕ) (others : List ℕ) (frame : ℕ) → node < length p.lists → owner p.sizes frame ≡ node → with_front (with_list p node others) frame ≡ with_list p node (frame ∷ others)
 one_back p node others frame inside own =
     ap (λ n. with_list (with_list p node others) n (frame ∷ list_of (with_list p node others) n)) own
     ∙ ap (λ (ls : List (List ℕ)). record p { lists = ls })

@@ -3,7 +3,7 @@ use Rattle.std.specs.Prelude.{◌≡◌, ℕ, ◌<◌, Bool, false, if◌then◌
 use Rattle.std.specs.List.{fold, zip}
 use Rattle.nm_types.specs.Layout.{Layout, node_count, frame_count, owner}
 use Rattle.nm_types.specs.Nodes.{is_in}
-use Rattle.nm_model.specs.definitions.Frames.{Store, IsHome, Pool, bytes_of, list_of, appended}
+use Rattle.nm_model.specs.definitions.Frames.{Store, IsHome, Pool, bytes_of, list_of, with_back}
 use Rattle.nm_memory.specs.views.Populated.{IsPopulated}
 use Rattle.nm_frames.specs.Stores.{StoreView}
 
@@ -53,13 +53,13 @@ pool_of k = record { sizes = k.layout.sizes; lists = k.free }
 
 -- one frame after another is appended to its own node's list
 abbrev pub with_freed : Pool → List ℕ → Pool
-with_freed p frames = fold appended p frames
+with_freed p frames = fold with_back p frames
 
 -- each of these frames, in order, belongs to a node and is not free before it is freed
 abbrev pub CanFree : Pool → List ℕ → Type 0
 CanFree p [] = Unit {0}
 CanFree p (frame ∷ frames) =
-    (frame < sum p.sizes) × (is_in (list_of p (owner p.sizes frame)) frame ≡ false) × CanFree (appended p frame) frames
+    (frame < sum p.sizes) × (is_in (list_of p (owner p.sizes frame)) frame ≡ false) × CanFree (with_back p frame) frames
 
 -- each of these frames, from last to first, is this node's and not free before it goes to the front of its list
 abbrev pub CanReturn : Pool → ℕ → List ℕ → Type 0

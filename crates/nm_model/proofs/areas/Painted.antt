@@ -9,9 +9,9 @@ use Rattle.nm_types.specs.Map.{Map, get, replace, spot_cmp, with_values}
 use Rattle.nm_types.proofs.Cases.{true_false, some_none}
 use Rattle.nm_types.specs.declared.area.Policy.{Policy}
 use Rattle.std.specs.Map.{keys_of}
-use Rattle.nm_model.specs.definitions.Areas.{painted}
+use Rattle.nm_model.specs.definitions.Areas.{with_policy_in}
 
-pub keys_painted : (pid first past : ℕ) (policy : Policy) (m : Map (ℕ × ℕ) Area) → keys_of (with_values (painted pid first past policy) m) ≡ keys_of m
+pub keys_painted : (pid first past : ℕ) (policy : Policy) (m : Map (ℕ × ℕ) Area) → keys_of (with_values (with_policy_in pid first past policy) m) ≡ keys_of m
 keys_painted pid first past policy [] = refl
 keys_painted pid first past policy (e ∷ m) = ap (λ ks. e.0 ∷ ks) (keys_painted pid first past policy m)
 

@@ -12,8 +12,8 @@ use Rattle.nm_types.specs.declared.area.Segment.{Segment}
 use Rattle.nm_types.specs.Map.{Map, with_values, spot_cmp}
 use Rattle.nm_types.specs.State.{Placed, covers}
 use Rattle.nm_model.specs.views.Table.{Table, with_areas}
-use Rattle.nm_model.specs.definitions.Areas.{mapped, AreasAreApart, IsSomePages, EndsLow, HasIndices, shows_segment, AllShown, PrivateIsOnce, IsMapped}
-use Rattle.nm_model.specs.definitions.Areas.{parts_outside, repoliced, split_at, painted}
+use Rattle.nm_model.specs.definitions.Areas.{mapping_of, AreasAreApart, IsSomePages, EndsLow, HasIndices, shows_segment, AllShown, PrivateIsOnce, IsWellFormed}
+use Rattle.nm_model.specs.definitions.Areas.{parts_outside, parts_with_policy, split_at, with_policy_in}
 use Rattle.nm_model.proofs.areas.Apart.{covers_from}
 use Rattle.nm_model.proofs.areas.Parted.{All-among, flat_among, part_of, part_there, any_among, among_any}
 use Rattle.nm_model.proofs.areas.Painted.{keys_painted}
@@ -57,7 +57,7 @@ below_split pid at next areas some below =
 
 module _ (pid first end : ℕ) (policy : Policy) where
   abbrev pub paint : ℕ × ℕ → Area → Area
-  paint = painted pid first end policy
+  paint = with_policy_in pid first end policy
 
   -- what holds whatever the policy
   pub any_policy : (P : Area → Type 0) (k : ℕ × ℕ) (x : Area) → P x → P (record x { policy = policy }) → P (paint k x)
@@ -88,12 +88,12 @@ module _ (pid first end : ℕ) (policy : Policy) where
         indices = all_painted HasIndices HasIndices (λ e under. any_policy (λ x. HasIndices (e.0, x)) e.0 e.1 under under) areas fine.indices;
       }
 
-  fine_repoliced : (areas : Map (ℕ × ℕ) Area) → first < end → IsFine areas → IsFine (flat_map (repoliced pid first end policy) areas)
+  fine_repoliced : (areas : Map (ℕ × ℕ) Area) → first < end → IsFine areas → IsFine (flat_map (parts_with_policy pid first end policy) areas)
   fine_repoliced areas range fine =
       subst IsFine (all_repoliced pid first end policy range areas fine.whole)
       (fine_painted (split_at pid end (split_at pid first areas)) (fine_split pid end (split_at pid first areas) (fine_split pid first areas fine)))
 
-  below_repoliced : (next : ℕ) → first < end → (areas : Map (ℕ × ℕ) Area) → AllByRecursion IsSomePages areas → AllByRecursion (λ a. a.1.page.segment < next) areas → AllByRecursion (λ a. a.1.page.segment < next) (flat_map (repoliced pid first end policy) areas)
+  below_repoliced : (next : ℕ) → first < end → (areas : Map (ℕ × ℕ) Area) → AllByRecursion IsSomePages areas → AllByRecursion (λ a. a.1.page.segment < next) areas → AllByRecursion (λ a. a.1.page.segment < next) (flat_map (parts_with_policy pid first end policy) areas)
   below_repoliced next range areas some below =
       let Low : Placed → Type 0 = λ a. a.1.page.segment < next in
       subst (AllByRecursion Low) (all_repoliced pid first end policy range areas some)
@@ -104,7 +104,7 @@ module _ (pid first end : ℕ) (policy : Policy) where
   any_painted test h [] = refl
   any_painted test h (e ∷ areas) = ap (λ b. b || list_any test (with_values paint areas)) (h e) ∙ ap (λ b. test e || b) (any_painted test h areas)
 
-  pub shown_repoliced : first < end → (areas : Map (ℕ × ℕ) Area) → AllByRecursion IsSomePages areas → (n : ℕ) → list_any (shows_segment n) areas ≡ true → list_any (shows_segment n) (flat_map (repoliced pid first end policy) areas) ≡ true
+  pub shown_repoliced : first < end → (areas : Map (ℕ × ℕ) Area) → AllByRecursion IsSomePages areas → (n : ℕ) → list_any (shows_segment n) areas ≡ true → list_any (shows_segment n) (flat_map (parts_with_policy pid first end policy) areas) ≡ true
   shown_repoliced range areas some n h =
       ap (list_any (shows_segment n)) (sym (all_repoliced pid first end policy range areas some))
       ∙ any_painted (shows_segment n) (λ e. any_policy (λ x. shows_segment n (e.0, x) ≡ shows_segment n e) e.0 e.1 refl refl) (split_at pid end (split_at pid first areas))
@@ -115,11 +115,11 @@ all_shown areas now f [] h = tt
 all_shown areas now f (e ∷ segments) h = (f e.0 h.0, all_shown areas now f segments h.1)
 
 -- other areas under the same segments
-module _ (t : Table) (place : Map Page ℕ) (h : IsMapped (mapped t place)) where
+module _ (t : Table) (place : Map Page ℕ) (h : IsWellFormed (mapping_of t place)) where
   pub fine_here : IsFine t.areas
   fine_here = record { ordered = h.ordered; apart = h.apart; whole = h.whole; low = h.low; indices = h.indices }
 
-  pub with_fine : (areas : Map (ℕ × ℕ) Area) → IsFine areas → AllShown areas t.segments → AllByRecursion (λ a. a.1.page.segment < t.next) areas → PrivateIsOnce areas t.segments → IsMapped (mapped (with_areas t areas) place)
+  pub with_fine : (areas : Map (ℕ × ℕ) Area) → IsFine areas → AllShown areas t.segments → AllByRecursion (λ a. a.1.page.segment < t.next) areas → PrivateIsOnce areas t.segments → IsWellFormed (mapping_of (with_areas t areas) place)
   with_fine areas fine shown below once =
       record {
         ordered = fine.ordered;
@@ -136,10 +136,10 @@ module _ (t : Table) (place : Map Page ℕ) (h : IsMapped (mapped t place)) wher
         places = h.places;
       }
 
-  pub policed_mapped : (now : Table) (pid first count : ℕ) (policy : Policy) → 0 < count → now ≡ with_areas t (flat_map (repoliced pid first (first + count) policy) t.areas) → IsMapped (mapped now place)
+  pub policed_mapped : (now : Table) (pid first count : ℕ) (policy : Policy) → 0 < count → now ≡ with_areas t (flat_map (parts_with_policy pid first (first + count) policy) t.areas) → IsWellFormed (mapping_of now place)
   policed_mapped now pid first count policy some is =
-      subst (λ (u : Table). IsMapped (mapped u place)) (sym is)
-      (with_fine (flat_map (repoliced pid first (first + count) policy) t.areas) (fine_repoliced pid first (first + count) policy t.areas (omega (arith, some)) fine_here)
+      subst (λ (u : Table). IsWellFormed (mapping_of u place)) (sym is)
+      (with_fine (flat_map (parts_with_policy pid first (first + count) policy) t.areas) (fine_repoliced pid first (first + count) policy t.areas (omega (arith, some)) fine_here)
       (all_shown t.areas _ (shown_repoliced pid first (first + count) policy (omega (arith, some)) t.areas h.whole) t.segments h.shown)
       (below_repoliced pid first (first + count) policy t.next (omega (arith, some)) t.areas h.whole h.below)
       (λ q v r w p here there private.

@@ -10,9 +10,9 @@ use Rattle.nm_types.specs.Map.{Map, set, with_values, spot_cmp}
 use Rattle.nm_types.specs.State.{covers, area_over, page_shown, page_at}
 use Rattle.nm_types.proofs.Cases.{true_false, none_some}
 use Rattle.nm_model.specs.views.Table.{Table}
-use Rattle.nm_model.specs.definitions.Areas.{AreasAreApart, IsSomePages, mapped, IsMapped, over_with, parts_outside}
+use Rattle.nm_model.specs.definitions.Areas.{AreasAreApart, IsSomePages, mapping_of, IsWellFormed, over_with, parts_outside}
 use Rattle.nm_model.specs.definitions.AreaRefusal.{overlaps}
-use Rattle.nm_model.specs.definitions.Areas.{repoliced, split_at, painted, areas_left, begins_in}
+use Rattle.nm_model.specs.definitions.Areas.{parts_with_policy, split_at, with_policy_in, areas_left, begins_in}
 use Rattle.nm_model.proofs.areas.Apart.{all_from_none, area_over-set, covers_parts}
 use Rattle.nm_model.proofs.areas.Parted.{All-among, among_over, over_among, among_flat, flat_among, part_of, part_covers, part_page, part_there}
 use Rattle.nm_model.proofs.areas.Halves.{flat_apart}
@@ -87,17 +87,17 @@ pub split_shows : (pid at : ℕ) (areas : Map (ℕ × ℕ) Area) → AllByRecurs
 split_shows pid at areas some apart q w = left_outside pid at at (omega arith) areas some apart q w (either_side pid at q w)
 
 module _ (pid first end : ℕ) (policy : Policy) where
-  pub painted_shows : (areas : Map (ℕ × ℕ) Area) (q w : ℕ) → page_at (with_values (painted pid first end policy) areas) q w ≡ page_at areas q w
+  pub painted_shows : (areas : Map (ℕ × ℕ) Area) (q w : ℕ) → page_at (with_values (with_policy_in pid first end policy) areas) q w ≡ page_at areas q w
   painted_shows [] q w = refl
   painted_shows (e ∷ areas) q w =
-      elim (begins_in pid first end e.0) as (λ t. page_shown (cond (covers (e.0, cond t (record (e.1) { policy = policy }) e.1) q w) (Some (e.0, cond t (record (e.1) { policy = policy }) e.1)) (area_over (with_values (painted pid first end policy) areas) q w)) w
+      elim (begins_in pid first end e.0) as (λ t. page_shown (cond (covers (e.0, cond t (record (e.1) { policy = policy }) e.1) q w) (Some (e.0, cond t (record (e.1) { policy = policy }) e.1)) (area_over (with_values (with_policy_in pid first end policy) areas) q w)) w
       ≡ page_shown (cond (covers e q w) (Some e) (area_over areas q w)) w) [
-        | true ↦ elim (covers e q w) as (λ b. page_shown (cond b (Some (e.0, record (e.1) { policy = policy })) (area_over (with_values (painted pid first end policy) areas) q w)) w ≡ page_shown (cond b (Some e) (area_over areas q w)) w) [ true ↦ refl | false ↦ painted_shows areas q w ]
-        | false ↦ elim (covers e q w) as (λ b. page_shown (cond b (Some e) (area_over (with_values (painted pid first end policy) areas) q w)) w ≡ page_shown (cond b (Some e) (area_over areas q w)) w) [ true ↦ refl | false ↦ painted_shows areas q w ]
+        | true ↦ elim (covers e q w) as (λ b. page_shown (cond b (Some (e.0, record (e.1) { policy = policy })) (area_over (with_values (with_policy_in pid first end policy) areas) q w)) w ≡ page_shown (cond b (Some e) (area_over areas q w)) w) [ true ↦ refl | false ↦ painted_shows areas q w ]
+        | false ↦ elim (covers e q w) as (λ b. page_shown (cond b (Some e) (area_over (with_values (with_policy_in pid first end policy) areas) q w)) w ≡ page_shown (cond b (Some e) (area_over areas q w)) w) [ true ↦ refl | false ↦ painted_shows areas q w ]
       ]
 
   -- and those with another policy
-  pub repoliced_shows : first < end → (areas : Map (ℕ × ℕ) Area) → AllByRecursion IsSomePages areas → AreasAreApart areas → (q w : ℕ) → page_at (flat_map (repoliced pid first end policy) areas) q w ≡ page_at areas q w
+  pub repoliced_shows : first < end → (areas : Map (ℕ × ℕ) Area) → AllByRecursion IsSomePages areas → AreasAreApart areas → (q w : ℕ) → page_at (flat_map (parts_with_policy pid first end policy) areas) q w ≡ page_at areas q w
   repoliced_shows range areas some apart q w =
       let once = split_at pid first areas in
       ap (λ es. page_at es q w) (sym (all_repoliced pid first end policy range areas some)) ∙ painted_shows (split_at pid end once) q w
@@ -109,7 +109,7 @@ not_true : (b : Bool) → true ≡ not b → b ≡ false
 not_true true h = cc
 not_true false h = refl
 
-pub over_more : (t now : Table) (place : Map Page ℕ) (pid first address : ℕ) (new : Area) → IsMapped (mapped t place) → 0 < new.pages → first ≡ address → true ≡ not (list_any (overlaps pid first (first + new.pages)) t.areas)
+pub over_more : (t now : Table) (place : Map Page ℕ) (pid first address : ℕ) (new : Area) → IsWellFormed (mapping_of t place) → 0 < new.pages → first ≡ address → true ≡ not (list_any (overlaps pid first (first + new.pages)) t.areas)
     → now.areas ≡ set spot_cmp t.areas (pid, first) new → (q v : ℕ) → area_over now.areas q v ≡ over_with t.areas ((pid, address), new) q v
 over_more t now place pid first address new h some at free is q v =
     ap (λ es. area_over es q v) is ∙ area_over-set pid first new t.areas q v some h.whole (all_from_none t.areas (overlaps pid first (first + new.pages)) (not_true _ free))

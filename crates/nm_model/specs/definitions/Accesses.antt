@@ -49,8 +49,8 @@ abbrev pub with_entry_at : RunMachine → AccessSite → Entry → RunMachine
 with_entry_at m at e = record m { tasks = set_in m.tasks (get nat_cmp m.tasks at.pid) at.pid at.vpn e }
 
 -- a page gets the front frame of a node, and its buffer is cleared
-abbrev pub with_new_page : RunMachine → Page → ℕ → RunMachine
-with_new_page m page node =
+abbrev pub with_cleared_page : RunMachine → Page → ℕ → RunMachine
+with_cleared_page m page node =
     let frames = slice_index_or m.free node [] in
     let frame = slice_index frames 0 in
     record m {
@@ -61,36 +61,36 @@ with_new_page m page node =
     }
 
 -- the page shown there gets the front frame of the node, and the entry names it; ENOMEM if there is no node
-abbrev pub allocated : RunMachine → AccessSite → Option ℕ → Result RunMachine Errno
-allocated m at None = Err Enomem
-allocated m at (Some node) =
-    Ok (with_entry_at (with_new_page m (shown_at at) node) at (Frame (slice_index (slice_index_or m.free node []) 0)))
+abbrev pub allocate_entry : RunMachine → AccessSite → Option ℕ → Result RunMachine Errno
+allocate_entry m at None = Err Enomem
+allocate_entry m at (Some node) =
+    Ok (with_entry_at (with_cleared_page m (shown_at at) node) at (Frame (slice_index (slice_index_or m.free node []) 0)))
 
 -- the same, with the first node in order that has a free frame
-abbrev pub filled : RunMachine → AccessSite → Result RunMachine Errno
-filled m at =
+abbrev pub fill_entry : RunMachine → AccessSite → Result RunMachine Errno
+fill_entry m at =
     let process = at.process in
     let order = first_touch_order m.layout m.online process.home process.allowed at.area.1.policy (shown_at at).index in
-    allocated m at (first_free m.free order)
+    allocate_entry m at (first_free m.free order)
 
 -- a page that others may show keeps its frame, or gets one
-abbrev pub joined : RunMachine → AccessSite → Option ℕ → Result RunMachine Errno
-joined m at (Some f) = Ok (with_entry_at m at (Frame f))
-joined m at None = filled m at
+abbrev pub share_entry : RunMachine → AccessSite → Option ℕ → Result RunMachine Errno
+share_entry m at (Some f) = Ok (with_entry_at m at (Frame f))
+share_entry m at None = fill_entry m at
 
 -- a touch uses an entry that names a frame; the page of zeros serves reads of private pages
-abbrev pub touched_entry : RunMachine → AccessSite → Bool → Option Entry → Result RunMachine Errno
-touched_entry m at writes (Some (Frame f)) = Ok m
-touched_entry m at writes (Some (OnItsWay f)) = Ok m
-touched_entry m at writes (Some Zero) = if writes then filled m at else Ok m
-touched_entry m at writes None =
-    if is_shared m.segments (shown_at at).segment then joined m at (get page_cmp m.place (shown_at at))
-    else (if writes then filled m at else Ok (with_entry_at m at Zero))
+abbrev pub touch_entry : RunMachine → AccessSite → Bool → Option Entry → Result RunMachine Errno
+touch_entry m at writes (Some (Frame f)) = Ok m
+touch_entry m at writes (Some (OnItsWay f)) = Ok m
+touch_entry m at writes (Some Zero) = if writes then fill_entry m at else Ok m
+touch_entry m at writes None =
+    if is_shared m.segments (shown_at at).segment then share_entry m at (get page_cmp m.place (shown_at at))
+    else (if writes then fill_entry m at else Ok (with_entry_at m at Zero))
 
 -- the touch of an entry, unless the access is refused
-abbrev pub touched : RunMachine → Bool → Result AccessSite Errno → Result RunMachine Errno
-touched m writes (Err e) = Err e
-touched m writes (Ok at) = touched_entry m at writes (entry_at m.tasks at.pid at.vpn)
+abbrev pub touch_entry_at : RunMachine → Bool → Result AccessSite Errno → Result RunMachine Errno
+touch_entry_at m writes (Err e) = Err e
+touch_entry_at m writes (Ok at) = touch_entry m at writes (entry_at m.tasks at.pid at.vpn)
 
 -- the bytes in the buffer of an entry's frame; zeros if the entry names no frame
 abbrev pub bytes_at : Store → Option Entry → ℕ → ℕ → List ℕ
@@ -107,28 +107,28 @@ written_at buf (Some (Frame f)) i new = slice_set buf f (Some (overwrite (bytes_
 written_at buf (Some (OnItsWay f)) i new = slice_set buf f (Some (overwrite (bytes_of buf f) i new))
 
 -- the answer is added to those before it
-abbrev pub answered : RunMachine → AccessAnswer → RunMachine
-answered m answer = record m { answers = m.answers ++ answer ∷ [] }
+abbrev pub with_answer : RunMachine → AccessAnswer → RunMachine
+with_answer m answer = record m { answers = m.answers ++ answer ∷ [] }
 
 -- the read after its touch, or its refusal
-abbrev pub read_after : RunMachine → ℕ → ℕ → ℕ → Result RunMachine Errno → RunMachine
-read_after m pid address len (Err e) = answered m (Refused e)
-read_after m pid address len (Ok t) =
-    answered t (Bytes (bytes_at t.buf (entry_at t.tasks pid (address / 4096)) (address % 4096) len))
+abbrev pub read_entry : RunMachine → ℕ → ℕ → ℕ → Result RunMachine Errno → RunMachine
+read_entry m pid address len (Err e) = with_answer m (Refused e)
+read_entry m pid address len (Ok t) =
+    with_answer t (Bytes (bytes_at t.buf (entry_at t.tasks pid (address / 4096)) (address % 4096) len))
 
 -- the write after its touch, or its refusal
-abbrev pub write_after : RunMachine → ℕ → ℕ → List ℕ → Result RunMachine Errno → RunMachine
-write_after m pid address new (Err e) = answered m (Refused e)
-write_after m pid address new (Ok t) =
-    answered (record t { buf = written_at t.buf (entry_at t.tasks pid (address / 4096)) (address % 4096) new }) Done
+abbrev pub write_entry : RunMachine → ℕ → ℕ → List ℕ → Result RunMachine Errno → RunMachine
+write_entry m pid address new (Err e) = with_answer m (Refused e)
+write_entry m pid address new (Ok t) =
+    with_answer (record t { buf = written_at t.buf (entry_at t.tasks pid (address / 4096)) (address % 4096) new }) Done
 
 -- a read or a write that is not held
-abbrev pub made : RunMachine → Access → RunMachine
-made m (Read pid address len) =
-    read_after m pid address len (touched m false (site (state_of m) pid address len))
-made m (Write pid address new) =
-    write_after m pid address new (touched m true (site (state_of m) pid address (length new)))
+abbrev pub after_free_access : RunMachine → Access → RunMachine
+after_free_access m (Read pid address len) =
+    read_entry m pid address len (touch_entry_at m false (site (state_of m) pid address len))
+after_free_access m (Write pid address new) =
+    write_entry m pid address new (touch_entry_at m true (site (state_of m) pid address (length new)))
 
 -- a read or a write. Where it goes and whether that is refused depends on no entry and no buffer
-abbrev pub accessed : RunMachine → Access → RunMachine
-accessed m a = if is_held_at m (site_of_access (state_of m) a) then answered m Held else made m a
+abbrev pub after_access : RunMachine → Access → RunMachine
+after_access m a = if is_held_at m (site_of_access (state_of m) a) then with_answer m Held else after_free_access m a

@@ -9,7 +9,7 @@ use Rattle.nm_types.specs.declared.errno.Errno.{Errno}
 use Rattle.nm_types.specs.declared.errno.Errno.TheVariants.{Enomem, Efault, Einval}
 use Rattle.nm_types.specs.Map.{Map, get}
 use Rattle.nm_types.specs.State.{Placed}
-use Rattle.nm_model.specs.definitions.Areas.{Mapped, pages_of, is_mapped}
+use Rattle.nm_model.specs.definitions.Areas.{Mapping, page_count, is_well_formed}
 
 -- the first of these errors whose condition holds
 abbrev pub first_error : List (Bool × Errno) → Option Errno
@@ -30,7 +30,7 @@ is_room areas pid address pages =
     is_range address pages && not (list_any (overlaps pid (address / 4096) (address / 4096 + pages)) areas)
 
 -- EINVAL: no room for the area; ENOMEM: no segment number is left
-abbrev pub insert_refusal : Mapped → ℕ → ℕ → ℕ → Option Errno
+abbrev pub insert_refusal : Mapping → ℕ → ℕ → ℕ → Option Errno
 insert_refusal m pid address pages =
     let full = nat_le 65536 m.next in
     first_error ((not (is_room m.areas pid address pages), Einval) ∷ (full, Enomem) ∷ [])
@@ -41,15 +41,15 @@ is_stretch o offset pages =
     unwrap_or (option_map (λ segment. segment.shared && nat_le (offset + pages) segment.pages) o) false
 
 -- EINVAL: no room for the area, or no such range of a shared segment
-abbrev pub stretch_refusal : Mapped → ℕ → ℕ → ℕ → ℕ → ℕ → Option Errno
+abbrev pub stretch_refusal : Mapping → ℕ → ℕ → ℕ → ℕ → ℕ → Option Errno
 stretch_refusal m pid address segment offset pages =
     let fits = is_room m.areas pid address pages && is_stretch (get nat_cmp m.segments segment) offset pages in
     first_error ((not fits, Einval) ∷ [])
 
 -- EINVAL: an address inside a page, or an end past 2^64 - 1; EFAULT: a page without an area
-abbrev pub range_refusal : Mapped → ℕ → ℕ → ℕ → Option Errno
+abbrev pub range_refusal : Mapping → ℕ → ℕ → ℕ → Option Errno
 range_refusal m pid address len =
-    let pages = pages_of len in
+    let pages = page_count len in
     let bad = not (address % 4096 == 0) || nat_le (2 ^ 64) (address + 4096 * pages) in
-    let hole = not (is_mapped m.areas pid (address / 4096) pages) in
+    let hole = not (is_well_formed m.areas pid (address / 4096) pages) in
     first_error ((bad, Einval) ∷ (hole, Efault) ∷ [])

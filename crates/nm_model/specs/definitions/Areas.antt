@@ -61,7 +61,7 @@ covers_page p a = shows_page p a.1
 abbrev pub is_covered : Map (ℕ × ℕ) Area → Page → Bool
 is_covered areas p = list_any (covers_page p) areas
 
-pub record Mapped : Type 0 where
+pub record Mapping : Type 0 where
   -- by pid and first page number
   pub areas : Map (ℕ × ℕ) Area
   pub segments : Map ℕ Segment
@@ -71,8 +71,8 @@ pub record Mapped : Type 0 where
   pub place : Map Page ℕ
 
 -- areas, segments and the frames of pages in one record
-abbrev pub mapped : Table → Map Page ℕ → Mapped
-mapped t place = record { areas = t.areas; segments = t.segments; next = t.next; place = place }
+abbrev pub mapping_of : Table → Map Page ℕ → Mapping
+mapping_of t place = record { areas = t.areas; segments = t.segments; next = t.next; place = place }
 
 -- an area has at least one page
 abbrev pub IsSomePages : Placed → Type 0
@@ -108,7 +108,7 @@ PrivateIsOnce areas segments =
 
 -- keys are in order; areas of a process do not overlap, each has a page, ends at 2^47 or before and shows a segment
 -- numbered below the next one; segments are numbered below it and shown; and private pages are shown once
-pub record IsMapped (m : Mapped) : Type 0 where
+pub record IsWellFormed (m : Mapping) : Type 0 where
   pub ordered : IsStrictlySortedBy spot_cmp (keys_of m.areas)
   pub apart : AreasAreApart m.areas
   pub whole : AllByRecursion IsSomePages m.areas
@@ -123,8 +123,8 @@ pub record IsMapped (m : Mapped) : Type 0 where
   pub places : IsStrictlySortedBy page_cmp (keys_of m.place)
 
 -- how many whole pages `len` bytes take, rounded up
-abbrev pub pages_of : ℕ → ℕ
-pages_of len = (len + 4095) / 4096
+abbrev pub page_count : ℕ → ℕ
+page_count len = (len + 4095) / 4096
 
 -- the part of an area from one page number up to another, with this policy
 abbrev pub inside : ℕ → ℕ → Policy → Placed → List Placed
@@ -136,25 +136,25 @@ inside first end policy a =
     if nat_lt from last then ((a.0.0, from), part) ∷ [] else []
 
 -- the parts of an area before, inside and after the range
-abbrev pub repoliced : ℕ → ℕ → ℕ → Policy → Placed → List Placed
-repoliced pid first end policy a =
+abbrev pub parts_with_policy : ℕ → ℕ → ℕ → Policy → Placed → List Placed
+parts_with_policy pid first end policy a =
     if a.0.0 == pid then before first a ++ inside first end policy a ++ behind end a else a ∷ []
 
 -- whether areas of the process cover each of the `count` page numbers from `first` on
-abbrev pub is_mapped : Map (ℕ × ℕ) Area → ℕ → ℕ → ℕ → Bool
-is_mapped areas pid first count = list_all (λ v. is_some (area_over areas pid v)) (up_from first count)
+abbrev pub is_well_formed : Map (ℕ × ℕ) Area → ℕ → ℕ → ℕ → Bool
+is_well_formed areas pid first count = list_all (λ v. is_some (area_over areas pid v)) (up_from first count)
 
 -- the areas, with those of the process split at a page number ...
 abbrev pub split_at : ℕ → ℕ → Map (ℕ × ℕ) Area → Map (ℕ × ℕ) Area
 split_at pid at areas = flat_map (parts_outside pid at at) areas
 
 -- ... and the policy of an area that begins in the range replaced
-abbrev pub painted : ℕ → ℕ → ℕ → Policy → ℕ × ℕ → Area → Area
-painted pid first end policy spot area =
+abbrev pub with_policy_in : ℕ → ℕ → ℕ → Policy → ℕ × ℕ → Area → Area
+with_policy_in pid first end policy spot area =
     if (spot.0 == pid) && (nat_le first spot.1 && nat_lt spot.1 end) then record area { policy = policy } else area
 
 -- no areas, no segments, and no page with a frame
-abbrev pub no_areas : Mapped
+abbrev pub no_areas : Mapping
 no_areas = record { areas = []; segments = []; next = 0; place = [] }
 
 -- an area over a range of a segment, with the default policy
@@ -163,8 +163,8 @@ new_area segment offset pages =
     record { pages = pages; policy = Default; page = record { segment = segment; index = offset } }
 
 -- an area over a range of a segment is added
-abbrev pub attached : Mapped → ℕ → ℕ → ℕ → ℕ → ℕ → Mapped
-attached m pid address segment offset pages =
+abbrev pub with_area : Mapping → ℕ → ℕ → ℕ → ℕ → ℕ → Mapping
+with_area m pid address segment offset pages =
     record m { areas = set spot_cmp m.areas (pid, address / 4096) (new_area segment offset pages) }
 
 -- the area over a page number when another area is added
@@ -172,27 +172,27 @@ abbrev pub over_with : Map (ℕ × ℕ) Area → Placed → ℕ → ℕ → Opti
 over_with areas a q v = if covers a q v then Some a else area_over areas q v
 
 -- a new segment, and an area over all of it, are added
-abbrev pub inserted : Mapped → ℕ → ℕ → ℕ → Bool → Mapped
-inserted m pid address pages shared =
+abbrev pub with_segment : Mapping → ℕ → ℕ → ℕ → Bool → Mapping
+with_segment m pid address pages shared =
     let areas = set spot_cmp m.areas (pid, address / 4096) (new_area m.next 0 pages) in
     let segments = set nat_cmp m.segments m.next (record { pages = pages; shared = shared }) in
     record m { areas = areas; segments = segments; next = suc m.next }
 
 -- the areas of a process are split at both ends of a range, and those inside get this policy; an empty range splits none
-abbrev pub with_policy : Mapped → ℕ → ℕ → ℕ → Policy → Mapped
+abbrev pub with_policy : Mapping → ℕ → ℕ → ℕ → Policy → Mapping
 with_policy m pid first end policy =
-    if nat_lt first end then record m { areas = flat_map (repoliced pid first end policy) m.areas } else m
+    if nat_lt first end then record m { areas = flat_map (parts_with_policy pid first end policy) m.areas } else m
 
 -- the frame of a page is set
-abbrev pub with_frame : Mapped → Page → ℕ → Mapped
+abbrev pub with_frame : Mapping → Page → ℕ → Mapping
 with_frame m page frame = record m { place = set page_cmp m.place page frame }
 
 -- the frame of a page that has one is replaced
-abbrev pub moved : Mapped → Page → ℕ → Mapped
-moved m page frame = record m { place = replace page_cmp m.place page frame }
+abbrev pub with_frame_of : Mapping → Page → ℕ → Mapping
+with_frame_of m page frame = record m { place = replace page_cmp m.place page frame }
 
 -- the frame of a page is removed
-abbrev pub without_frame : Mapped → Page → Mapped
+abbrev pub without_frame : Mapping → Page → Mapping
 without_frame m page = record m { place = without page_cmp m.place page }
 
 -- the areas that are left when a process unmaps a range
@@ -217,18 +217,18 @@ with_its_frame p None = []
 with_its_frame p (Some frame) = (p, frame) ∷ []
 
 -- a page that no area covers, with the frame that it loses
-abbrev pub lost : Map (ℕ × ℕ) Area → Map Page ℕ → Page → List (Page × ℕ)
-lost areas place p = if is_covered areas p then [] else with_its_frame p (get page_cmp place p)
+abbrev pub lost_page : Map (ℕ × ℕ) Area → Map Page ℕ → Page → List (Page × ℕ)
+lost_page areas place p = if is_covered areas p then [] else with_its_frame p (get page_cmp place p)
 
 -- the pages of a list that lose their frames, each once
 abbrev pub all_lost : Map (ℕ × ℕ) Area → Map Page ℕ → List Page → List (Page × ℕ)
 all_lost areas place [] = []
-all_lost areas place (p ∷ pages) = lost areas place p ++ all_lost areas (place_left areas place p) pages
+all_lost areas place (p ∷ pages) = lost_page areas place p ++ all_lost areas (place_left areas place p) pages
 
 -- a process unmaps a range: it loses the parts of its areas there, segments that no area shows are removed, and pages
 -- that no area covers lose their frames
-abbrev pub removed : Mapped → ℕ → ℕ → ℕ → Mapped
-removed m pid first end =
+abbrev pub after_removal : Mapping → ℕ → ℕ → ℕ → Mapping
+after_removal m pid first end =
     let areas = areas_left m.areas pid first end in
     record m {
       areas = areas;
@@ -237,7 +237,7 @@ removed m pid first end =
     }
 
 -- the pages that lose their frames when a process unmaps a range, in address order, each page at its lowest address
-abbrev pub frames_lost : Mapped → ℕ → ℕ → ℕ → List (Page × ℕ)
+abbrev pub frames_lost : Mapping → ℕ → ℕ → ℕ → List (Page × ℕ)
 frames_lost m pid first end =
     all_lost (areas_left m.areas pid first end) m.place (pages_gone m.areas pid first end)
 

@@ -13,7 +13,7 @@ use Rattle.nm_model.specs.definitions.Frames.{overwrite}
 use Rattle.nm_types.specs.declared.taken.Taken.{Taken}
 use Rattle.nm_model.specs.definitions.Memory.{stretch_of}
 use Rattle.nm_model.specs.definitions.Touch.{Access, Read, Write, AccessAnswer, Bytes, Done, Held, Refused, touch}
-use Rattle.nm_model.specs.definitions.Touch.{AllAnswered, is_held, site_of_access}
+use Rattle.nm_model.specs.definitions.Touch.{AccessResults, is_held, site_of_access}
 
 -- what is left to do for an access after its touch
 pub data PendingAccess : Type 0 where
@@ -99,7 +99,7 @@ answer_after_copy s (ToRead page at len) = Bytes (stretch_of (unwrap_or (get pag
 answer_after_copy s (ToWrite page at new) = Done
 
 -- one after another
-abbrev pub all_after_copy : State → List PendingAccess → AllAnswered
+abbrev pub all_after_copy : State → List PendingAccess → AccessResults
 all_after_copy s [] = record { state = s; answers = [] }
 all_after_copy s (d ∷ dues) =
     let rest = all_after_copy (after_copy s d) dues in
@@ -126,10 +126,10 @@ abbrev pub frames_taken : List Taken → List ℕ
 frames_taken taken = map (λ t. t.to) taken
 
 -- what is left to do concerns a page that has a frame, if any
-abbrev pub Touches : State → PendingAccess → Type 0
-Touches s (Known answer) = Unit {0}
-Touches s (ToRead page at len) = IsSome (get page_cmp s.place page)
-Touches s (ToWrite page at new) = IsSome (get page_cmp s.place page)
+abbrev pub ConcernsPage : State → PendingAccess → Type 0
+ConcernsPage s (Known answer) = Unit {0}
+ConcernsPage s (ToRead page at len) = IsSome (get page_cmp s.place page)
+ConcernsPage s (ToWrite page at new) = IsSome (get page_cmp s.place page)
 
 -- its page is none of these
 abbrev pub IsBeside : List Page → PendingAccess → Type 0
@@ -145,4 +145,4 @@ IsInside (ToWrite page at new) = at + length new ≤ 4096
 
 -- what is left to do is inside a page that has a frame and is none of these
 abbrev pub IsPending : List Page → State → PendingAccess → Type 0
-IsPending moved s d = Touches s d × IsBeside moved d × IsInside d
+IsPending moved s d = ConcernsPage s d × IsBeside moved d × IsInside d

@@ -54,8 +54,8 @@ abbrev pub all_to : ℕ → List Wanted → List Request
 all_to node wanted = map (λ w. record { target = node; wanted = w }) wanted
 
 -- the requests of all runs, one run after another
-abbrev pub joined : List Stretch → List Request
-joined runs = flat_map (λ r. all_to r.target r.wanted) runs
+abbrev pub all_requests : List Stretch → List Request
+all_requests runs = flat_map (λ r. all_to r.target r.wanted) runs
 
 -- the number of a run's requests
 abbrev pub size_of : Stretch → ℕ
@@ -73,7 +73,7 @@ AllNeighbours R (x ∷ xs) = OfFirst (R x) xs × AllNeighbours R xs
 
 -- the longest stretches of a batch: joined they are the batch, none is empty, and neighbours have different targets
 pub record IsCut (requests : List Request) (runs : List Stretch) : Type 0 where
-  pub same : joined runs ≡ requests
+  pub same : all_requests runs ≡ requests
   pub some : AllByRecursion (λ r. 0 < size_of r) runs
   pub apart : AllNeighbours (λ r next. r.target ≢ next.target) runs
 
@@ -96,12 +96,12 @@ abbrev pub pieces : {X : Type 0} → ℕ → List X → List (List X)
 pieces limit xs = pieces_in limit xs (length xs)
 
 -- a stretch, cut from its front into runs no longer than the limit
-abbrev pub within : ℕ → Stretch → List Stretch
-within limit r = map (λ ws. record { target = r.target; wanted = ws }) (pieces limit r.wanted)
+abbrev pub pieces_within : ℕ → Stretch → List Stretch
+pieces_within limit r = map (λ ws. record { target = r.target; wanted = ws }) (pieces limit r.wanted)
 
 -- the runs of a batch: the longest stretches for one target, each cut from its front into runs no longer than the limit
 abbrev pub cut_within : ℕ → List Request → List Stretch
-cut_within limit requests = flat_map (within limit) (cut requests)
+cut_within limit requests = flat_map (pieces_within limit) (cut requests)
 
 -- no batch is longer than the greatest limit, and under that limit each is cut as without one
 abbrev pub CutIsOldCut : Type 0
@@ -114,7 +114,7 @@ IsFullBefore limit r next = r.target ≡ next.target → size_of r ≡ limit
 -- the runs of a batch under a limit: joined they are the batch, none is empty or longer than the limit, and a run
 -- followed by another for the same node is as long as the limit
 pub record IsCutWithin (limit : ℕ) (requests : List Request) (runs : List Stretch) : Type 0 where
-  pub same : joined runs ≡ requests
+  pub same : all_requests runs ≡ requests
   pub some : AllByRecursion (λ r. 0 < size_of r) runs
   pub short : AllByRecursion (λ r. size_of r ≤ limit) runs
   pub full : AllNeighbours (IsFullBefore limit) runs

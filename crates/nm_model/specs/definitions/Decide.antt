@@ -60,13 +60,13 @@ abbrev pub shortage : List Class → Decisions → Option ℕ
 shortage classes d = position is_short (zip classes d.statuses)
 
 -- a plan: the decisions on the requests, and the index of the first one whose page found no free frame
-pub record Planned : Type 0 where
+pub record RunPlan : Type 0 where
   pub statuses : List ℤ
   pub taken : List Taken
   pub shortage : Option ℕ
 
 -- the plan of a run with these classes
-abbrev pub planned : List Class → List ℕ → ℕ → Planned
-planned classes front target =
+abbrev pub plan_run : List Class → List ℕ → ℕ → RunPlan
+plan_run classes front target =
     let d = decide classes [] front target in
     record { statuses = d.statuses; taken = d.taken; shortage = shortage classes d }

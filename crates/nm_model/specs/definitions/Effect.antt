@@ -15,7 +15,7 @@ use Rattle.nm_types.specs.Layout.{Layout, node_count}
 use Rattle.nm_model.specs.definitions.Seen.{sight_at, pins_of, page_seen}
 -- re-exported: the pages that areas show, and parts of areas
 pub use Rattle.nm_model.specs.definitions.Areas.{pages_from, pages_between, before, behind, parts_outside, covers_page, is_covered}
-use Rattle.nm_model.specs.definitions.Areas.{Mapped, attached, inserted, areas_left, segments_left, pages_gone, with_policy}
+use Rattle.nm_model.specs.definitions.Areas.{Mapping, with_area, with_segment, areas_left, segments_left, pages_gone, with_policy}
 use Rattle.nm_model.specs.definitions.Frames.{all_frames}
 use Rattle.nm_model.specs.definitions.Run.{with_free}
 use Rattle.std.specs.Option.{is_some, unwrap_or}
@@ -27,15 +27,15 @@ pub use Rattle.nm_model.specs.definitions.AreaRefusal.{first_error, is_range, ov
 use Rattle.nm_model.specs.definitions.AreaRefusal as areas
 use Rattle.nm_types.specs.declared.area.Policy.{Policy}
 -- re-exported: the policy of a range of areas
-pub use Rattle.nm_model.specs.definitions.Areas.{pages_of, inside, repoliced, is_mapped}
+pub use Rattle.nm_model.specs.definitions.Areas.{page_count, inside, parts_with_policy, is_well_formed}
 
 -- what `spawn` fixes of a process
 abbrev pub info_of : Process → ProcessInfo
 info_of p = record { uid = p.uid; privileged = p.privileged; home = p.home; allowed = p.allowed }
 
 -- a process that has touched nothing
-abbrev pub untouched : ProcessInfo → Process
-untouched info = record { uid = info.uid; privileged = info.privileged; home = info.home; allowed = info.allowed; sees = [] }
+abbrev pub new_process : ProcessInfo → Process
+new_process info = record { uid = info.uid; privileged = info.privileged; home = info.home; allowed = info.allowed; sees = [] }
 
 -- a process that sees this at a page number
 abbrev pub seeing : Process → ℕ → Sight → Process
@@ -85,21 +85,21 @@ spawn s pid uid home allowed privileged =
     record s { processes = set nat_cmp s.processes pid process }
 
 -- a state's areas, segments and frames of pages
-abbrev pub areas_of : State → Mapped
+abbrev pub areas_of : State → Mapping
 areas_of s = record { areas = s.areas; segments = s.segments; next = s.next_segment; place = s.place }
 
 -- the state with other areas and segments
-abbrev pub with_areas_of : State → Mapped → State
+abbrev pub with_areas_of : State → Mapping → State
 with_areas_of s m = record s { areas = m.areas; segments = m.segments; next_segment = m.next }
 
 -- an area over a range of a segment is added
 abbrev pub attach : State → ℕ → ℕ → ℕ → ℕ → ℕ → State
 attach s pid address segment offset pages =
-    with_areas_of s (attached (areas_of s) pid address segment offset pages)
+    with_areas_of s (with_area (areas_of s) pid address segment offset pages)
 
 -- a new segment, and an area over all of it, are added
 abbrev pub map_new : State → ℕ → ℕ → ℕ → Bool → State
-map_new s pid address pages shared = with_areas_of s (inserted (areas_of s) pid address pages shared)
+map_new s pid address pages shared = with_areas_of s (with_segment (areas_of s) pid address pages shared)
 
 -- the number of pins of what is seen is changed, if that is a page
 abbrev pub with_pins : State → Option Sight → (ℕ → ℕ) → State
@@ -122,25 +122,25 @@ released_from s p (Some frame) =
     with_free (record s { place = without page_cmp s.place p; bytes = bytes; pins = without page_cmp s.pins p }) frame
 
 -- a page that no area covers loses its frame, which becomes free
-abbrev pub released : State → Page → State
-released s p = if is_covered s.areas p then s else released_from s p (get page_cmp s.place p)
+abbrev pub release_page : State → Page → State
+release_page s p = if is_covered s.areas p then s else released_from s p (get page_cmp s.place p)
 
 -- a process unmaps a range: it loses what it sees there and the parts of its areas there; then, page by page in address
 -- order, pages that no area covers lose their frames
-abbrev pub dropped : State → ℕ → ℕ → ℕ → State
-dropped s pid first end =
+abbrev pub drop_range : State → ℕ → ℕ → ℕ → State
+drop_range s pid first end =
     let areas = areas_left s.areas pid first end in
     let blind = with_values (λ q process. if q == pid then blind_between first end process else process) s.processes in
     let left = record s { processes = blind; areas = areas; segments = segments_left s.segments areas } in
-    fold released left (pages_gone s.areas pid first end)
+    fold release_page left (pages_gone s.areas pid first end)
 
 -- `pages` pages from an address on are unmapped
 abbrev pub unmap : State → ℕ → ℕ → ℕ → State
-unmap s pid address pages = dropped s pid (address / 4096) (address / 4096 + pages)
+unmap s pid address pages = drop_range s pid (address / 4096) (address / 4096 + pages)
 
 -- a process unmaps all that it has, and is removed
 abbrev pub exit : State → ℕ → State
-exit s pid = let t = dropped s pid 0 (2 ^ 35) in record t { processes = without nat_cmp t.processes pid }
+exit s pid = let t = drop_range s pid 0 (2 ^ 35) in record t { processes = without nat_cmp t.processes pid }
 
 -- whether no process has this pid
 abbrev pub is_unknown : State → ℕ → Bool
@@ -221,4 +221,4 @@ set_range_policy s pid first end policy = with_areas_of s (with_policy (areas_of
 -- the same for the pages of `len` bytes, rounded up
 abbrev pub set_policy : State → ℕ → ℕ → ℕ → Policy → State
 set_policy s pid address len policy =
-    set_range_policy s pid (address / 4096) (address / 4096 + pages_of len) policy
+    set_range_policy s pid (address / 4096) (address / 4096 + page_count len) policy

@@ -18,7 +18,7 @@ use Rattle.nm_model.specs.definitions.Touch.{Access}
 use Rattle.nm_model.specs.definitions.Run.{failures, total_after}
 use Rattle.nm_model.specs.definitions.RunMachine.{Job, Stage, Laid, InHand, Given, Phase, Ready, Moving, Ended, RunMachine, job_from, goes_to}
 use Rattle.nm_model.specs.definitions.RunMachine.{state_of}
-use Rattle.nm_model.specs.definitions.Accesses.{accessed}
+use Rattle.nm_model.specs.definitions.Accesses.{after_access}
 
 pub data Event : Type 0 where
   -- the run begins
@@ -42,8 +42,8 @@ abbrev pub laid_for : Store → Taken → Job
 laid_for buf t = record { source = (t.from, bytes_of buf t.from); target = (t.to, bytes_of buf t.to); stage = Laid }
 
 -- both buffers of a job are taken out
-abbrev pub without_both : Store → Job → Store
-without_both buf job = slice_set (slice_set buf job.source.0 None) job.target.0 None
+abbrev pub without_buffers_of : Store → Job → Store
+without_buffers_of buf job = slice_set (slice_set buf job.source.0 None) job.target.0 None
 
 -- both buffers of a job are put back
 abbrev pub with_both : Store → Job → Store
@@ -56,10 +56,10 @@ held_by jobs (Frame f) = unwrap_or (option_map (λ job. Held job.target.0) (job_
 held_by jobs (Held f) = Held f
 
 -- a held entry names the frame that it was on its way to
-abbrev pub arrived : Entry → Entry
-arrived Zero = Zero
-arrived (Frame f) = Frame f
-arrived (Held f) = Frame f
+abbrev pub arrival_of : Entry → Entry
+arrival_of Zero = Zero
+arrival_of (Frame f) = Frame f
+arrival_of (Held f) = Frame f
 
 -- each entry of a process, changed
 abbrev pub with_changed : (Entry → Entry) → Task → Task
@@ -70,32 +70,32 @@ abbrev pub with_entries : (Entry → Entry) → Map ℕ Task → Map ℕ Task
 with_entries change tasks = with_values (λ pid. with_changed change) tasks
 
 -- the run begins: frames are taken for the pages that move, their entries are held, and the jobs are laid
-abbrev pub begun : RunMachine → ℕ → List Wanted → RunMachine
-begun m target wanted =
+abbrev pub begin_run : RunMachine → ℕ → List Wanted → RunMachine
+begin_run m target wanted =
     let d = plan m target wanted in
     let jobs = map (laid_for m.buf) d.taken in
     record m {
       phase = Moving;
       tasks = with_entries (held_by jobs) m.tasks;
-      buf = fold without_both m.buf jobs;
+      buf = fold without_buffers_of m.buf jobs;
       free = slice_set m.free target (drop (length d.taken) (slice_index_or m.free target []));
       jobs = jobs;
       statuses = d.statuses;
     }
 
 -- a frame is appended to its own node's free list
-abbrev pub freed : Layout → List (List ℕ) → ℕ → List (List ℕ)
-freed g free f = slice_set free (node_of g f) (slice_index_or free (node_of g f) [] ++ f ∷ [])
+abbrev pub free_frame : Layout → List (List ℕ) → ℕ → List (List ℕ)
+free_frame g free f = slice_set free (node_of g f) (slice_index_or free (node_of g f) [] ++ f ∷ [])
 
 -- the run ends: the buffers are put back, the pages are in their new frames, and the frames that they left are free
-abbrev pub ended : RunMachine → RunMachine
-ended m =
+abbrev pub end_run : RunMachine → RunMachine
+end_run m =
     record m {
       phase = Ended;
-      tasks = with_entries arrived m.tasks;
+      tasks = with_entries arrival_of m.tasks;
       place = with_values (λ page f. goes_to m.jobs f) m.place;
       buf = fold with_both m.buf m.jobs;
-      free = fold (freed m.layout) m.free (map (λ job. job.source.0) m.jobs);
+      free = fold (free_frame m.layout) m.free (map (λ job. job.source.0) m.jobs);
       moved = total_after m.moved (length m.jobs);
       failed = total_after m.failed (failures m.statuses);
       jobs = [];
@@ -118,19 +118,19 @@ is_with w (InHand x) = x == w
 is_with w Given = false
 
 -- the first job that lies on the board goes to the worker
-abbrev pub drawn : ℕ → List Job → List Job
-drawn w [] = []
-drawn w (job ∷ jobs) = if is_laid job.stage then record job { stage = InHand w } ∷ jobs else job ∷ drawn w jobs
+abbrev pub draw_job : ℕ → List Job → List Job
+draw_job w [] = []
+draw_job w (job ∷ jobs) = if is_laid job.stage then record job { stage = InHand w } ∷ jobs else job ∷ draw_job w jobs
 
 -- the target has the source's bytes, and the job is given back
-abbrev pub copied : Job → Job
-copied job = record job { target = (job.target.0, job.source.1); stage = Given }
+abbrev pub copy_job : Job → Job
+copy_job job = record job { target = (job.target.0, job.source.1); stage = Given }
 
 -- the job of this ticket is given back, copied
-abbrev pub given : ℕ → List Job → List Job
-given t [] = []
-given zero (job ∷ jobs) = copied job ∷ jobs
-given (suc t) (job ∷ jobs) = job ∷ given t jobs
+abbrev pub give_job : ℕ → List Job → List Job
+give_job t [] = []
+give_job zero (job ∷ jobs) = copy_job job ∷ jobs
+give_job (suc t) (job ∷ jobs) = job ∷ give_job t jobs
 
 abbrev pub is_ready : Phase → Bool
 is_ready Ready = true
@@ -152,11 +152,11 @@ is_allowed m End = is_moving m.phase && list_all (λ job. is_given job.stage) m.
 
 -- an event's effect
 abbrev pub effect : RunMachine → Event → RunMachine
-effect m (Begin target wanted) = begun m target wanted
-effect m (Draw w) = record m { jobs = drawn w m.jobs }
-effect m (Give w t) = record m { jobs = given t m.jobs }
-effect m (Touch a) = accessed m a
-effect m End = ended m
+effect m (Begin target wanted) = begin_run m target wanted
+effect m (Draw w) = record m { jobs = draw_job w m.jobs }
+effect m (Give w t) = record m { jobs = give_job t m.jobs }
+effect m (Touch a) = after_access m a
+effect m End = end_run m
 
 -- the machine after these events, if each is allowed at its turn
 abbrev pub after : RunMachine → List Event → Option RunMachine

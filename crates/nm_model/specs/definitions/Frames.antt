@@ -54,12 +54,12 @@ abbrev pub without_front : Pool → ℕ → Pool
 without_front p node = with_list p node (drop 1 (list_of p node))
 
 -- the pool with another frame at the end of its own node's list
-abbrev pub appended : Pool → ℕ → Pool
-appended p frame = let node = owner p.sizes frame in with_list p node (list_of p node ++ frame ∷ [])
+abbrev pub with_back : Pool → ℕ → Pool
+with_back p frame = let node = owner p.sizes frame in with_list p node (list_of p node ++ frame ∷ [])
 
 -- the pool with another frame at the front of its own node's list
-abbrev pub prepended : Pool → ℕ → Pool
-prepended p frame = let node = owner p.sizes frame in with_list p node (frame ∷ list_of p node)
+abbrev pub with_front : Pool → ℕ → Pool
+with_front p frame = let node = owner p.sizes frame in with_list p node (frame ∷ list_of p node)
 
 -- each node has a list, of its own frames only, without repetition
 pub record IsPool (p : Pool) : Type 0 where

@@ -89,14 +89,14 @@ abbrev pub HasOneAll : List Wanted → Type 0
 HasOneAll ws = (all : Bool) × AllByRecursion (λ w. moves_all w ≡ all) ws
 
 -- the state after a run or a batch, the statuses and the answers
-pub record Ran : Type 0 where
+pub record RunResult : Type 0 where
   pub state : State
   pub statuses : List ℤ
   -- each run's answers to its accesses
   pub answers : List (List AccessAnswer)
 
 -- a run: the requests, the accesses in flight, then the frames left become free, then the totals
-abbrev pub run : State → ℕ → List Wanted → List Access → Ran
+abbrev pub run : State → ℕ → List Wanted → List Access → RunResult
 run s target ws accesses =
     let moves = each_request s target ws in
     let during = all_in_flight moves.state (map (λ t. t.page) moves.taken) accesses in
@@ -109,7 +109,7 @@ abbrev pub accesses_of : ℕ → List (ℕ × Access) → List Access
 accesses_of k accesses = map (λ a. a.1) (filter (λ a. a.0 == k) accesses)
 
 -- one run after another, numbered from k on, each with its accesses
-abbrev pub runs_from : ℕ → State → List Stretch → List (ℕ × Access) → Ran
+abbrev pub runs_from : ℕ → State → List Stretch → List (ℕ × Access) → RunResult
 runs_from k s [] accesses = record { state = s; statuses = []; answers = [] }
 runs_from k s (r ∷ rs) accesses =
     let now = run s r.target r.wanted (accesses_of k accesses) in
@@ -117,9 +117,9 @@ runs_from k s (r ∷ rs) accesses =
     record { state = rest.state; statuses = now.statuses ++ rest.statuses; answers = now.answers ++ rest.answers }
 
 -- a batch under a limit: its runs one after another, with accesses by the number of their run
-abbrev pub batch : ℕ → State → List Request → List (ℕ × Access) → Ran
+abbrev pub batch : ℕ → State → List Request → List (ℕ × Access) → RunResult
 batch limit s requests accesses = runs_from 0 s (cut_within limit requests) accesses
 
 -- the answer of a batch
-abbrev pub answer_of : Ran → ℕ
-answer_of r = failures r.statuses
+abbrev pub batch_answer : RunResult → ℕ
+batch_answer r = failures r.statuses

@@ -124,13 +124,13 @@ in_frame g v p None = []
 in_frame g v p (Some frame) = record { vpn = v; page = p; frame = frame; node = node_of g frame } ∷ []
 
 -- what is seen at a page number, if it is a page with a frame
-abbrev pub located : Layout → Map Page ℕ → ℕ → Sight → List Located
-located g place v ZeroPage = []
-located g place v (Sees p) = in_frame g v p (get page_cmp place p)
+abbrev pub locate : Layout → Map Page ℕ → ℕ → Sight → List Located
+locate g place v ZeroPage = []
+locate g place v (Sees p) = in_frame g v p (get page_cmp place p)
 
 -- the pages with a frame among what is seen, with their frames and nodes
 abbrev pub located_in : Layout → Map Page ℕ → Map ℕ Sight → List Located
-located_in g place sees = flat_map (λ e. located g place e.0 e.1) sees
+located_in g place sees = flat_map (λ e. locate g place e.0 e.1) sees
 
 -- the pages that a process sees from one page number up to another, by page number, with their frames and nodes
 abbrev pub located_between : State → ℕ → ℕ → ℕ → List Located

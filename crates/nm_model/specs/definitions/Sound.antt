@@ -108,7 +108,7 @@ abbrev pub ProcessesAreFew : Map ℕ Process → Type 0
 ProcessesAreFew processes = length processes ≤ 1024
 
 -- a state is sound during a run that has left these frames
-pub record IsSoundMidRun (s : State) (left : List ℕ) : Type 0 where
+pub record IsSoundInFlight (s : State) (left : List ℕ) : Type 0 where
   pub order : IsInOrder s
   pub apart : PlacesAreApart s.place
   pub frames : FramesAreOnce s.layout s.place s.free left
@@ -127,28 +127,28 @@ pub record IsSoundMidRun (s : State) (left : List ℕ) : Type 0 where
 
 -- a state is sound, as all states between two calls are
 abbrev pub IsSound : State → Type 0
-IsSound s = IsSoundMidRun s []
+IsSound s = IsSoundInFlight s []
 
 -- whether a frame is one of the machine's
 abbrev pub is_frame : Layout → ℕ → Bool
 is_frame g frame = nat_lt frame (frame_count g)
 
 -- whether a frame is one of the machine's, and of the node that it is paired with
-abbrev pub is_own : Layout → ℕ × ℕ → Bool
-is_own g f = is_frame g f.1 && (node_of g f.1 == f.0)
+abbrev pub is_on_its_node : Layout → ℕ × ℕ → Bool
+is_on_its_node g f = is_frame g f.1 && (node_of g f.1 == f.0)
 
 -- the free frames, paired with their nodes, and the frames of pages: each is the machine's, each free frame is its
 -- node's, and each frame of the machine is in both lists together exactly once
 abbrev pub is_audited : Layout → List (ℕ × ℕ) → List ℕ → Bool
 is_audited g free placed =
     let frames : List ℕ = map (λ (f : ℕ × ℕ). f.1) free ++ placed in
-    list_all (is_own g) free && list_all (is_frame g) placed && list_all (λ frame. times frame frames == 1) (up_from 0 (frame_count g))
+    list_all (is_on_its_node g) free && list_all (is_frame g) placed && list_all (λ frame. times frame frames == 1) (up_from 0 (frame_count g))
 
 -- the frames of each list, paired with the list's number, counted from this one
-abbrev pub numbered : ℕ → List (List ℕ) → List (ℕ × ℕ)
-numbered node [] = []
-numbered node (frames ∷ lists) = map {B = ℕ × ℕ} (λ (frame : ℕ). (node, frame)) frames ++ numbered (node + 1) lists
+abbrev pub with_numbers : ℕ → List (List ℕ) → List (ℕ × ℕ)
+with_numbers node [] = []
+with_numbers node (frames ∷ lists) = map {B = ℕ × ℕ} (λ (frame : ℕ). (node, frame)) frames ++ with_numbers (node + 1) lists
 
 -- whether each frame is in exactly one place: its own node's free list, or a page's
-abbrev pub audited : State → Bool
-audited s = is_audited s.layout (numbered 0 s.free) (values_of s.place)
+abbrev pub each_frame_is_once : State → Bool
+each_frame_is_once s = is_audited s.layout (with_numbers 0 s.free) (values_of s.place)

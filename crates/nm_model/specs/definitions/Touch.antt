@@ -63,8 +63,8 @@ with_page s page frame =
     record s { place = set page_cmp s.place page frame; bytes = zeros; pins = set page_cmp s.pins page 0 }
 
 -- a node's front frame is taken
-abbrev pub without_front : State → ℕ → State
-without_front s node = record s { free = slice_set s.free node (drop 1 (free_list s node)) }
+abbrev pub without_front_frame : State → ℕ → State
+without_front_frame s node = record s { free = slice_set s.free node (drop 1 (free_list s node)) }
 
 -- whether a node has a free frame
 abbrev pub has_free : List (List ℕ) → ℕ → Bool
@@ -76,40 +76,40 @@ first_free free [] = None
 first_free free (node ∷ nodes) = if length (slice_index_or free node []) == 0 then first_free free nodes else Some node
 
 -- the page takes the front frame of the node, and the process sees it; ENOMEM if there is no node
-abbrev pub allocated : State → AccessSite → Option ℕ → Result State Errno
-allocated s at None = Err Enomem
-allocated s at (Some node) =
-    let placed = with_page (without_front s node) (shown_at at) (slice_index (free_list s node) 0) in
+abbrev pub allocate_page : State → AccessSite → Option ℕ → Result State Errno
+allocate_page s at None = Err Enomem
+allocate_page s at (Some node) =
+    let placed = with_page (without_front_frame s node) (shown_at at) (slice_index (free_list s node) 0) in
     Ok (with_sight placed at (Sees (shown_at at)))
 
 -- the page gets the front frame of the first node in order that has one
-abbrev pub filled : State → AccessSite → Result State Errno
-filled s at =
+abbrev pub fill_page : State → AccessSite → Result State Errno
+fill_page s at =
     let process = at.process in
     let order = first_touch_order s.layout s.online process.home process.allowed at.area.1.policy (shown_at at).index in
-    allocated s at (first_free s.free order)
+    allocate_page s at (first_free s.free order)
 
 -- a page that others may show keeps its frame, or gets one
-abbrev pub joined : State → AccessSite → Option ℕ → Result State Errno
-joined s at (Some frame) = Ok (with_sight s at (Sees (shown_at at)))
-joined s at None = filled s at
+abbrev pub share_page : State → AccessSite → Option ℕ → Result State Errno
+share_page s at (Some frame) = Ok (with_sight s at (Sees (shown_at at)))
+share_page s at None = fill_page s at
 
 -- a touch uses an entry that shows a page; the page of zeros serves reads of private pages
-abbrev pub touched_entry : State → AccessSite → Bool → Option Sight → Result State Errno
-touched_entry s at writes (Some (Sees page)) = Ok s
-touched_entry s at writes (Some ZeroPage) = if writes then filled s at else Ok s
-touched_entry s at writes None =
-    if is_shared s.segments (shown_at at).segment then joined s at (get page_cmp s.place (shown_at at))
-    else (if writes then filled s at else Ok (with_sight s at ZeroPage))
+abbrev pub touch_sight : State → AccessSite → Bool → Option Sight → Result State Errno
+touch_sight s at writes (Some (Sees page)) = Ok s
+touch_sight s at writes (Some ZeroPage) = if writes then fill_page s at else Ok s
+touch_sight s at writes None =
+    if is_shared s.segments (shown_at at).segment then share_page s at (get page_cmp s.place (shown_at at))
+    else (if writes then fill_page s at else Ok (with_sight s at ZeroPage))
 
 -- the touch of an entry, unless the access is refused
-abbrev pub touched : State → Bool → Result AccessSite Errno → Result State Errno
-touched s writes (Err e) = Err e
-touched s writes (Ok at) = touched_entry s at writes (get nat_cmp at.process.sees at.vpn)
+abbrev pub touch_site : State → Bool → Result AccessSite Errno → Result State Errno
+touch_site s writes (Err e) = Err e
+touch_site s writes (Ok at) = touch_sight s at writes (get nat_cmp at.process.sees at.vpn)
 
 -- what a read or a write of `len` bytes does before it reaches the bytes, or the first refusal
 abbrev pub touch : State → ℕ → ℕ → ℕ → Bool → Result State Errno
-touch s pid address len writes = touched s writes (site s pid address len)
+touch s pid address len writes = touch_site s writes (site s pid address len)
 
 -- a read or a write
 pub data Access : Type 0 where
@@ -124,17 +124,17 @@ pub data AccessAnswer : Type 0 where
   Refused : (errno : Errno) → AccessAnswer
 
 -- the state after an access, and its answer
-pub record Answered : Type 0 where
+pub record AccessResult : Type 0 where
   pub state : State
   pub answer : AccessAnswer
 
 -- the read after its touch, or its refusal
-abbrev pub read_after : State → ℕ → ℕ → ℕ → Result State Errno → Answered
+abbrev pub read_after : State → ℕ → ℕ → ℕ → Result State Errno → AccessResult
 read_after s pid address len (Err e) = record { state = s; answer = Refused e }
 read_after s pid address len (Ok t) = record { state = t; answer = Bytes (mem_range t pid address len) }
 
 -- a read: its touch, then the bytes there
-abbrev pub read : State → ℕ → ℕ → ℕ → Answered
+abbrev pub read : State → ℕ → ℕ → ℕ → AccessResult
 read s pid address len = read_after s pid address len (touch s pid address len false)
 
 -- these bytes are written to the page that is seen, from an index on
@@ -145,17 +145,17 @@ with_bytes s (Some (Sees page)) i new =
 with_bytes s sight i new = s
 
 -- the write after its touch, or its refusal
-abbrev pub write_after : State → ℕ → ℕ → List ℕ → Result State Errno → Answered
+abbrev pub write_after : State → ℕ → ℕ → List ℕ → Result State Errno → AccessResult
 write_after s pid address new (Err e) = record { state = s; answer = Refused e }
 write_after s pid address new (Ok t) =
     record { state = with_bytes t (sight_at t pid (address / 4096)) (address % 4096) new; answer = Done }
 
 -- a write: its touch, then these bytes are there
-abbrev pub write : State → ℕ → ℕ → List ℕ → Answered
+abbrev pub write : State → ℕ → ℕ → List ℕ → AccessResult
 write s pid address new = write_after s pid address new (touch s pid address (length new) true)
 
 -- a read or a write is made
-abbrev pub access : State → Access → Answered
+abbrev pub access : State → Access → AccessResult
 access s (Read pid address len) = read s pid address len
 access s (Write pid address new) = write s pid address new
 
@@ -170,18 +170,18 @@ is_held moved (Err e) = false
 is_held moved (Ok at) = list_any (same_page (shown_at at)) moved
 
 -- an access to a page that moves is held and does nothing
-abbrev pub in_flight : State → List Page → Access → Answered
-in_flight s moved a = if is_held moved (site_of_access s a) then record { state = s; answer = Held } else access s a
+abbrev pub access_during : State → List Page → Access → AccessResult
+access_during s moved a = if is_held moved (site_of_access s a) then record { state = s; answer = Held } else access s a
 
 -- the state after accesses, and their answers
-pub record AllAnswered : Type 0 where
+pub record AccessResults : Type 0 where
   pub state : State
   pub answers : List AccessAnswer
 
 -- one access after another
-abbrev pub all_in_flight : State → List Page → List Access → AllAnswered
+abbrev pub all_in_flight : State → List Page → List Access → AccessResults
 all_in_flight s moved [] = record { state = s; answers = [] }
 all_in_flight s moved (a ∷ accesses) =
-    let now = in_flight s moved a in
+    let now = access_during s moved a in
     let rest = all_in_flight now.state moved accesses in
     record { state = rest.state; answers = now.answer ∷ rest.answers }

@@ -9,25 +9,25 @@ use Rattle.nm_types.specs.declared.request.Class.TheVariants.{Status, Move}
 use Rattle.nm_model.specs.definitions.Decide.{decide, moves, shortage}
 
 -- three nodes, with node 2 in the middle
-abbrev pub in_a_row : Layout
-in_a_row =
+abbrev pub middle_node_two : Layout
+middle_node_two =
     let distances : List (List ℕ) = (10 ∷ 30 ∷ 20 ∷ []) ∷ (30 ∷ 10 ∷ 20 ∷ []) ∷ (20 ∷ 20 ∷ 10 ∷ []) ∷ [] in
     record { sizes = 4 ∷ 4 ∷ 4 ∷ []; distances = distances }
 
 -- from each node, and then with node 2 offline
 abbrev pub NodesAreOrderedByDistance : Type 0
 NodesAreOrderedByDistance =
-    (map (zonelist in_a_row (0 ∷ 1 ∷ 2 ∷ [])) (0 ∷ 1 ∷ 2 ∷ [])
+    (map (zonelist middle_node_two (0 ∷ 1 ∷ 2 ∷ [])) (0 ∷ 1 ∷ 2 ∷ [])
     ≡ (0 ∷ 2 ∷ 1 ∷ []) ∷ (1 ∷ 2 ∷ 0 ∷ []) ∷ (2 ∷ 0 ∷ 1 ∷ []) ∷ [])
-    × (map (zonelist in_a_row (0 ∷ 1 ∷ [])) (0 ∷ 2 ∷ []) ≡ (0 ∷ 1 ∷ []) ∷ (0 ∷ 1 ∷ []) ∷ [])
+    × (map (zonelist middle_node_two (0 ∷ 1 ∷ [])) (0 ∷ 2 ∷ []) ≡ (0 ∷ 1 ∷ []) ∷ (0 ∷ 1 ∷ []) ∷ [])
 
 -- BIND tries its own nodes only, PREFERRED its own node first, and INTERLEAVE begins with the node whose turn it is
 abbrev pub PolicyOrdersTheNodes : Type 0
 PolicyOrdersTheNodes =
     let all : List ℕ = 0 ∷ 1 ∷ 2 ∷ [] in
-    (first_touch_order in_a_row all 0 all (Bind (1 ∷ 2 ∷ [])) 0 ≡ 2 ∷ 1 ∷ [])
-    × (first_touch_order in_a_row all 0 all (Preferred 1) 0 ≡ 1 ∷ 2 ∷ 0 ∷ [])
-    × (first_touch_order in_a_row all 0 all (Interleave (0 ∷ 1 ∷ [])) 3 ≡ 1 ∷ 2 ∷ 0 ∷ [])
+    (first_touch_order middle_node_two all 0 all (Bind (1 ∷ 2 ∷ [])) 0 ≡ 2 ∷ 1 ∷ [])
+    × (first_touch_order middle_node_two all 0 all (Preferred 1) 0 ≡ 1 ∷ 2 ∷ 0 ∷ [])
+    × (first_touch_order middle_node_two all 0 all (Interleave (0 ∷ 1 ∷ [])) 3 ≡ 1 ∷ 2 ∷ 0 ∷ [])
 
 -- a page of the first segment
 abbrev pub page : ℕ → Page

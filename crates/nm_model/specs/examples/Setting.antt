@@ -6,7 +6,7 @@ use Rattle.nm_types.specs.declared.area.Policy.TheVariants.{Default, Bind}
 use Rattle.nm_types.specs.declared.errno.Errno.TheVariants.{Esrch, Efault, Einval}
 use Rattle.nm_types.specs.State.{State, Placed, page_at}
 use Rattle.nm_model.specs.definitions.Effect.{map_new, policy_refusal, set_policy}
-use Rattle.nm_model.specs.examples.{A, B, C, one_process, wrote, three_pages, six_pages, frame_at}
+use Rattle.nm_model.specs.examples.{A, B, C, one_process, wrote, three_pages, six_pages, frame_shown_at}
 
 -- new pages at the second page of an area are to be on node 1
 abbrev pub second_bound : State → ℕ → State
@@ -29,13 +29,13 @@ MiddlePageIsSplitOff =
     × ((second_bound three_pages 4096).areas
     ≡ one_page 0 Default ∷ one_page 1 (Bind (1 ∷ [])) ∷ one_page 2 Default ∷ [])
     × (pages_shown (second_bound three_pages 4096) ≡ pages_shown three_pages)
-    × (map (frame_at (second_bound three_pages 4096) 1) (A ∷ B ∷ C ∷ []) ≡ Some 0 ∷ Some 1 ∷ Some 2 ∷ [])
+    × (map (frame_shown_at (second_bound three_pages 4096) 1) (A ∷ B ∷ C ∷ []) ≡ Some 0 ∷ Some 1 ∷ Some 2 ∷ [])
 
 -- a page that has no frame yet gets one on the node of its policy
 abbrev pub NewPagesFollowThePolicy : Type 0
 NewPagesFollowThePolicy =
     let split = second_bound (map_new one_process 1 A 3 false) 4096 in
-    map (frame_at (wrote (wrote split 1 A 0x61) 1 B 0x62) 1) (A ∷ B ∷ C ∷ []) ≡ Some 0 ∷ Some 4 ∷ None ∷ []
+    map (frame_shown_at (wrote (wrote split 1 A 0x61) 1 B 0x62) 1) (A ∷ B ∷ C ∷ []) ≡ Some 0 ∷ Some 4 ∷ None ∷ []
 
 -- one byte counts as a page, and no byte as none
 abbrev pub LengthsRoundUp : Type 0

@@ -19,8 +19,8 @@ use Rattle.nm_types.specs.declared.taken.Taken.{Taken}
 use Rattle.nm_types.proofs.Cases.{some_is}
 use Rattle.nm_types.proofs.Keys.{All-get}
 use Rattle.nm_types.proofs.Maps.{agree, equal, exact_page, get-set, get-values, keys-values, page_cmp_total, with_values-replace}
-use Rattle.nm_model.specs.definitions.Areas.{Mapped, with_frame}
-use Rattle.nm_model.specs.definitions.Events.{arrived, with_changed, with_entries}
+use Rattle.nm_model.specs.definitions.Areas.{Mapping, with_frame}
+use Rattle.nm_model.specs.definitions.Events.{arrival_of, with_changed, with_entries}
 use Rattle.nm_model.specs.definitions.PageTables.{Task, entry_at, entry_in, entry_of, sight_of}
 use Rattle.nm_model.specs.definitions.Seen.{sight_in}
 use Rattle.nm_laws.proofs.InFlight.Values.{values_same, entries_show, changed_at}
@@ -91,22 +91,22 @@ some_mapped : {X Y : Type 0} (f : X → Y) (o : Option X) → IsSome (option_map
 some_mapped f (Some x) h = refl
 some_mapped f None h = h
 
-arrived_alike : (areas : Map (ℕ × ℕ) Area) (pid v : ℕ) (e : Entry) → sight_of areas pid v (arrived e) ≡ sight_of areas pid v e
+arrived_alike : (areas : Map (ℕ × ℕ) Area) (pid v : ℕ) (e : Entry) → sight_of areas pid v (arrival_of e) ≡ sight_of areas pid v e
 arrived_alike areas pid v Zero = refl
 arrived_alike areas pid v (Frame f) = refl
 arrived_alike areas pid v (Held f) = refl
 
 -- what processes see does not depend on whether entries have arrived
-pub shown_arrived : (tasks : Map ℕ Task) (m : Mapped) (r : Mappers) → spaces_view (with_entries arrived tasks) m r ≡ spaces_view tasks m r
-shown_arrived tasks m r = λ i. record (spaces_view tasks m r) { processes = entries_show arrived arrived_alike m.areas tasks i }
+pub shown_arrived : (tasks : Map ℕ Task) (m : Mapping) (r : Mappers) → spaces_view (with_entries arrival_of tasks) m r ≡ spaces_view tasks m r
+shown_arrived tasks m r = λ i. record (spaces_view tasks m r) { processes = entries_show arrival_of arrived_alike m.areas tasks i }
 
-arrived_named : (f : ℕ) (o : Option Entry) → names f (option_map arrived o) ≡ true → option_map arrived o ≡ Some (Frame f)
+arrived_named : (f : ℕ) (o : Option Entry) → names f (option_map arrival_of o) ≡ true → option_map arrival_of o ≡ Some (Frame f)
 arrived_named f None h = cc
 arrived_named f (Some Zero) h = cc
 arrived_named f (Some (Frame g)) h = ap (λ n. Some (Frame n)) (eqb-true g f h)
 arrived_named f (Some (Held g)) h = ap (λ n. Some (Frame n)) (eqb-true g f h)
 
-arrived_is : (e : Entry) → ((f : ℕ) → e ≡ Held f → ⊥) → arrived e ≡ e
+arrived_is : (e : Entry) → ((f : ℕ) → e ≡ Held f → ⊥) → arrival_of e ≡ e
 arrived_is Zero h = refl
 arrived_is (Frame f) h = refl
 arrived_is (Held f) h = absurd (h f refl)
@@ -116,22 +116,22 @@ tables_before c [] h = tt
 tables_before c (e ∷ tasks) h = (subst (IsStrictlySortedBy nat_cmp) (keys-values (λ v x. c x) e.1.table) h.0, tables_before c tasks h.1)
 
 -- the order is that of what is there once entries have arrived
-pub order_before : (tasks : Map ℕ Task) → AreInOrder (with_entries arrived tasks) → AreInOrder tasks
+pub order_before : (tasks : Map ℕ Task) → AreInOrder (with_entries arrival_of tasks) → AreInOrder tasks
 order_before tasks h = record {
-  pids = subst (IsStrictlySortedBy nat_cmp) (keys-values (λ pid. with_changed arrived) tasks) h.pids;
-  tables = tables_before arrived tasks h.tables;
+  pids = subst (IsStrictlySortedBy nat_cmp) (keys-values (λ pid. with_changed arrival_of) tasks) h.pids;
+  tables = tables_before arrival_of tasks h.tables;
 }
 
 -- where no entry is held, all have arrived
-pub all_arrived : (tasks : Map ℕ Task) → AreInOrder tasks → ((f pid v : ℕ) → entry_at tasks pid v ≡ Some (Held f) → ⊥) → with_entries arrived tasks ≡ tasks
+pub all_arrived : (tasks : Map ℕ Task) → AreInOrder tasks → ((f pid v : ℕ) → entry_at tasks pid v ≡ Some (Held f) → ⊥) → with_entries arrival_of tasks ≡ tasks
 all_arrived tasks h none =
-    agree nat_cmp_total exact_unsigned (λ pid. with_changed arrived) (λ pid t. t) tasks h.pids (λ pid t found.
+    agree nat_cmp_total exact_unsigned (λ pid. with_changed arrival_of) (λ pid t. t) tasks h.pids (λ pid t found.
     ap (λ (table : Map ℕ Entry). record t { table = table })
-    (agree nat_cmp_total exact_unsigned (λ v e. arrived e) (λ v e. e) t.table (All-get nat_cmp TableInOrder tasks pid t h.tables found)
+    (agree nat_cmp_total exact_unsigned (λ v e. arrival_of e) (λ v e. e) t.table (All-get nat_cmp TableInOrder tasks pid t h.tables found)
     (λ v e k. arrived_is e (λ f is. none f pid v (ap (λ (o : Option Task). entry_in o v) found ∙ k ∙ ap Some is))) ∙ values_same t.table))
     ∙ values_same tasks
 
-pub order_in : (tasks : Map ℕ Task) (m : Mapped) (r : Mappers) → IsTied tasks m r → AreInOrder tasks
+pub order_in : (tasks : Map ℕ Task) (m : Mapping) (r : Mappers) → IsTied tasks m r → AreInOrder tasks
 order_in tasks m r h = record { pids = h.pids; tables = h.tables }
 
 -- ---- a page is on its way
@@ -142,53 +142,53 @@ held_for from to Zero = Zero
 held_for from to (Frame f) = if f == from then Held to else Frame f
 held_for from to (Held f) = if f == from then Held to else Held f
 
-held_entry : (from to : ℕ) (o : Option Entry) → cond (names from (option_map arrived o)) (Some (Held to)) o ≡ option_map (held_for from to) o
+held_entry : (from to : ℕ) (o : Option Entry) → cond (names from (option_map arrival_of o)) (Some (Held to)) o ≡ option_map (held_for from to) o
 held_entry from to None = refl
 held_entry from to (Some Zero) = refl
 held_entry from to (Some (Frame g)) = elim (g == from) as (λ b. cond b (Some (Held to)) (Some (Frame g)) ≡ Some (cond b (Held to) (Frame g))) [ true ↦ refl | false ↦ refl ]
 held_entry from to (Some (Held g)) = elim (g == from) as (λ b. cond b (Some (Held to)) (Some (Held g)) ≡ Some (cond b (Held to) (Held g))) [ true ↦ refl | false ↦ refl ]
 
 -- the entries that name a frame once they have arrived are there
-module _ (tasks : Map ℕ Task) (l : List (ℕ × ℕ)) (f : ℕ) (named : (pid v : ℕ) → has_spot l (pid, v) ≡ names f (entry_at (with_entries arrived tasks) pid v)) where
-  named_at : (q : ℕ × ℕ) → has_spot l q ≡ true → names f (option_map arrived (entry_at tasks q.0 q.1)) ≡ true
-  named_at q k = ap (names f) (sym (changed_at arrived tasks q.0 q.1)) ∙ sym (named q.0 q.1) ∙ k
+module _ (tasks : Map ℕ Task) (l : List (ℕ × ℕ)) (f : ℕ) (named : (pid v : ℕ) → has_spot l (pid, v) ≡ names f (entry_at (with_entries arrival_of tasks) pid v)) where
+  named_at : (q : ℕ × ℕ) → has_spot l q ≡ true → names f (option_map arrival_of (entry_at tasks q.0 q.1)) ≡ true
+  named_at q k = ap (names f) (sym (changed_at arrival_of tasks q.0 q.1)) ∙ sym (named q.0 q.1) ∙ k
 
   pub named_there : AllByRecursion (IsThere tasks) l
-  named_there = all_from_has (IsThere tasks) l (λ q k. some_mapped arrived (entry_at tasks q.0 q.1) (subst IsSome (sym (arrived_named f (entry_at tasks q.0 q.1) (named_at q k))) refl))
+  named_there = all_from_has (IsThere tasks) l (λ q k. some_mapped arrival_of (entry_at tasks q.0 q.1) (subst IsSome (sym (arrived_named f (entry_at tasks q.0 q.1) (named_at q k))) refl))
 
-  named_here : AllByRecursion (λ s. entry_at (with_entries arrived tasks) s.0 s.1 ≡ Some (Frame f)) l
-  named_here = all_from_has (λ s. entry_at (with_entries arrived tasks) s.0 s.1 ≡ Some (Frame f)) l (λ q k. changed_at arrived tasks q.0 q.1 ∙ arrived_named f (entry_at tasks q.0 q.1) (named_at q k))
+  named_here : AllByRecursion (λ s. entry_at (with_entries arrival_of tasks) s.0 s.1 ≡ Some (Frame f)) l
+  named_here = all_from_has (λ s. entry_at (with_entries arrival_of tasks) s.0 s.1 ≡ Some (Frame f)) l (λ q k. changed_at arrival_of tasks q.0 q.1 ∙ arrived_named f (entry_at tasks q.0 q.1) (named_at q k))
 
   -- those of one frame arrive
-  pub arrive_same : with_entries arrived (all_replaced tasks l (Frame f)) ≡ with_entries arrived tasks
-  arrive_same = changed_all arrived tasks l (Frame f) ∙ all_same (with_entries arrived tasks) l (Frame f) named_here
+  pub arrive_same : with_entries arrival_of (all_replaced tasks l (Frame f)) ≡ with_entries arrival_of tasks
+  arrive_same = changed_all arrival_of tasks l (Frame f) ∙ all_same (with_entries arrival_of tasks) l (Frame f) named_here
 
   -- .. and are not held any more
   pub arrive_fewer : (g pid v : ℕ) → entry_at (all_replaced tasks l (Frame f)) pid v ≡ Some (Held g) → (entry_at tasks pid v ≡ Some (Held g)) × (f ≡ g → ⊥)
   arrive_fewer g pid v h =
       elim (has_spot l (pid, v)) as (λ b. has_spot l (pid, v) ≡ b → cond b (Some (Frame f)) (entry_at tasks pid v) ≡ Some (Held g) → (entry_at tasks pid v ≡ Some (Held g)) × (f ≡ g → ⊥)) [
         | true ↦ λ b k. absurd (frame_held k)
-        | false ↦ λ b k. (k, λ e. both_ways _ b (named pid v ∙ ap (names f) (changed_at arrived tasks pid v ∙ ap (option_map arrived) k) ∙ eq-eqb g f (sym e)))
+        | false ↦ λ b k. (k, λ e. both_ways _ b (named pid v ∙ ap (names f) (changed_at arrival_of tasks pid v ∙ ap (option_map arrival_of) k) ∙ eq-eqb g f (sym e)))
       ] refl (sym (entry_at-all_replaced tasks l (Frame f) (pid, v) named_there) ∙ h)
 
-module _ (tasks : Map ℕ Task) (m : Mapped) (r : Mappers) (p : Page) (from to : ℕ) (t : IsTied (with_entries arrived tasks) m r) (placed : get page_cmp m.place p ≡ Some from) (spare : IsSpare m r to) where
-  arrives : with_entries arrived (all_replaced tasks (mappers_of r from) (Held to)) ≡ remapped (with_entries arrived tasks) (mappers_of r from) to
-  arrives = changed_all arrived tasks (mappers_of r from) (Held to)
+module _ (tasks : Map ℕ Task) (m : Mapping) (r : Mappers) (p : Page) (from to : ℕ) (t : IsTied (with_entries arrival_of tasks) m r) (placed : get page_cmp m.place p ≡ Some from) (spare : IsSpare m r to) where
+  arrives : with_entries arrival_of (all_replaced tasks (mappers_of r from) (Held to)) ≡ remapped (with_entries arrival_of tasks) (mappers_of r from) to
+  arrives = changed_all arrival_of tasks (mappers_of r from) (Held to)
 
-  pub hold_tied : IsTied (with_entries arrived (all_replaced tasks (mappers_of r from) (Held to))) (with_frame m p to) (carried r from to)
-  hold_tied = subst (λ (ts : Map ℕ Task). IsTied ts (with_frame m p to) (carried r from to)) (sym arrives) (move_tied (with_entries arrived tasks) m r p from to t placed spare)
+  pub hold_tied : IsTied (with_entries arrival_of (all_replaced tasks (mappers_of r from) (Held to))) (with_frame m p to) (carried r from to)
+  hold_tied = subst (λ (ts : Map ℕ Task). IsTied ts (with_frame m p to) (carried r from to)) (sym arrives) (move_tied (with_entries arrival_of tasks) m r p from to t placed spare)
 
   pub hold_shows : spaces_view (all_replaced tasks (mappers_of r from) (Held to)) (with_frame m p to) (carried r from to) ≡ with_moved (spaces_view tasks m r) p to
   hold_shows =
       sym (shown_arrived (all_replaced tasks (mappers_of r from) (Held to)) (with_frame m p to) (carried r from to))
       ∙ ap (λ (ts : Map ℕ Task). spaces_view ts (with_frame m p to) (carried r from to)) arrives
-      ∙ move_shows (with_entries arrived tasks) m r p from to t placed spare
+      ∙ move_shows (with_entries arrival_of tasks) m r p from to t placed spare
       ∙ ap (λ (y : AddressSpacesView). with_moved y p to) (shown_arrived tasks m r)
 
   pub hold_entries : (pid v : ℕ) → entry_at (all_replaced tasks (mappers_of r from) (Held to)) pid v ≡ option_map (held_for from to) (entry_at tasks pid v)
   hold_entries pid v =
       entry_at-all_replaced tasks (mappers_of r from) (Held to) (pid, v) (named_there tasks (mappers_of r from) from (t.mappers from))
-      ∙ ap (λ b. cond b (Some (Held to)) (entry_at tasks pid v)) (t.mappers from pid v ∙ ap (names from) (changed_at arrived tasks pid v))
+      ∙ ap (λ b. cond b (Some (Held to)) (entry_at tasks pid v)) (t.mappers from pid v ∙ ap (names from) (changed_at arrival_of tasks pid v))
       ∙ held_entry from to (entry_at tasks pid v)
 
 -- pages that are held, and frames
@@ -322,8 +322,8 @@ still_taken t moves f apart h =
 
 -- ---- entries while no page is on its way
 
-module _ (tasks : Map ℕ Task) (m : Mapped) (r : Mappers) (t : IsTied tasks m r) where
-  pub settled_arrived : IsTied (with_entries arrived tasks) m r
+module _ (tasks : Map ℕ Task) (m : Mapping) (r : Mappers) (t : IsTied tasks m r) where
+  pub settled_arrived : IsTied (with_entries arrival_of tasks) m r
   settled_arrived = subst (λ (ts : Map ℕ Task). IsTied ts m r) (sym (all_arrived tasks (order_in tasks m r t) t.settled)) t
 
   again_one : (pid v : ℕ) (o : Option Entry) → entry_at tasks pid v ≡ o → o ≡ option_map (entry_of m.place) (option_map (sight_of m.areas pid v) o)

@@ -12,7 +12,7 @@ use Rattle.nm_types.specs.State.{page_at}
 use Rattle.nm_types.proofs.Cases.{some_is}
 use Rattle.nm_types.specs.declared.entry.Entry.{Entry}
 use Rattle.nm_types.specs.declared.entry.Entry.TheVariants.{Zero, Frame, Held}
-use Rattle.nm_model.specs.definitions.Areas.{Mapped}
+use Rattle.nm_model.specs.definitions.Areas.{Mapping}
 use Rattle.nm_model.specs.definitions.Areas.{with_frame}
 use Rattle.nm_rmap.specs.Mappers.{Mappers, mappers_of, frame_pins, carried}
 use Rattle.nm_model.specs.definitions.PageTables.{Task, entry_at}
@@ -26,7 +26,7 @@ pub frame_held : {f g : ℕ} → Some (Frame f) ≡ Some (Held g) → ⊥
 frame_held e = cc
 
 -- a frame that no page has
-pub record IsSpare (m : Mapped) (r : Mappers) (f : ℕ) : Type 0 where
+pub record IsSpare (m : Mapping) (r : Mappers) (f : ℕ) : Type 0 where
   pub place : (q : Page) → get page_cmp m.place q ≡ Some f → ⊥
   pub frame : f < length r.mappings
 
@@ -64,11 +64,11 @@ no_spot [] h = refl
 no_spot (s ∷ l) h = absurd (both_ways _ (h s) (or_left _ _ (ap is_eq (tied_itself spot_cmp_total s))))
 
 -- nothing names a spare frame
-pub spare_unnamed : (tasks : Map ℕ Task) (m : Mapped) (r : Mappers) (f : ℕ) → IsTied tasks m r → IsSpare m r f → (pid v : ℕ) → names f (entry_at tasks pid v) ≡ false
+pub spare_unnamed : (tasks : Map ℕ Task) (m : Mapping) (r : Mappers) (f : ℕ) → IsTied tasks m r → IsSpare m r f → (pid v : ℕ) → names f (entry_at tasks pid v) ≡ false
 spare_unnamed tasks m r f t spare pid v = false_from_ne_true _ (λ h. let p = t.shows f pid v h in spare.place p.0 p.2)
 
 -- a spare frame has no mappers
-pub spare_without : (tasks : Map ℕ Task) (m : Mapped) (r : Mappers) (f : ℕ) → IsTied tasks m r → IsSpare m r f → mappers_of r f ≡ []
+pub spare_without : (tasks : Map ℕ Task) (m : Mapping) (r : Mappers) (f : ℕ) → IsTied tasks m r → IsSpare m r f → mappers_of r f ≡ []
 spare_without tasks m r f t spare = no_spot (mappers_of r f) (λ q. t.mappers f q.0 q.1 ∙ spare_unnamed tasks m r f t spare q.0 q.1)
 
 -- what an entry names after the entries that named a frame name another one
@@ -92,7 +92,7 @@ names_after f from to o apart unnamed =
       ] refl
     ] refl
 
-module _ (tasks : Map ℕ Task) (m : Mapped) (r : Mappers) (p : Page) (from to : ℕ) (t : IsTied tasks m r) (placed : get page_cmp m.place p ≡ Some from) (spare : IsSpare m r to) where
+module _ (tasks : Map ℕ Task) (m : Mapping) (r : Mappers) (p : Page) (from to : ℕ) (t : IsTied tasks m r) (placed : get page_cmp m.place p ≡ Some from) (spare : IsSpare m r to) where
   pub frames_apart : from ≡ to → ⊥
   frames_apart e = spare.place p (placed ∙ ap Some e)
 
@@ -207,10 +207,10 @@ module _ (tasks : Map ℕ Task) (m : Mapped) (r : Mappers) (p : Page) (from to :
   }
 
 -- what is known of what is shown is known of the parts
-pub placed_in : (y : AddressSpacesView) (tasks : Map ℕ Task) (m : Mapped) (r : Mappers) (p : Page) (f : ℕ) → spaces_view tasks m r ≡ y → get page_cmp y.place p ≡ Some f → get page_cmp m.place p ≡ Some f
+pub placed_in : (y : AddressSpacesView) (tasks : Map ℕ Task) (m : Mapping) (r : Mappers) (p : Page) (f : ℕ) → spaces_view tasks m r ≡ y → get page_cmp y.place p ≡ Some f → get page_cmp m.place p ≡ Some f
 placed_in y tasks m r p f is h = subst (λ (y : AddressSpacesView). get page_cmp y.place p ≡ Some f) (sym is) h
 
-pub spare_in : (y : AddressSpacesView) (tasks : Map ℕ Task) (m : Mapped) (r : Mappers) (f : ℕ) → spaces_view tasks m r ≡ y → f < y.frames → ((q : Page) → get page_cmp y.place q ≡ Some f → ⊥) → IsSpare m r f
+pub spare_in : (y : AddressSpacesView) (tasks : Map ℕ Task) (m : Mapping) (r : Mappers) (f : ℕ) → spaces_view tasks m r ≡ y → f < y.frames → ((q : Page) → get page_cmp y.place q ≡ Some f → ⊥) → IsSpare m r f
 spare_in y tasks m r f is below none = record {
   place = subst (λ (y : AddressSpacesView). (q : Page) → get page_cmp y.place q ≡ Some f → ⊥) (sym is) none;
   frame = subst (λ (y : AddressSpacesView). f < y.frames) (sym is) below;

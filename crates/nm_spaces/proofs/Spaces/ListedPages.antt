@@ -17,13 +17,13 @@ use Rattle.nm_types.specs.Map.{Map, get, page_cmp, with_values}
 use Rattle.nm_types.specs.State.{page_at}
 use Rattle.nm_types.proofs.Maps.{all_from_get}
 use Rattle.nm_types.specs.declared.entry.Entry.{Entry}
-use Rattle.nm_model.specs.definitions.Areas.{Mapped}
+use Rattle.nm_model.specs.definitions.Areas.{Mapping}
 use Rattle.nm_rmap.specs.Mappers.{Mappers}
 use Rattle.nm_tables.specs.Lists.{IsCutShort}
 use Rattle.nm_types.specs.declared.located.Located.{Located}
 use Rattle.nm_spaces.specs.views.AddressSpaces.{AddressSpacesView, spaces_view}
 use Rattle.nm_model.specs.definitions.PageTables.{sight_of, page_here}
-use Rattle.nm_model.specs.definitions.Seen.{located, located_in, in_frame}
+use Rattle.nm_model.specs.definitions.Seen.{locate, located_in, in_frame}
 use Rattle.nm_model.specs.definitions.PageTables.{Task, entry_at}
 use Rattle.nm_spaces.specs.views.ProcessTable.{entries_in, names}
 use Rattle.nm_model.specs.definitions.Seen.{between, sights}
@@ -38,14 +38,14 @@ pages_in g place areas pid es = located_in g place (with_values (sight_of areas 
 
 module _ (g : Layout) (place : Map Page ℕ) (areas : Map (ℕ × ℕ) Area) (pid : ℕ) (es : Map ℕ Entry) (k : ℕ) where
   module _ (e : ℕ × Entry) (low : k < length es) (is : e ≡ get_or es k e) where
-    next : pages_in g place areas pid (drop k es) ≡ located g place e.0 (sight_of areas pid e.0 e.1) ++ pages_in g place areas pid (drop (k + 1) es)
+    next : pages_in g place areas pid (drop k es) ≡ locate g place e.0 (sight_of areas pid e.0 e.1) ++ pages_in g place areas pid (drop (k + 1) es)
     next =
         let more : suc k ≡ k + 1 = omega arith in
         ap (pages_in g place areas pid) (drop-cons es k e low ∙ ap (λ (x : ℕ × Entry). x ∷ drop (suc k) es) (sym is) ∙ ap (λ j. e ∷ drop j es) more)
-        ∙ flat_map-cons (λ (x : ℕ × _). located g place x.0 x.1) (e.0, sight_of areas pid e.0 e.1) (with_values (sight_of areas pid) (drop (k + 1) es))
+        ∙ flat_map-cons (λ (x : ℕ × _). locate g place x.0 x.1) (e.0, sight_of areas pid e.0 e.1) (with_values (sight_of areas pid) (drop (k + 1) es))
 
     -- an entry with these pages behind it
-    pub step : (pages done all : List Located) → located g place e.0 (sight_of areas pid e.0 e.1) ≡ pages → done ++ pages_in g place areas pid (drop k es) ≡ all → (done ++ pages) ++ pages_in g place areas pid (drop (k + 1) es) ≡ all
+    pub step : (pages done all : List Located) → locate g place e.0 (sight_of areas pid e.0 e.1) ≡ pages → done ++ pages_in g place areas pid (drop k es) ≡ all → (done ++ pages) ++ pages_in g place areas pid (drop (k + 1) es) ≡ all
     step pages done all here before =
         append_assoc done pages (pages_in g place areas pid (drop (k + 1) es))
         ∙ ap (λ xs. done ++ (xs ++ pages_in g place areas pid (drop (k + 1) es))) (sym here)
@@ -53,7 +53,7 @@ module _ (g : Layout) (place : Map Page ℕ) (areas : Map (ℕ × ℕ) Area) (pi
         ∙ before
 
     -- an entry without a page
-    pub step_over : (done all : List Located) → located g place e.0 (sight_of areas pid e.0 e.1) ≡ [] → done ++ pages_in g place areas pid (drop k es) ≡ all → done ++ pages_in g place areas pid (drop (k + 1) es) ≡ all
+    pub step_over : (done all : List Located) → locate g place e.0 (sight_of areas pid e.0 e.1) ≡ [] → done ++ pages_in g place areas pid (drop k es) ≡ all → done ++ pages_in g place areas pid (drop (k + 1) es) ≡ all
     step_over done all here before =
         ap (λ xs. done ++ (xs ++ pages_in g place areas pid (drop (k + 1) es))) (sym here) ∙ ap (λ xs. done ++ xs) (sym next) ∙ before
 
@@ -63,7 +63,7 @@ module _ (g : Layout) (place : Map Page ℕ) (areas : Map (ℕ × ℕ) Area) (pi
       sym (append-nil done) ∙ ap (λ xs. done ++ pages_in g place areas pid xs) (sym (drop_all k es past)) ∙ before
 
 module _ (g : Layout) (place : Map Page ℕ) where
-  one_at_most : (v : ℕ) (x : Sight) → length (located g place v x) ≤ 1
+  one_at_most : (v : ℕ) (x : Sight) → length (locate g place v x) ≤ 1
   one_at_most v ZeroPage = omega arith
   one_at_most v (Sees p) =
       elim (get page_cmp place p) as (λ o. length (in_frame g v p o) ≤ 1) [ None ↦ omega arith | Some frame ↦ omega arith ]
@@ -74,8 +74,8 @@ module _ (g : Layout) (place : Map Page ℕ) where
   few_behind areas pid (e ∷ es) =
       let x = sight_of areas pid e.0 e.1 in
       let all =
-      ap length (flat_map-cons (λ (x : ℕ × _). located g place x.0 x.1) (e.0, x) (with_values (sight_of areas pid) es))
-      ∙ length-append (located g place e.0 x) (pages_in g place areas pid es) in
+      ap length (flat_map-cons (λ (x : ℕ × _). locate g place x.0 x.1) (e.0, x) (with_values (sight_of areas pid) es))
+      ∙ length-append (locate g place e.0 x) (pages_in g place areas pid es) in
       omega (arith, all, one_at_most e.0 x, few_behind areas pid es)
 
   all_both : (P : Located → Type 0) (xs ys : List Located) → AllByRecursion P xs → AllByRecursion P ys → AllByRecursion P (xs ++ ys)
@@ -86,7 +86,7 @@ module _ (g : Layout) (place : Map Page ℕ) where
   in_its_frame v p None e = tt
   in_its_frame v p (Some frame) e = (e, tt)
 
-  in_place : (v : ℕ) (x : Sight) → AllByRecursion (λ e. get page_cmp place e.page ≡ Some e.frame) (located g place v x)
+  in_place : (v : ℕ) (x : Sight) → AllByRecursion (λ e. get page_cmp place e.page ≡ Some e.frame) (locate g place v x)
   in_place v ZeroPage = tt
   in_place v (Sees p) = in_its_frame v p (get page_cmp place p) refl
 
@@ -94,8 +94,8 @@ module _ (g : Layout) (place : Map Page ℕ) where
   pub all_in_place : (sees : Map ℕ Sight) → AllByRecursion (λ e. get page_cmp place e.page ≡ Some e.frame) (located_in g place sees)
   all_in_place [] = tt
   all_in_place (e ∷ sees) =
-      subst (AllByRecursion (λ e. get page_cmp place e.page ≡ Some e.frame)) (sym (flat_map-cons (λ (x : ℕ × _). located g place x.0 x.1) e sees))
-      (all_both (λ e. get page_cmp place e.page ≡ Some e.frame) (located g place e.0 e.1) (located_in g place sees) (in_place e.0 e.1) (all_in_place sees))
+      subst (AllByRecursion (λ e. get page_cmp place e.page ≡ Some e.frame)) (sym (flat_map-cons (λ (x : ℕ × _). locate g place x.0 x.1) e sees))
+      (all_both (λ e. get page_cmp place e.page ≡ Some e.frame) (locate g place e.0 e.1) (located_in g place sees) (in_place e.0 e.1) (all_in_place sees))
 
 -- ---- what stands behind an entry
 
@@ -112,7 +112,7 @@ all_at P [] k x h low = absurd (omega (arith, low))
 all_at P (y ∷ xs) zero x h low = h.0
 all_at P (y ∷ xs) (suc k) x h low = all_at P xs k x h.1 (omega (arith, low))
 
-module _ (y : AddressSpacesView) (tasks : Map ℕ Task) (m : Mapped) (r : Mappers) (pid : ℕ) (is : spaces_view tasks m r ≡ y) (h : IsTied tasks m r) where
+module _ (y : AddressSpacesView) (tasks : Map ℕ Task) (m : Mapping) (r : Mappers) (pid : ℕ) (is : spaces_view tasks m r ≡ y) (h : IsTied tasks m r) where
   found : AllByRecursion (λ e. entry_at tasks pid e.0 ≡ Some e.1) (entries_in tasks pid)
   found =
       all_from_get nat_cmp_total exact_unsigned (λ v x. entry_at tasks pid v ≡ Some x) (entries_in tasks pid) (sorted_of tasks pid (get nat_cmp tasks pid) h.tables refl)
@@ -143,13 +143,13 @@ module _ (y : AddressSpacesView) (tasks : Map ℕ Task) (m : Mapped) (r : Mapper
 
   -- the pages of a range begin with what stands behind its first entry
   pub next_located : (g : Layout) (first end v : ℕ) (e : Entry) (pages : List Located) → first ≤ v → v < end → entry_at tasks pid v ≡ Some e → ((w : ℕ) → first ≤ w → w < v → entry_at tasks pid w ≡ None)
-      → located g y.place v (sight_of y.areas pid v e) ≡ pages
+      → locate g y.place v (sight_of y.areas pid v e) ≡ pages
       → located_in g y.place (between first end (sights y.processes pid)) ≡ pages ++ located_in g y.place (between (v + 1) end (sights y.processes pid))
   next_located g first end v e pages low high there none here =
       let rest = between (v + 1) end (sights y.processes pid) in
       ap (located_in g y.place) (next_sight y tasks m r pid is h first end v e (sight_of m.areas pid v e) low high there none refl)
-      ∙ flat_map-cons (λ (x : ℕ × Sight). located g y.place x.0 x.1) (v, sight_of m.areas pid v e) rest
-      ∙ ap (λ xs. xs ++ located_in g y.place rest) (ap (λ (z : AddressSpacesView). located g y.place v (sight_of z.areas pid v e)) is ∙ here)
+      ∙ flat_map-cons (λ (x : ℕ × Sight). locate g y.place x.0 x.1) (v, sight_of m.areas pid v e) rest
+      ∙ ap (λ xs. xs ++ located_in g y.place rest) (ap (λ (z : AddressSpacesView). locate g y.place v (sight_of z.areas pid v e)) is ∙ here)
 
   -- no page is in a range without entries
   pub none_located : (g : Layout) (first end : ℕ) → ((w : ℕ) → first ≤ w → w < end → entry_at tasks pid w ≡ None) → located_in g y.place (between first end (sights y.processes pid)) ≡ []

@@ -10,7 +10,7 @@ use Rattle.nm_types.specs.State.{page_at}
 use Rattle.nm_types.proofs.Cases.{some_is}
 use Rattle.nm_model.specs.definitions.Seen.{sight_in, look_at_place, look_by_sight, look_behind, look_in}
 use Rattle.nm_types.specs.declared.entry.Entry.{Entry}
-use Rattle.nm_model.specs.definitions.Areas.{Mapped}
+use Rattle.nm_model.specs.definitions.Areas.{Mapping}
 use Rattle.nm_rmap.specs.Mappers.{Mappers}
 use Rattle.nm_spaces.specs.views.AddressSpaces.{AddressSpacesView, spaces_view}
 use Rattle.nm_model.specs.definitions.PageTables.{sight_of, page_here}
@@ -19,7 +19,7 @@ use Rattle.nm_spaces.specs.views.ProcessTable.{names}
 use Rattle.nm_spaces.specs.definitions.Tied.{IsTied}
 use Rattle.nm_spaces.proofs.Tied.Beginnings.{seen_here, seen_page}
 
-module _ (y : AddressSpacesView) (tasks : Map ℕ Task) (m : Mapped) (r : Mappers) (pid v : ℕ) (page : Page) (is : spaces_view tasks m r ≡ y) (at : Some page ≡ page_at y.areas pid v) where
+module _ (y : AddressSpacesView) (tasks : Map ℕ Task) (m : Mapping) (r : Mappers) (pid v : ℕ) (page : Page) (is : spaces_view tasks m r ≡ y) (at : Some page ≡ page_at y.areas pid v) where
   -- where an area is, it is what is seen there
   pub looked_there : (o : Option Entry) → o ≡ entry_at tasks pid v → look_in y.processes y.areas y.place y.pins pid v ≡ look_by_sight y.processes y.place y.pins (option_map (sight_of m.areas pid v) o)
   looked_there o there =

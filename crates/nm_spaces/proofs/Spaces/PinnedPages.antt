@@ -7,7 +7,7 @@ use Rattle.std.proofs.lemmas.Bool.{or_left, or_right, eqb-true, eq-eqb, lt-ltb}
 use Rattle.nm_types.specs.declared.page.Page.{Page}
 use Rattle.nm_types.specs.declared.area.Area.{Area}
 use Rattle.nm_types.specs.Map.{Map, get, page_cmp}
-use Rattle.nm_model.specs.definitions.Areas.{Mapped}
+use Rattle.nm_model.specs.definitions.Areas.{Mapping}
 use Rattle.nm_rmap.specs.Mappers.{Mappers}
 use Rattle.nm_rmap.specs.Mappers.{frame_pins as pins_of_frame}
 use Rattle.nm_model.specs.definitions.PageTables.{Task}
@@ -94,7 +94,7 @@ unpinned_at (n ∷ pins) (suc f) h = unpinned_at pins f (elim (nat_lt 0 n) as (�
 
 -- ---- the pins of pages that a process shows, by the reverse map
 
-module _ (y : AddressSpacesView) (tasks : Map ℕ Task) (m : Mapped) (r : Mappers) (is : spaces_view tasks m r ≡ y) where
+module _ (y : AddressSpacesView) (tasks : Map ℕ Task) (m : Mapping) (r : Mappers) (is : spaces_view tasks m r ≡ y) where
   pub placed_pins : (p : Page) (f : ℕ) → get page_cmp m.place p ≡ Some f → pins_here y p ≡ pins_of_frame r f
   placed_pins p f placed = pins_shown y tasks m r p f is (ap (λ (y : AddressSpacesView). get page_cmp y.place p) (sym is) ∙ placed)
 

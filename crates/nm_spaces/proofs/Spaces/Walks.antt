@@ -24,7 +24,7 @@ use Rattle.nm_types.specs.declared.sight.Sight.{Sight}
 use Rattle.nm_types.specs.State.{Process}
 use Rattle.nm_types.proofs.Keys.{All-get}
 use Rattle.nm_types.specs.declared.entry.Entry.{Entry}
-use Rattle.nm_model.specs.definitions.Areas.{Mapped}
+use Rattle.nm_model.specs.definitions.Areas.{Mapping}
 use Rattle.nm_rmap.specs.Mappers.{Mappers}
 use Rattle.nm_model.specs.definitions.PageTables.{Task, entry_in, entry_at}
 use Rattle.nm_spaces.specs.views.ProcessTable.{task_table, entries_in}
@@ -186,7 +186,7 @@ between_values F (e ∷ m) first end =
       | false ↦ rest
     ]
 
-module _ (y : AddressSpacesView) (tasks : Map ℕ Task) (m : Mapped) (r : Mappers) (pid : ℕ) (is : spaces_view tasks m r ≡ y) (h : IsTied tasks m r) where
+module _ (y : AddressSpacesView) (tasks : Map ℕ Task) (m : Mapping) (r : Mappers) (pid : ℕ) (is : spaces_view tasks m r ≡ y) (h : IsTied tasks m r) where
   pub sees_shown : sights y.processes pid ≡ with_values (sight_of m.areas pid) (entries_in tasks pid)
   sees_shown =
       ap (λ (y : AddressSpacesView). sights y.processes pid) (sym is)

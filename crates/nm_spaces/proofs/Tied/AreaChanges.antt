@@ -24,8 +24,8 @@ use Rattle.nm_types.specs.declared.machine_error.MachineError.{MachineError}
 use Rattle.nm_types.specs.declared.machine_error.MachineError.TheVariants as error
 use Rattle.nm_types.specs.Does.{Makes}
 use Rattle.nm_model.specs.definitions.Areas.{over_with, with_policy}
-use Rattle.nm_model.specs.definitions.Areas.{repoliced}
-use Rattle.nm_model.specs.definitions.Areas.{Mapped}
+use Rattle.nm_model.specs.definitions.Areas.{parts_with_policy}
+use Rattle.nm_model.specs.definitions.Areas.{Mapping}
 use Rattle.nm_model.specs.definitions.AreaRefusal.{first_error, is_range, is_room, is_stretch, insert_refusal, stretch_refusal, overlaps}
 use Rattle.nm_rmap.specs.Mappers.{Mappers}
 use Rattle.nm_model.specs.definitions.PageTables.{Task, entry_at, entry_in}
@@ -39,14 +39,14 @@ use Rattle.nm_spaces.proofs.Held.ReplacedEntries.{TableInOrder}
 use Rattle.nm_model.proofs.areas.Apart.{NoneOverlaps, apart_from_new, all_from_none, one_more}
 
 -- every page that was shown is still shown there, and frames stay
-pub record IsShownStill (m n : Mapped) : Type 0 where
+pub record IsShownStill (m n : Mapping) : Type 0 where
   pub place : n.place ≡ m.place
   pub pages : (pid v : ℕ) (p : Page) → page_at m.areas pid v ≡ Some p → page_at n.areas pid v ≡ Some p
 
-pub still_same : (m n : Mapped) → n ≡ m → IsShownStill m n
-still_same m n is = subst (λ (n : Mapped). IsShownStill m n) (sym is) (record { place = refl; pages = λ pid v p h. h })
+pub still_same : (m n : Mapping) → n ≡ m → IsShownStill m n
+still_same m n is = subst (λ (n : Mapping). IsShownStill m n) (sym is) (record { place = refl; pages = λ pid v p h. h })
 
-module _ (tasks : Map ℕ Task) (m n : Mapped) (r : Mappers) (t : IsTied tasks m r) (k : IsShownStill m n) where
+module _ (tasks : Map ℕ Task) (m n : Mapping) (r : Mappers) (t : IsTied tasks m r) (k : IsShownStill m n) where
   -- they stay tied
   pub still_tied : IsTied tasks n r
   still_tied = record {
@@ -116,7 +116,7 @@ not_over_new pid first new (a ∷ areas) q v p h at =
     ] refl at
 
 -- one more area where there was room
-pub still_with_new : (m n : Mapped) (pid address : ℕ) (new : Area) → is_room m.areas pid address new.pages ≡ true → n.place ≡ m.place
+pub still_with_new : (m n : Mapping) (pid address : ℕ) (new : Area) → is_room m.areas pid address new.pages ≡ true → n.place ≡ m.place
     → ((q v : ℕ) → area_over n.areas q v ≡ over_with m.areas ((pid, address / 4096), new) q v) → IsShownStill m n
 still_with_new m n pid address new room place over =
     let first = address / 4096 in
@@ -127,42 +127,42 @@ still_with_new m n pid address new room place over =
           ap (λ o. page_shown o v) (over q v ∙ ap (λ b. cond b (Some (one_more pid first new)) (area_over m.areas q v)) (not_over_new pid first new m.areas q v p free h)) ∙ h;
     }
 
-pub insert_room : (m : Mapped) (pid address pages : ℕ) → insert_refusal m pid address pages ≡ None → is_room m.areas pid address pages ≡ true
+pub insert_room : (m : Mapping) (pid address pages : ℕ) → insert_refusal m pid address pages ≡ None → is_room m.areas pid address pages ≡ true
 insert_room m pid address pages h = not_false _ (no_error (not (is_room m.areas pid address pages)) Einval ((nat_le 65536 m.next, Enomem) ∷ []) h)
 
-pub attach_room : (m : Mapped) (pid address segment offset pages : ℕ) → stretch_refusal m pid address segment offset pages ≡ None → is_room m.areas pid address pages ≡ true
+pub attach_room : (m : Mapping) (pid address segment offset pages : ℕ) → stretch_refusal m pid address segment offset pages ≡ None → is_room m.areas pid address pages ≡ true
 attach_room m pid address segment offset pages h =
     let fits = is_room m.areas pid address pages && is_stretch (get nat_cmp m.segments segment) offset pages in
     (and_parts (is_room m.areas pid address pages) _ (not_false fits (no_error (not fits) Einval [] h))).0
 
 -- what holds if a call does what it should, and if it changes nothing, holds in any case
-pub from_makes : {T P F : Type 0} (result : Result T MachineError) (old new after : Mapped) (refusal : Option Errno) → (refusal ≡ None → new ≡ after → F → P) → (new ≡ old → P)
+pub from_makes : {T P F : Type 0} (result : Result T MachineError) (old new after : Mapping) (refusal : Option Errno) → (refusal ≡ None → new ≡ after → F → P) → (new ≡ old → P)
     → Makes result old new refusal after → OnOk result F → P
 from_makes (Ok x) old new after refusal f g h k = f h.0 h.1 k
 from_makes (Err (error.Refused e)) old new after refusal f g h k = g h.1
 from_makes (Err error.HostMemory) old new after refusal f g h k = g h
 
 -- a policy that is set changes no frame
-place_policed : (m : Mapped) (pid first end : ℕ) (policy : Policy) → (with_policy m pid first end policy).place ≡ m.place
+place_policed : (m : Mapping) (pid first end : ℕ) (policy : Policy) → (with_policy m pid first end policy).place ≡ m.place
 place_policed m pid first end policy =
-    let n : Mapped = record m { areas = flat_map (repoliced pid first end policy) m.areas } in
+    let n : Mapping = record m { areas = flat_map (parts_with_policy pid first end policy) m.areas } in
     elim (nat_lt first end) as (λ b. (cond b n m).place ≡ m.place) [ true ↦ refl | false ↦ refl ]
 
-pub policed_still : {T E : Type 0} (m n : Mapped) (pid first end : ℕ) (policy : Policy) (result : Result T E) → OnOk result (n ≡ with_policy m pid first end policy) → OnErr result (n ≡ m)
+pub policed_still : {T E : Type 0} (m n : Mapping) (pid first end : ℕ) (policy : Policy) (result : Result T E) → OnOk result (n ≡ with_policy m pid first end policy) → OnErr result (n ≡ m)
     → ((q v : ℕ) → page_at n.areas q v ≡ page_at m.areas q v) → IsShownStill m n
 policed_still m n pid first end policy (Ok x) made kept same =
-    record { place = ap (λ (n : Mapped). n.place) made ∙ place_policed m pid first end policy; pages = λ q v p k. same q v ∙ k }
+    record { place = ap (λ (n : Mapping). n.place) made ∙ place_policed m pid first end policy; pages = λ q v p k. same q v ∙ k }
 policed_still m n pid first end policy (Err e) made kept same = still_same m n kept
 
 -- the same for a call that may refuse
-pub made_still : {T : Type 0} (m n : Mapped) (pid first end : ℕ) (policy : Policy) (refusal : Option Errno) (result : Result T MachineError) → Makes result m n refusal (with_policy m pid first end policy)
+pub made_still : {T : Type 0} (m n : Mapping) (pid first end : ℕ) (policy : Policy) (refusal : Option Errno) (result : Result T MachineError) → Makes result m n refusal (with_policy m pid first end policy)
     → ((q v : ℕ) → page_at n.areas q v ≡ page_at m.areas q v) → IsShownStill m n
 made_still m n pid first end policy refusal (Ok x) made same = policed_still {E = Errno} m n pid first end policy (Ok x) made.1 tt same
 made_still m n pid first end policy refusal (Err (error.Refused e)) made same = still_same m n made.1
 made_still m n pid first end policy refusal (Err error.HostMemory) made same = still_same m n made
 
 -- what is seen where a policy is set
-pub policed_seen : {T E : Type 0} (x y : AddressSpacesView) (m : Mapped) (result : Result T E) → x ≡ with_mapped y (mapped_of x) → OnOk result (mapped_of x ≡ m) → OnOk result (x ≡ with_mapped y m)
+pub policed_seen : {T E : Type 0} (x y : AddressSpacesView) (m : Mapping) (result : Result T E) → x ≡ with_mapped y (mapped_of x) → OnOk result (mapped_of x ≡ m) → OnOk result (x ≡ with_mapped y m)
 policed_seen x y m (Ok value) same made = same ∙ ap (with_mapped y) made
 policed_seen x y m (Err e) same made = tt
 

@@ -18,11 +18,11 @@ use Rattle.nm_model.specs.definitions.Seen.{sight_in}
 use Rattle.nm_types.specs.declared.entry.Entry.{Entry}
 use Rattle.nm_types.specs.declared.entry.Entry.TheVariants.{Zero, Frame, Held}
 use Rattle.nm_model.specs.definitions.Areas.{no_areas}
-use Rattle.nm_model.specs.definitions.Areas.{Mapped}
+use Rattle.nm_model.specs.definitions.Areas.{Mapping}
 use Rattle.nm_rmap.specs.Mappers.{Mappers, new_map}
 use Rattle.nm_types.specs.declared.process.ProcessInfo.{ProcessInfo}
 use Rattle.nm_model.specs.definitions.PageTables.{entry_of}
-use Rattle.nm_model.specs.definitions.Effect.{info_of, untouched}
+use Rattle.nm_model.specs.definitions.Effect.{info_of, new_process}
 use Rattle.nm_model.specs.definitions.PageTables.{Task, entry_at, entry_in}
 use Rattle.nm_spaces.specs.views.ProcessTable.{new_task, task_info, task_table, names}
 use Rattle.nm_spaces.specs.views.AddressSpaces.{AddressSpacesView, spaces_view}
@@ -62,11 +62,11 @@ unmap_none f None h = refl
 unmap_none f (Some a) h = cc
 
 -- a process that is not shown has no table
-pub no_task : (y : AddressSpacesView) (tasks : Map ℕ Task) (m : Mapped) (r : Mappers) (pid : ℕ) → spaces_view tasks m r ≡ y → get nat_cmp y.processes pid ≡ None → get nat_cmp tasks pid ≡ None
+pub no_task : (y : AddressSpacesView) (tasks : Map ℕ Task) (m : Mapping) (r : Mappers) (pid : ℕ) → spaces_view tasks m r ≡ y → get nat_cmp y.processes pid ≡ None → get nat_cmp tasks pid ≡ None
 no_task y tasks m r pid is h =
     unmap_none (process_of m.areas pid) (get nat_cmp tasks pid) (sym (get-values exact_unsigned (process_of m.areas) tasks pid) ∙ ap (λ (y : AddressSpacesView). get nat_cmp y.processes pid) is ∙ h)
 
-module _ (tasks : Map ℕ Task) (m : Mapped) (r : Mappers) (pid : ℕ) (info : ProcessInfo) (h : IsTied tasks m r) (absent : get nat_cmp tasks pid ≡ None) where
+module _ (tasks : Map ℕ Task) (m : Mapping) (r : Mappers) (pid : ℕ) (info : ProcessInfo) (h : IsTied tasks m r) (absent : get nat_cmp tasks pid ≡ None) where
   entry_after : (q v : ℕ) → entry_at (set nat_cmp tasks pid (new_task info)) q v ≡ entry_at tasks q v
   entry_after q v =
       ap (λ o. entry_in o v) (get-set nat_cmp_total tasks pid (new_task info) q)
@@ -94,7 +94,7 @@ module _ (tasks : Map ℕ Task) (m : Mapped) (r : Mappers) (pid : ℕ) (info : P
     settled = λ f q v k. h.settled f q v (sym (entry_after q v) ∙ k);
   }
 
-  pub added_shows : spaces_view (set nat_cmp tasks pid (new_task info)) m r ≡ record (spaces_view tasks m r) { processes = set nat_cmp (spaces_view tasks m r).processes pid (untouched info) }
+  pub added_shows : spaces_view (set nat_cmp tasks pid (new_task info)) m r ≡ record (spaces_view tasks m r) { processes = set nat_cmp (spaces_view tasks m r).processes pid (new_process info) }
   added_shows = ap (λ ps. record (spaces_view tasks m r) { processes = ps }) (with_values-set exact_unsigned (process_of m.areas) tasks pid (new_task info))
 
 -- what is shown of a process that `spawn` fixed
@@ -102,16 +102,16 @@ info_in : (areas : Map (ℕ × ℕ) Area) (pid : ℕ) (o : Option Task) → opti
 info_in areas pid None = refl
 info_in areas pid (Some t) = refl
 
-pub info_shown : (y : AddressSpacesView) (tasks : Map ℕ Task) (m : Mapped) (r : Mappers) (pid : ℕ) → spaces_view tasks m r ≡ y → option_map task_info (get nat_cmp tasks pid) ≡ option_map info_of (get nat_cmp y.processes pid)
+pub info_shown : (y : AddressSpacesView) (tasks : Map ℕ Task) (m : Mapping) (r : Mappers) (pid : ℕ) → spaces_view tasks m r ≡ y → option_map task_info (get nat_cmp tasks pid) ≡ option_map info_of (get nat_cmp y.processes pid)
 info_shown y tasks m r pid is =
     info_in m.areas pid (get nat_cmp tasks pid) ∙ ap (option_map info_of) (sym (get-values exact_unsigned (process_of m.areas) tasks pid) ∙ ap (λ (y : AddressSpacesView). get nat_cmp y.processes pid) is)
 
 -- what is seen there is what the entry shows
-pub seen_here : (y : AddressSpacesView) (tasks : Map ℕ Task) (m : Mapped) (r : Mappers) (pid v : ℕ) (o : Option Entry) → spaces_view tasks m r ≡ y → o ≡ entry_at tasks pid v → option_map (sight_of m.areas pid v) o ≡ sight_in (get nat_cmp y.processes pid) v
+pub seen_here : (y : AddressSpacesView) (tasks : Map ℕ Task) (m : Mapping) (r : Mappers) (pid v : ℕ) (o : Option Entry) → spaces_view tasks m r ≡ y → o ≡ entry_at tasks pid v → option_map (sight_of m.areas pid v) o ≡ sight_in (get nat_cmp y.processes pid) v
 seen_here y tasks m r pid v o is e = ap (option_map (sight_of m.areas pid v)) e ∙ sym (sight_shown m.areas tasks pid v) ∙ ap (λ (y : AddressSpacesView). sight_in (get nat_cmp y.processes pid) v) is
 
 -- the entry of what it shows
-module _ (tasks : Map ℕ Task) (m : Mapped) (r : Mappers) (h : IsTied tasks m r) where
+module _ (tasks : Map ℕ Task) (m : Mapping) (r : Mappers) (h : IsTied tasks m r) where
   pub entry_again : (pid v : ℕ) (e : Entry) → entry_at tasks pid v ≡ Some e → entry_of m.place (sight_of m.areas pid v e) ≡ e
   entry_again pid v Zero k = refl
   entry_again pid v (Frame f) k =
@@ -140,7 +140,7 @@ module _ (tasks : Map ℕ Task) (m : Mapped) (r : Mappers) (h : IsTied tasks m r
       ∙ ap (λ (y : AddressSpacesView). option_map (λ (p : Process). with_values (λ v sight. entry_of y.place sight) p.sees) (get nat_cmp y.processes pid)) is
 
 -- a page that is seen
-pub seen_page : (y : AddressSpacesView) (tasks : Map ℕ Task) (m : Mapped) (r : Mappers) (pid v : ℕ) (e : Entry) (page : Page) → spaces_view tasks m r ≡ y → Some e ≡ entry_at tasks pid v → sight_of m.areas pid v e ≡ Sees (page_here m.areas pid v)
+pub seen_page : (y : AddressSpacesView) (tasks : Map ℕ Task) (m : Mapping) (r : Mappers) (pid v : ℕ) (e : Entry) (page : Page) → spaces_view tasks m r ≡ y → Some e ≡ entry_at tasks pid v → sight_of m.areas pid v e ≡ Sees (page_here m.areas pid v)
     → Some page ≡ page_at y.areas pid v → Some (Sees page) ≡ sight_in (get nat_cmp y.processes pid) v
 seen_page y tasks m r pid v e page is there sees at =
     ap (λ o. Some (Sees (unwrap_or o (record { segment = 0; index = 0 })))) (at ∙ ap (λ (y : AddressSpacesView). page_at y.areas pid v) (sym is))

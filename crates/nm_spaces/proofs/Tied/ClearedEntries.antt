@@ -21,7 +21,7 @@ use Rattle.nm_types.specs.State.{Process}
 use Rattle.nm_types.proofs.Cases.{true_false, none_some}
 use Rattle.nm_types.specs.declared.entry.Entry.{Entry}
 use Rattle.nm_types.specs.declared.entry.Entry.TheVariants.{Zero}
-use Rattle.nm_model.specs.definitions.Areas.{Mapped}
+use Rattle.nm_model.specs.definitions.Areas.{Mapping}
 use Rattle.nm_rmap.specs.Mappers.{Mappers, mappers_of, without_mapper}
 use Rattle.nm_model.specs.definitions.PageTables.{Task, entry_at, entry_in}
 use Rattle.nm_spaces.specs.views.ProcessTable.{frame_named, names, without_entry, cleared_between, cleared}
@@ -49,7 +49,7 @@ empty_table : (areas : Map (ℕ × ℕ) Area) (pid v : ℕ) (table : Map ℕ Ent
 empty_table areas pid v [] h = refl
 empty_table areas pid v (e ∷ table) h = cc
 
-module _ (y : AddressSpacesView) (tasks : Map ℕ Task) (m : Mapped) (r : Mappers) (pid : ℕ) (t : IsTied tasks m r) (is : spaces_view tasks m r ≡ y) (blind : (p : Process) → get nat_cmp y.processes pid ≡ Some p → p.sees ≡ []) where
+module _ (y : AddressSpacesView) (tasks : Map ℕ Task) (m : Mapping) (r : Mappers) (pid : ℕ) (t : IsTied tasks m r) (is : spaces_view tasks m r ≡ y) (blind : (p : Process) → get nat_cmp y.processes pid ≡ Some p → p.sees ≡ []) where
   nothing_in : (o : Option Task) → get nat_cmp tasks pid ≡ o → (v : ℕ) → entry_in o v ≡ None
   nothing_in None h v = refl
   nothing_in (Some task) h v =

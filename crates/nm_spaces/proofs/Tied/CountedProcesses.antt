@@ -21,7 +21,7 @@ use Rattle.nm_types.proofs.Cases.{none_some, some_is}
 use Rattle.nm_model.specs.definitions.Seen.{is_sight_of, sees_page}
 use Rattle.nm_types.specs.declared.entry.Entry.{Entry}
 use Rattle.nm_types.specs.declared.entry.Entry.TheVariants.{Zero, Frame, Held}
-use Rattle.nm_model.specs.definitions.Areas.{Mapped}
+use Rattle.nm_model.specs.definitions.Areas.{Mapping}
 use Rattle.nm_rmap.specs.Mappers.{Mappers, mappers_of, pids, process_count}
 use Rattle.nm_model.specs.definitions.PageTables.{Task, entry_at, entry_in}
 use Rattle.nm_spaces.specs.views.ProcessTable.{names}
@@ -103,7 +103,7 @@ unmap_some : {A B : Type 0} (f : A → B) (o : Option A) (b : B) → option_map 
 unmap_some f None b h = absurd (none_some h)
 unmap_some f (Some a) b h = (a, refl, some_is h)
 
-module _ (tasks : Map ℕ Task) (m : Mapped) (r : Mappers) (h : IsTied tasks m r) (p : Page) (f : ℕ) (placed : get page_cmp m.place p ≡ Some f) where
+module _ (tasks : Map ℕ Task) (m : Mapping) (r : Mappers) (h : IsTied tasks m r) (p : Page) (f : ℕ) (placed : get page_cmp m.place p ≡ Some f) where
   -- the page that an entry's frame has
   page_is : (g pid v : ℕ) → names g (entry_at tasks pid v) ≡ true → (s : Page) × (page_here m.areas pid v ≡ s) × (get page_cmp m.place s ≡ Some g)
   page_is g pid v n = let s = h.shows g pid v n in (s.0, ap (λ o. unwrap_or o (record { segment = 0; index = 0 })) s.1, s.2)

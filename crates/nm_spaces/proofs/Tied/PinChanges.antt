@@ -9,7 +9,7 @@ use Rattle.std.proofs.lemmas.Bool.{both_ways}
 use Rattle.std.proofs.lemmas.List.{get_or-set_same, get_or-set_other}
 use Rattle.nm_types.specs.declared.page.Page.{Page}
 use Rattle.nm_types.specs.Map.{Map, get, set, replace, with_values, page_cmp}
-use Rattle.nm_model.specs.definitions.Areas.{Mapped}
+use Rattle.nm_model.specs.definitions.Areas.{Mapping}
 use Rattle.nm_rmap.specs.Mappers.{Mappers, frame_pins, with_pins}
 use Rattle.nm_model.specs.definitions.PageTables.{Task}
 use Rattle.nm_spaces.specs.views.AddressSpaces.{AddressSpacesView, spaces_view, pins_in, pins_here, with_pins_of}
@@ -17,12 +17,12 @@ use Rattle.nm_spaces.specs.definitions.Tied.{IsTied}
 use Rattle.nm_types.proofs.Maps.{keys-values, get-values, page_cmp_total, exact_page, with_values-set, set_agree, set_same, replace_is_set}
 
 -- the pins of a page are its frame's
-pub pins_shown : (y : AddressSpacesView) (tasks : Map ℕ Task) (m : Mapped) (r : Mappers) (p : Page) (f : ℕ) → spaces_view tasks m r ≡ y → get page_cmp y.place p ≡ Some f → pins_here y p ≡ frame_pins r f
+pub pins_shown : (y : AddressSpacesView) (tasks : Map ℕ Task) (m : Mapping) (r : Mappers) (p : Page) (f : ℕ) → spaces_view tasks m r ≡ y → get page_cmp y.place p ≡ Some f → pins_here y p ≡ frame_pins r f
 pins_shown y tasks m r p f is h =
     ap (λ (y : AddressSpacesView). pins_here y p) (sym is)
     ∙ ap (λ o. unwrap_or o 0) (get-values exact_page (λ q g. frame_pins r g) m.place p ∙ ap (option_map (frame_pins r)) (ap (λ (y : AddressSpacesView). get page_cmp y.place p) is ∙ h))
 
-module _ (tasks : Map ℕ Task) (m : Mapped) (r : Mappers) (p : Page) (f n : ℕ) (h : IsTied tasks m r) (placed : get page_cmp m.place p ≡ Some f) where
+module _ (tasks : Map ℕ Task) (m : Mapping) (r : Mappers) (p : Page) (f n : ℕ) (h : IsTied tasks m r) (placed : get page_cmp m.place p ≡ Some f) where
   in_pins : f < length r.pins
   in_pins = omega (arith, h.in_range p f placed, h.as_many)
 

@@ -21,9 +21,9 @@ use Rattle.nm_types.specs.State.{Process, Placed, area_over, page_shown, page_at
 use Rattle.nm_types.proofs.Cases.{true_false, none_some, some_is}
 use Rattle.nm_types.specs.declared.entry.Entry.{Entry}
 use Rattle.nm_types.specs.declared.entry.Entry.TheVariants.{Zero, Frame, Held}
-use Rattle.nm_model.specs.definitions.Areas.{Mapped}
+use Rattle.nm_model.specs.definitions.Areas.{Mapping}
 use Rattle.nm_model.specs.definitions.Areas.{pages_between, is_covered}
-use Rattle.nm_model.specs.definitions.Areas.{areas_left, segments_left, pages_gone, place_left, removed, page_outside}
+use Rattle.nm_model.specs.definitions.Areas.{areas_left, segments_left, pages_gone, place_left, after_removal, page_outside}
 use Rattle.nm_rmap.specs.Mappers.{Mappers, mappers_of, frame_pins}
 use Rattle.nm_model.specs.definitions.Effect.{shows_pinned}
 use Rattle.nm_model.specs.definitions.Effect.{blind_between}
@@ -148,7 +148,7 @@ none_gone test pid first end (a ∷ areas) p h m =
     ] parts.0 m
 
 -- a page that is unmapped has no pins
-pub unpinned_pages : (y : AddressSpacesView) (tasks : Map ℕ Task) (m : Mapped) (r : Mappers) (pid first end : ℕ) → spaces_view tasks m r ≡ y → shows_pinned y.areas y.pins pid first end ≡ false
+pub unpinned_pages : (y : AddressSpacesView) (tasks : Map ℕ Task) (m : Mapping) (r : Mappers) (pid first end : ℕ) → spaces_view tasks m r ≡ y → shows_pinned y.areas y.pins pid first end ≡ false
     → (p : Page) (f : ℕ) → Listed p (pages_gone m.areas pid first end) → get page_cmp m.place p ≡ Some f → frame_pins r f ≡ 0
 unpinned_pages y tasks m r pid first end is h p f listed found =
     let free = none_gone (λ p. nat_lt 0 (unwrap_or (get page_cmp (pins_in r m.place) p) 0)) pid first end m.areas p (ap (λ (y : AddressSpacesView). shows_pinned y.areas y.pins pid first end) is ∙ h) listed in
@@ -177,7 +177,7 @@ both_not : (b : Bool) → (b && not b) ≡ false
 both_not true = refl
 both_not false = refl
 
-module _ (tasks : Map ℕ Task) (m : Mapped) (r u : Mappers) (pid first end : ℕ) (t : IsTied tasks m r) (pages : (q v : ℕ) → page_at (areas_left m.areas pid first end) q v ≡ page_outside m.areas pid first end q v)
+module _ (tasks : Map ℕ Task) (m : Mapping) (r u : Mappers) (pid first end : ℕ) (t : IsTied tasks m r) (pages : (q v : ℕ) → page_at (areas_left m.areas pid first end) q v ≡ page_outside m.areas pid first end q v)
     (gone : IsCleared r u pid first end tasks) where
   abbrev left : Map (ℕ × ℕ) Area
   left = areas_left m.areas pid first end
@@ -215,7 +215,7 @@ module _ (tasks : Map ℕ Task) (m : Mapped) (r u : Mappers) (pid first end : �
       ] refl
 
   -- what processes see, and the areas, frames and pins
-  pub removed_shows : spaces_view (cleared tasks pid first end) (removed m pid first end) u ≡ without_range (spaces_view tasks m r) pid first end
+  pub removed_shows : spaces_view (cleared tasks pid first end) (after_removal m pid first end) u ≡ without_range (spaces_view tasks m r) pid first end
   removed_shows = λ i. record {
     processes =
         (values_twice (process_of left) (one_cleared pid first end) tasks
@@ -269,7 +269,7 @@ module _ (tasks : Map ℕ Task) (m : Mapped) (r u : Mappers) (pid first end : �
       ] refl
 
   -- they stay tied
-  pub removed_tied : ((p : Page) (f : ℕ) → Listed p listed → get page_cmp m.place p ≡ Some f → frame_pins r f ≡ 0) → IsTied (cleared tasks pid first end) (removed m pid first end) u
+  pub removed_tied : ((p : Page) (f : ℕ) → Listed p listed → get page_cmp m.place p ≡ Some f → frame_pins r f ≡ 0) → IsTied (cleared tasks pid first end) (after_removal m pid first end) u
   removed_tied free = record {
     pids = subst (IsStrictlySortedBy nat_cmp) (sym (keys-cleared tasks pid first end)) t.pids;
     tables = tables-cleared tasks pid first end t.tables;

@@ -22,7 +22,7 @@ use Rattle.nm_types.proofs.Cases.{some_none, some_is}
 use Rattle.nm_model.specs.definitions.Seen.{sight_in}
 use Rattle.nm_types.specs.declared.entry.Entry.{Entry}
 use Rattle.nm_types.specs.declared.entry.Entry.TheVariants.{Zero, Frame, Held}
-use Rattle.nm_model.specs.definitions.Areas.{Mapped, with_frame, without_frame}
+use Rattle.nm_model.specs.definitions.Areas.{Mapping, with_frame, without_frame}
 use Rattle.nm_rmap.specs.Mappers.{Mappers, mappers_of, frame_pins, with_mapper, without_mapper, with_spot, without_spot}
 use Rattle.nm_model.specs.definitions.Effect.{seeing}
 use Rattle.nm_model.specs.definitions.PageTables.{Task, entry_at, entry_in, with_entry, process_of, sight_of, page_here}
@@ -46,12 +46,12 @@ unmap_some f None h = cc
 unmap_some f (Some a) h = (a, refl)
 
 -- a process that is shown has a table
-pub task_at : (y : AddressSpacesView) (tasks : Map ℕ Task) (m : Mapped) (r : Mappers) (pid : ℕ) → spaces_view tasks m r ≡ y → IsSome (get nat_cmp y.processes pid) → (t : Task) × (get nat_cmp tasks pid ≡ Some t)
+pub task_at : (y : AddressSpacesView) (tasks : Map ℕ Task) (m : Mapping) (r : Mappers) (pid : ℕ) → spaces_view tasks m r ≡ y → IsSome (get nat_cmp y.processes pid) → (t : Task) × (get nat_cmp tasks pid ≡ Some t)
 task_at y tasks m r pid is h =
     unmap_some (process_of m.areas pid) (get nat_cmp tasks pid)
     (subst IsSome (ap (λ (y : AddressSpacesView). get nat_cmp y.processes pid) (sym is) ∙ get-values exact_unsigned (process_of m.areas) tasks pid) h)
 
-pub process_at : (y : AddressSpacesView) (tasks : Map ℕ Task) (m : Mapped) (r : Mappers) (pid : ℕ) (t : Task) (p : Process) → spaces_view tasks m r ≡ y → get nat_cmp tasks pid ≡ Some t → get nat_cmp y.processes pid ≡ Some p → process_of m.areas pid t ≡ p
+pub process_at : (y : AddressSpacesView) (tasks : Map ℕ Task) (m : Mapping) (r : Mappers) (pid : ℕ) (t : Task) (p : Process) → spaces_view tasks m r ≡ y → get nat_cmp tasks pid ≡ Some t → get nat_cmp y.processes pid ≡ Some p → process_of m.areas pid t ≡ p
 process_at y tasks m r pid t p is h k =
     some_is (sym (ap (option_map (process_of m.areas pid)) h) ∙ sym (get-values exact_unsigned (process_of m.areas) tasks pid) ∙ ap (λ (y : AddressSpacesView). get nat_cmp y.processes pid) is ∙ k)
 
@@ -62,7 +62,7 @@ entry_unmapped areas pid v (Some Zero) h = refl
 entry_unmapped areas pid v (Some (Frame g)) h = absurd (h (page_here areas pid v) refl)
 entry_unmapped areas pid v (Some (Held g)) h = absurd (h (page_here areas pid v) refl)
 
-pub unmapped_at : (y : AddressSpacesView) (tasks : Map ℕ Task) (m : Mapped) (r : Mappers) (pid v : ℕ) → spaces_view tasks m r ≡ y → ((q : Page) → sight_in (get nat_cmp y.processes pid) v ≡ Some (Sees q) → ⊥) → is_mapped (entry_at tasks pid v) ≡ false
+pub unmapped_at : (y : AddressSpacesView) (tasks : Map ℕ Task) (m : Mapping) (r : Mappers) (pid v : ℕ) → spaces_view tasks m r ≡ y → ((q : Page) → sight_in (get nat_cmp y.processes pid) v ≡ Some (Sees q) → ⊥) → is_mapped (entry_at tasks pid v) ≡ false
 unmapped_at y tasks m r pid v is h =
     entry_unmapped m.areas pid v (entry_at tasks pid v) (λ q k. h q (ap (λ (y : AddressSpacesView). sight_in (get nat_cmp y.processes pid) v) (sym is) ∙ sight_shown m.areas tasks pid v ∙ k))
 
@@ -134,7 +134,7 @@ entry_at-set tasks pid t v e q w g =
     ∙ ap (λ b. cond b (Some e) (entry_at tasks q w)) (tied_then (nat_cmp q pid) (nat_cmp w v))
 
 -- an entry is set where none names a frame
-module _ (tasks : Map ℕ Task) (m : Mapped) (r : Mappers) (pid : ℕ) (t : Task) (v : ℕ) (h : IsTied tasks m r) (task : get nat_cmp tasks pid ≡ Some t) (unmapped : is_mapped (entry_at tasks pid v) ≡ false) where
+module _ (tasks : Map ℕ Task) (m : Mapping) (r : Mappers) (pid : ℕ) (t : Task) (v : ℕ) (h : IsTied tasks m r) (task : get nat_cmp tasks pid ≡ Some t) (unmapped : is_mapped (entry_at tasks pid v) ≡ false) where
   -- nothing is named where the entry is set
   free_there : (g q w : ℕ) → same_spot (q, w) (pid, v) ≡ true → names g (entry_at tasks q w) ≡ false
   free_there g q w e = mapped_names g (entry_at tasks q w) (ap (λ (s : ℕ × ℕ). is_mapped (entry_at tasks s.0 s.1)) (exact_spot (q, w) (pid, v) e) ∙ unmapped)
@@ -245,7 +245,7 @@ module _ (tasks : Map ℕ Task) (m : Mapped) (r : Mappers) (pid : ℕ) (t : Task
     }
 
 -- a page gets a spare frame
-module _ (tasks : Map ℕ Task) (m : Mapped) (r : Mappers) (p : Page) (f : ℕ) (h : IsTied tasks m r) (spare : IsSpare m r f) (unplaced : get page_cmp m.place p ≡ None) where
+module _ (tasks : Map ℕ Task) (m : Mapping) (r : Mappers) (p : Page) (f : ℕ) (h : IsTied tasks m r) (spare : IsSpare m r f) (unplaced : get page_cmp m.place p ≡ None) where
   -- the page is none of those that had a frame
   other : (q : Page) (g : ℕ) → get page_cmp m.place q ≡ Some g → q ≡ p → ⊥
   other q g k e = some_none (sym k ∙ ap (get page_cmp m.place) e ∙ unplaced)
@@ -284,12 +284,12 @@ module _ (tasks : Map ℕ Task) (m : Mapped) (r : Mappers) (p : Page) (f : ℕ) 
       (with_values-set exact_page (λ q g. frame_pins r g) m.place p f ∙ ap (set page_cmp (pins_in r m.place) p) (h.pinned f spare.place))
 
 -- a mapper that was added where no page was seen is removed again
-pub mapper_undone : (y : AddressSpacesView) (tasks : Map ℕ Task) (m : Mapped) (r : Mappers) (pid v f : ℕ) → spaces_view tasks m r ≡ y → IsTied tasks m r → IsSome (get nat_cmp y.processes pid)
+pub mapper_undone : (y : AddressSpacesView) (tasks : Map ℕ Task) (m : Mapping) (r : Mappers) (pid v f : ℕ) → spaces_view tasks m r ≡ y → IsTied tasks m r → IsSome (get nat_cmp y.processes pid)
     → ((q : Page) → sight_in (get nat_cmp y.processes pid) v ≡ Some (Sees q) → ⊥) → f < length r.mappings → without_mapper (with_mapper r f (pid, v)) f (pid, v) ≡ r
 mapper_undone y tasks m r pid v f is h known unseen below =
     let t = task_at y tasks m r pid is known in
     dropped_again r f (pid, v) below (no_mapper tasks m r pid t.0 v h t.1 (unmapped_at y tasks m r pid v is unseen) f)
 
 -- a frame that was given is taken back
-pub place_undone : (m : Mapped) (p : Page) (f : ℕ) → IsStrictlySortedBy page_cmp (keys_of m.place) → get page_cmp m.place p ≡ None → without_frame (with_frame m p f) p ≡ m
+pub place_undone : (m : Mapping) (p : Page) (f : ℕ) → IsStrictlySortedBy page_cmp (keys_of m.place) → get page_cmp m.place p ≡ None → without_frame (with_frame m p f) p ≡ m
 place_undone m p f s h = ap (λ place. record m { place = place }) (without-set page_cmp_total exact_page m.place p f s h)

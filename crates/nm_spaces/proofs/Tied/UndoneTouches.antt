@@ -19,7 +19,7 @@ use Rattle.nm_types.proofs.Keys.{keys-replace, All-replace, All-get, sorted-set,
 use Rattle.nm_model.specs.definitions.Seen.{sight_in}
 use Rattle.nm_types.specs.declared.entry.Entry.{Entry}
 use Rattle.nm_types.specs.declared.entry.Entry.TheVariants.{Zero, Frame, Held}
-use Rattle.nm_model.specs.definitions.Areas.{Mapped}
+use Rattle.nm_model.specs.definitions.Areas.{Mapping}
 use Rattle.nm_model.specs.definitions.Areas.{without_frame}
 use Rattle.nm_rmap.specs.Mappers.{Mappers, mappers_of, frame_pins}
 use Rattle.nm_model.specs.definitions.PageTables.{Task, entry_at, entry_in, with_entry}
@@ -51,7 +51,7 @@ without_none r spot o is =
     })
 
 -- the entry at a page number is changed to name no frame, and is no mapper
-module _ (tasks now : Map ℕ Task) (m : Mapped) (r u : Mappers) (pid v : ℕ) (o : Option Entry) (h : IsTied tasks m r) (less : IsWithout r u (pid, v) (entry_at tasks pid v))
+module _ (tasks now : Map ℕ Task) (m : Mapping) (r u : Mappers) (pid v : ℕ) (o : Option Entry) (h : IsTied tasks m r) (less : IsWithout r u (pid, v) (entry_at tasks pid v))
     (after : (q w : ℕ) → entry_at now q w ≡ cond (same_spot (q, w) (pid, v)) o (entry_at tasks q w)) (bare : (f : ℕ) → names f o ≡ false) where
   mappers_bare : (f q w : ℕ) → has_spot (mappers_of u f) (q, w) ≡ names f (entry_at now q w)
   mappers_bare f q w =
@@ -92,7 +92,7 @@ module _ (tasks now : Map ℕ Task) (m : Mapped) (r u : Mappers) (pid v : ℕ) (
   }
 
 -- a process that has a table
-module _ (tasks : Map ℕ Task) (m : Mapped) (r u : Mappers) (pid v : ℕ) (t : Task) (h : IsTied tasks m r) (task : get nat_cmp tasks pid ≡ Some t) (less : IsWithout r u (pid, v) (entry_at tasks pid v)) where
+module _ (tasks : Map ℕ Task) (m : Mapping) (r u : Mappers) (pid v : ℕ) (t : Task) (h : IsTied tasks m r) (task : get nat_cmp tasks pid ≡ Some t) (less : IsWithout r u (pid, v) (entry_at tasks pid v)) where
   in_order : TableInOrder t
   in_order = All-get nat_cmp TableInOrder tasks pid t h.tables task
 
@@ -161,13 +161,13 @@ some_mapped : {V W : Type 0} (f : V → W) (o : Option V) → IsSome (option_map
 some_mapped f None h = cc
 some_mapped f (Some x) h = refl
 
-pub entry_there : (y : AddressSpacesView) (tasks : Map ℕ Task) (m : Mapped) (r : Mappers) (pid v : ℕ) → spaces_view tasks m r ≡ y → IsSome (sight_in (get nat_cmp y.processes pid) v) → IsSome (entry_at tasks pid v)
+pub entry_there : (y : AddressSpacesView) (tasks : Map ℕ Task) (m : Mapping) (r : Mappers) (pid v : ℕ) → spaces_view tasks m r ≡ y → IsSome (sight_in (get nat_cmp y.processes pid) v) → IsSome (entry_at tasks pid v)
 entry_there y tasks m r pid v is h =
     some_mapped (sight_of m.areas pid v) (entry_at tasks pid v)
     (subst IsSome (ap (λ (y : AddressSpacesView). sight_in (get nat_cmp y.processes pid) v) (sym is) ∙ sight_shown m.areas tasks pid v) h)
 
 -- a frame that an entry names is one of the map
-pub named_below : (tasks : Map ℕ Task) (m : Mapped) (r : Mappers) (pid v f : ℕ) → IsTied tasks m r → names f (entry_at tasks pid v) ≡ true → f < length r.mappings
+pub named_below : (tasks : Map ℕ Task) (m : Mapping) (r : Mappers) (pid v f : ℕ) → IsTied tasks m r → names f (entry_at tasks pid v) ≡ true → f < length r.mappings
 named_below tasks m r pid v f h n = let s = h.shows f pid v n in h.in_range s.0 f s.2
 
 names_sees : (areas : Map (ℕ × ℕ) Area) (pid v f : ℕ) (o : Option Entry) → names f o ≡ true → option_map (sight_of areas pid v) o ≡ Some (Sees (page_here areas pid v))
@@ -177,7 +177,7 @@ names_sees areas pid v f (Some (Frame g)) n = refl
 names_sees areas pid v f (Some (Held g)) n = refl
 
 -- a page that nobody sees loses its frame
-module _ (y : AddressSpacesView) (tasks : Map ℕ Task) (m : Mapped) (r : Mappers) (p : Page) (f : ℕ) (h : IsTied tasks m r) (is : spaces_view tasks m r ≡ y) (placed : get page_cmp m.place p ≡ Some f) (free : frame_pins r f ≡ 0)
+module _ (y : AddressSpacesView) (tasks : Map ℕ Task) (m : Mapping) (r : Mappers) (p : Page) (f : ℕ) (h : IsTied tasks m r) (is : spaces_view tasks m r ≡ y) (placed : get page_cmp m.place p ≡ Some f) (free : frame_pins r f ≡ 0)
     (unseen : (q w : ℕ) → sight_in (get nat_cmp y.processes q) w ≡ Some (Sees p) → ⊥) where
   unnamed : (q w : ℕ) → names f (entry_at tasks q w) ≡ true → ⊥
   unnamed q w n =

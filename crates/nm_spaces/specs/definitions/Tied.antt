@@ -10,7 +10,7 @@ use Rattle.nm_types.specs.Map.{Map, get, page_cmp, spot_cmp}
 use Rattle.nm_types.specs.State.{page_at}
 use Rattle.nm_types.specs.declared.entry.Entry.{Entry}
 use Rattle.nm_types.specs.declared.entry.Entry.TheVariants.{Held}
-use Rattle.nm_model.specs.definitions.Areas.{Mapped}
+use Rattle.nm_model.specs.definitions.Areas.{Mapping}
 use Rattle.nm_rmap.specs.Mappers.{Mappers, mappers_of, frame_pins}
 use Rattle.nm_model.specs.definitions.PageTables.{Task}
 use Rattle.nm_model.specs.definitions.PageTables.{entry_at}
@@ -25,7 +25,7 @@ pub record AreInOrder (tasks : Map ℕ Task) : Type 0 where
   pub pids : IsStrictlySortedBy nat_cmp (keys_of tasks)
   pub tables : AllByRecursion (λ e. IsStrictlySortedBy nat_cmp (keys_of e.1.table)) tasks
 
-pub record IsTied (tasks : Map ℕ Task) (m : Mapped) (r : Mappers) : Type 0 where
+pub record IsTied (tasks : Map ℕ Task) (m : Mapping) (r : Mappers) : Type 0 where
   -- the maps have their keys in order
   pub pids : IsStrictlySortedBy nat_cmp (keys_of tasks)
   pub tables : AllByRecursion (λ e. IsStrictlySortedBy nat_cmp (keys_of e.1.table)) tasks

@@ -11,7 +11,7 @@ use Rattle.nm_types.specs.declared.sight.Sight.TheVariants.{Sees}
 use Rattle.nm_types.specs.Map.{Map, get, set, replace, without, with_values, page_cmp}
 use Rattle.nm_types.specs.State.{Process}
 use Rattle.nm_model.specs.views.Table.{Table}
-use Rattle.nm_model.specs.definitions.Areas.{Mapped, areas_left, segments_left, pages_gone, place_left}
+use Rattle.nm_model.specs.definitions.Areas.{Mapping, areas_left, segments_left, pages_gone, place_left}
 use Rattle.nm_rmap.specs.Mappers.{Mappers, frame_pins}
 use Rattle.nm_model.specs.definitions.PageTables.{Task, process_of}
 use Rattle.nm_model.specs.definitions.Effect.{seeing, blind_at, seeing_before, blind_between}
@@ -35,7 +35,7 @@ abbrev pub table_of : AddressSpacesView → Table
 table_of y = record { areas = y.areas; segments = y.segments; next = y.next }
 
 -- the areas, the segments, and the frames of pages
-abbrev pub mapped_of : AddressSpacesView → Mapped
+abbrev pub mapped_of : AddressSpacesView → Mapping
 mapped_of y = record { areas = y.areas; segments = y.segments; next = y.next; place = y.place }
 
 -- the pins of each page that has a frame
@@ -43,7 +43,7 @@ abbrev pub pins_in : Mappers → Map Page ℕ → Map Page ℕ
 pins_in r place = with_values (λ page frame. frame_pins r frame) place
 
 -- page tables, areas and the reverse map, as one view
-abbrev pub spaces_view : Map ℕ Task → Mapped → Mappers → AddressSpacesView
+abbrev pub spaces_view : Map ℕ Task → Mapping → Mappers → AddressSpacesView
 spaces_view tasks m r =
     record {
       processes = with_values (process_of m.areas) tasks;
@@ -61,7 +61,7 @@ no_spaces frames =
     record { processes = []; areas = []; segments = []; next = 0; place = []; pins = []; frames = frames }
 
 -- the areas, the segments and their number may change
-abbrev pub with_mapped : AddressSpacesView → Mapped → AddressSpacesView
+abbrev pub with_mapped : AddressSpacesView → Mapping → AddressSpacesView
 with_mapped y m = record y { areas = m.areas; segments = m.segments; next = m.next }
 
 -- a process sees this at a page number

@@ -7,7 +7,7 @@ use Rattle.nm_types.specs.declared.page.Page.{Page}
 use Rattle.nm_types.specs.declared.taken.Taken.{Taken}
 use Rattle.nm_types.specs.Map.{Map, get}
 use Rattle.nm_laws.specs.Midway.{entry_meanwhile}
-use Rattle.nm_model.specs.definitions.Areas.{Mapped}
+use Rattle.nm_model.specs.definitions.Areas.{Mapping}
 use Rattle.nm_model.specs.definitions.PageTables.{Task, entry_at}
 use Rattle.nm_model.specs.definitions.Seen.{sight_in}
 use Rattle.nm_rmap.specs.Mappers.{Mappers}
@@ -20,7 +20,7 @@ pub record HeldView : Type 0 where
   pub spaces : AddressSpacesView
 
 -- page tables, areas and reverse map while pages are on their way
-abbrev pub held_view : Map ℕ Task → Mapped → Mappers → HeldView
+abbrev pub held_view : Map ℕ Task → Mapping → Mappers → HeldView
 held_view tasks m r = record { tables = tasks; spaces = spaces_view tasks m r }
 
 -- each entry is that for what its process sees: it names the frame of the page, and is held if the page is one of these,

@@ -9,7 +9,7 @@ ghost use Rattle.nm_types.specs.Map.{get, without};
 ghost use Rattle.nm_types.specs.State.{Process, page_at};
 ghost use Rattle.nm_types.specs.Does.{Makes};
 ghost use Rattle.nm_areas.specs.Splits.{HasSplit};
-ghost use Rattle.nm_model.specs.definitions.Areas.{inserted, attached, pages_of, with_policy};
+ghost use Rattle.nm_model.specs.definitions.Areas.{with_segment, with_area, page_count, with_policy};
 ghost use Rattle.nm_model.specs.definitions.AreaRefusal.{insert_refusal, stretch_refusal, range_refusal, overlaps};
 ghost use Rattle.nm_model.specs.definitions.Areas.{frames_lost};
 ghost use Rattle.nm_model.specs.definitions.Effect.{shows_pinned};
@@ -38,7 +38,7 @@ impl<A: Allocator + Copy> AddressSpaces<A> {
         // The result and the areas
         ensures done { Makes result (mapped_of self.old) (mapped_of self.new)
             (insert_refusal (mapped_of self.old) pid addr pages)
-            (inserted (mapped_of self.old) pid addr pages shared) }
+            (with_segment (mapped_of self.old) pid addr pages shared) }
         ensures memory { result ≡ Err MachineError.HostMemory →
             insert_refusal (mapped_of self.old) pid addr pages ≡ None }
         ensures number { IfOk result (λ number. number ≡ self.old.next) }
@@ -61,7 +61,7 @@ impl<A: Allocator + Copy> AddressSpaces<A> {
     ) -> Result<(), MachineError>
         ensures done { Makes result (mapped_of self.old) (mapped_of self.new)
             (stretch_refusal (mapped_of self.old) pid addr segment offset pages)
-            (attached (mapped_of self.old) pid addr segment offset pages) }
+            (with_area (mapped_of self.old) pid addr segment offset pages) }
         ensures memory { result ≡ Err MachineError.HostMemory →
             stretch_refusal (mapped_of self.old) pid addr segment offset pages ≡ None }
         ensures same { self.new ≡ with_mapped self.old (mapped_of self.new) }
@@ -81,12 +81,12 @@ impl<A: Allocator + Copy> AddressSpaces<A> {
         // The result and the areas
         ensures done { Makes result (mapped_of self.old) (mapped_of self.new)
             (range_refusal (mapped_of self.old) pid addr len)
-            (with_policy (mapped_of self.old) pid (addr / 4096) (addr / 4096 + pages_of len) policy) }
+            (with_policy (mapped_of self.old) pid (addr / 4096) (addr / 4096 + page_count len) policy) }
         ensures memory { result ≡ Err MachineError.HostMemory →
             (range_refusal (mapped_of self.old) pid addr len ≡ None) × (0 < len) }
         ensures asked { result ≡ Err MachineError.HostMemory →
             HasSplit self.old.areas pid (addr / 4096)
-            ⊎ HasSplit self.old.areas pid (addr / 4096 + pages_of len) }
+            ⊎ HasSplit self.old.areas pid (addr / 4096 + page_count len) }
 
         // Nothing else changes
         ensures same { self.new ≡ with_mapped self.old (mapped_of self.new) }

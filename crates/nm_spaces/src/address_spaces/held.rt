@@ -6,7 +6,7 @@ ghost use Rattle.std.specs.List.{AllByRecursion};
 ghost use Rattle.nm_types.specs.declared.page.Page.{Page};
 ghost use Rattle.nm_types.specs.declared.entry.Entry.TheVariants.{Held as OnItsWay};
 ghost use Rattle.nm_types.specs.Map.{get, page_cmp};
-ghost use Rattle.nm_model.specs.definitions.Events.{arrived, with_entries};
+ghost use Rattle.nm_model.specs.definitions.Events.{arrival_of, with_entries};
 ghost use Rattle.nm_model.specs.definitions.PageTables.{entry_at};
 ghost use Rattle.nm_rmap.specs.Mappers.{mappers_of};
 ghost use Rattle.nm_spaces.specs.views.AddressSpaces.{with_moved};
@@ -32,7 +32,7 @@ pub struct HeldSpaces<A: Allocator + Copy> {
 }
 
 impl<A: Allocator + Copy> Model for HeldSpaces<A> {
-    ghost use Rattle.nm_model.specs.definitions.Events.{arrived, with_entries};
+    ghost use Rattle.nm_model.specs.definitions.Events.{arrival_of, with_entries};
     ghost use Rattle.nm_spaces.specs.views.Held.{HeldView, held_view};
     ghost use Rattle.nm_spaces.specs.definitions.Tied.{IsTied};
 
@@ -40,7 +40,7 @@ impl<A: Allocator + Copy> Model for HeldSpaces<A> {
 
     ghost view = { λ h. held_view h.parts.value.tasks h.parts.value.areas h.parts.value.rmap };
 
-    ghost invariant = { λ h. IsTied (with_entries arrived h.parts.value.tasks) h.parts.value.areas h.parts.value.rmap };
+    ghost invariant = { λ h. IsTied (with_entries arrival_of h.parts.value.tasks) h.parts.value.areas h.parts.value.rmap };
 }
 
 impl<A: Allocator + Copy> HeldSpaces<A> {
@@ -117,15 +117,15 @@ impl<A: Allocator + Copy> HeldSpaces<A> {
 
 /// Makes each held entry name the frame that its page was on its way to, which is one that these moves take.
 fn arrive<A: Allocator + Copy>(tasks: &mut ProcessTable<A>, rmap: &ReverseMap<A>, moves: &[Taken])
-    requires order { AreInOrder (with_entries arrived tasks.old) }
+    requires order { AreInOrder (with_entries arrival_of tasks.old) }
     requires mappers { (f pid v : ℕ) →
         has_spot (mappers_of rmap.now f) (pid, v)
-        ≡ names f (entry_at (with_entries arrived tasks.old) pid v) }
+        ≡ names f (entry_at (with_entries arrival_of tasks.old) pid v) }
     requires below { AllByRecursion (λ t. t.to < length rmap.now.mappings) moves.now }
     requires among { (f pid v : ℕ) →
         entry_at tasks.old pid v ≡ Some (OnItsWay f) →
         is_taken moves.now f ≡ true }
-    ensures { tasks.new ≡ with_entries arrived tasks.old }
+    ensures { tasks.new ≡ with_entries arrival_of tasks.old }
 {
     for taken in moves {
         replace_each(tasks, rmap.mappings(taken.to), &Entry::Frame(taken.to));

@@ -1,7 +1,7 @@
 use Rattle.std.proofs.Common.{ℕ, ◌+◌, ◌-◌, ap, sym, ◌∙◌, arith}
 use Rattle.nm_types.proofs.Maps.{spot_cmp_total}
 use Rattle.nm_model.specs.definitions.Areas.{EndsLow}
-use Rattle.nm_model.specs.definitions.Areas.{is_mapped}
+use Rattle.nm_model.specs.definitions.Areas.{is_well_formed}
 use Rattle.nm_model.proofs.areas.Parted.{All-among}
 use Rattle.nm_model.proofs.areas.Overs.{get_among}
 use Rattle.nm_model.proofs.areas.Painted.{exact_spot}
@@ -20,7 +20,7 @@ pub loop-at-init : goal.loop-at-init
 loop-at-init g c =
     let areas = c.args.areas.now.entries in
     record {
-      mapped = ap (λ (n : ℕ). is_mapped areas c.args.pid (n + c.args.area.pages) (c.args.end - (n + c.args.area.pages))) (sym c.number.ensures);
+      mapped = ap (λ (n : ℕ). is_well_formed areas c.args.pid (n + c.args.area.pages) (c.args.end - (n + c.args.area.pages))) (sym c.number.ensures);
       reaches = none_reaches areas c.requires.apart c.requires.whole c.args.pid c.args.first c.args.area c.requires.some c.requires.over c.number.result c.number.ensures;
       rest = (
         c.new.result,

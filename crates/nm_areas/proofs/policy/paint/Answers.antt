@@ -5,7 +5,7 @@ use Rattle.std.specs.declared.ops.Range.{Range}
 use Rattle.std.specs.declared.ops.Bound.TheVariants.{Excluded}
 use Rattle.nm_types.specs.declared.area.Area.{Area}
 use Rattle.nm_types.specs.Map.{spot_cmp, with_values}
-use Rattle.nm_model.specs.definitions.Areas.{painted}
+use Rattle.nm_model.specs.definitions.Areas.{with_policy_in}
 use Rattle.nm_counts.proofs.Swept.{sweeps}
 use Rattle.nm_areas.proofs.Shifts.{painted_inside, painted_outside}
 use Rattle.nm_counts.proofs.Between.{among_spots}
@@ -14,7 +14,7 @@ use Rattle.nm_areas.proofs.policy.paint.Goals as goal
 pub returns : goal.returns
 returns g c =
     let policy = c.args.policy.now in
-    let change = painted c.args.pid c.args.first c.args.end policy in
+    let change = with_policy_in c.args.pid c.args.first c.args.end policy in
     let areas = c.extract_if-walk.ensures in
     let ran = c.next.ensures.steps in
     let entries = λ (m : BTreeMap (ℕ × ℕ) Area). m.entries in

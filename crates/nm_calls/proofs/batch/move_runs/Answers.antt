@@ -6,7 +6,7 @@ use Rattle.nm_model.specs.definitions.Cut.{Stretch}
 use Rattle.nm_model.specs.definitions.Touch.{Access, AccessAnswer}
 use Rattle.nm_runs.specs.Stretches.{stretches_of}
 use Rattle.nm_memory.specs.views.Accesses.{answer_shown}
-use Rattle.nm_model.specs.definitions.Run.{Ran, run, failures}
+use Rattle.nm_model.specs.definitions.Run.{RunResult, run, failures}
 use Rattle.nm_model.specs.definitions.Run.{accesses_of}
 use Rattle.nm_steps.specs.Views.{shown_during}
 use Rattle.std.specs.Map.{keys_of}
@@ -94,7 +94,7 @@ run_flight-requires-clause-alike g c κs within = rw c.index-runs-k.is (c.requir
 pub unwrap-requires : goal.unwrap-requires
 unwrap-requires g c =
     let asked = c.index-runs-k.result in
-    let n = ap length c.as_slice-in-loop-k.ensures.value ∙ ap (λ (r : Ran). length r.statuses) c.in-Ok.ensures.run ∙ run_length c.loop-k.machine asked.target asked.wanted.items (map one_lent c.as_slice.result.now) in
+    let n = ap length c.as_slice-in-loop-k.ensures.value ∙ ap (λ (r : RunResult). length r.statuses) c.in-Ok.ensures.run ∙ run_length c.loop-k.machine asked.target asked.wanted.items (map one_lent c.as_slice.result.now) in
     let left = entries_left _ _ asked (next_left c.args.runs.now c.loop-k.k asked c.loop-k-test.true c.index-runs-k.is) in
     c.extend_from_slice.ensures.succeeds (fits_in _ _ _ _ _ _ _ c.loop-k.statuses.ok.0 n left c.loop-k.invariant.room)
 
@@ -125,9 +125,9 @@ loop-k-preserved g c =
     let next = next_left runs c.loop-k.k asked few c.index-runs-k.is in
     let left = entries_left _ _ asked next in
     let whole = c.in-Ok.ensures.run ∙ ap (λ xs. run s asked.target asked.wanted.items xs) these in
-    let state = ap (λ (r : Ran). r.state) whole in
-    let statuses = ap (λ (r : Ran). r.statuses) whole in
-    let answers : map answer_shown c.in-Ok.flown.answers.items ∷ [] ≡ made.answers = ap (λ (r : Ran). r.answers) whole in
+    let state = ap (λ (r : RunResult). r.state) whole in
+    let statuses = ap (λ (r : RunResult). r.statuses) whole in
+    let answers : map answer_shown c.in-Ok.flown.answers.items ∷ [] ≡ made.answers = ap (λ (r : RunResult). r.answers) whole in
     let items : c.extend_from_slice.new.self.items ≡ c.loop-k.statuses.items ++ made.statuses =
     extended c.extend_from_slice.result _ c.loop-k.statuses.items c.as_slice-in-loop-k.result.now made.statuses c.extend_from_slice.new.self.items c.extend_from_slice.ensures.items c.unwrap.ensures (c.as_slice-in-loop-k.ensures.value ∙ statuses) in
     let queues : map left_shown c.push_reserved.new.self.items ≡ map left_shown c.loop-k.told.items ++ made.answers =

@@ -2,7 +2,7 @@ use Rattle.std.proofs.Common.{arith, ap, sym, subst, ◌∙◌, length, []}
 use Rattle.std.proofs.lemmas.List.{length-map}
 use Rattle.nm_types.specs.Layout.{node_count}
 use Rattle.nm_model.specs.definitions.Cut.{Stretch, all_to}
-use Rattle.nm_model.specs.definitions.Run.{HasOneAll, Ran}
+use Rattle.nm_model.specs.definitions.Run.{HasOneAll, RunResult}
 use Rattle.nm_model.specs.definitions.Run.{runs_from}
 use Rattle.nm_runs.specs.Stretches.{stretches_of}
 use Rattle.nm_calls.specs.definitions.Passes.{without_frame}
@@ -54,9 +54,9 @@ returns g c =
     let same = ap (λ rs. runs_from 0 c.args.machine.now rs []) runs in
     let made = c.in_ok-statuses.ensures.made in
     let same_count = length-map {B = Stretch} c.in_ok-runs.runs.items (λ run. record { target = run.target; wanted = run.wanted.items }) in (
-      made.0 ∙ ap (λ (ran : Ran). ran.state) same,
+      made.0 ∙ ap (λ (ran : RunResult). ran.state) same,
       (
         omega (arith, c.len.ensures, c.in_ok-runs.runs.ok.0, same_count, ap length c.in_ok-runs.ensures.runs),
-        c.put_without_frame.ensures ∙ ap (without_frame c.args.wanted.now) (c.as_slice-2.ensures.value ∙ made.1 ∙ ap (λ (ran : Ran). ran.statuses) same),
+        c.put_without_frame.ensures ∙ ap (without_frame c.args.wanted.now) (c.as_slice-2.ensures.value ∙ made.1 ∙ ap (λ (ran : RunResult). ran.statuses) same),
       ),
     )

@@ -13,10 +13,10 @@ use Rattle.nm_laws.proofs.Early.Flown.{run_state, run_answers}
 use Rattle.nm_laws.proofs.Early.Phases.{pages_of, touched_all, given_back, planned_phases}
 use Rattle.nm_laws.proofs.Early.Ready.{all_layout}
 use Rattle.nm_model.specs.definitions.BeforeCopy.{PendingAccess, all_after_copy, without_fronts, with_fronts, frames_taken, IsPending}
-use Rattle.nm_model.specs.definitions.Decide.{Planned}
+use Rattle.nm_model.specs.definitions.Decide.{RunPlan}
 use Rattle.nm_model.specs.definitions.Run.{failures, frames_left, run, with_all_free, with_counts}
 use Rattle.nm_model.specs.definitions.Sound.{IsSound}
-use Rattle.nm_model.specs.definitions.Touch.{Access, AllAnswered, all_in_flight}
+use Rattle.nm_model.specs.definitions.Touch.{Access, AccessResults, all_in_flight}
 use Rattle.nm_memory.specs.views.Accesses.{answer_shown, pending_shown}
 use Rattle.nm_engine.specs.views.Flights.{EndsAs, Flight, HoldsMovingPages, IsReadyFor, pair_of, state_meanwhile}
 use Rattle.nm_engine.specs.views.MidRun.{MidRun}
@@ -147,12 +147,12 @@ returns-in-Ok-clause-run g c =
     c.finish-machine.ensures.state
     ∙ ap (λ n. with_counts (with_all_free now (frames_left flown.moves)) n (failures c.statuses.result.now)) (sym (length-map flown.moves (λ (t : Taken). t.from)))
     ∙ run_state r t ws c.args.planned.plan moves accesses during plan c.moves-moves.ensures refl now (frames_left flown.moves) c.statuses.result.now
-    (c.copy_beside-run.ensures.state ∙ ap (λ (x : AllAnswered). x.state) (as_in_flight g c))
+    (c.copy_beside-run.ensures.state ∙ ap (λ (x : AccessResults). x.state) (as_in_flight g c))
     (ap (λ (x : Flight). frames_left x.moves) c.copy_beside-run.ensures.run ∙ ap frames_left c.begin-run.ensures.moves) c.statuses.ensures
     ∙ ap (λ (s : State). (run s t ws accesses).state) at in
     let answers =
     run_answers r t ws c.args.planned.plan moves accesses during plan c.moves-moves.ensures refl (map (answer_shown {A = g.row.A.Denot}) c.copy_beside-run.result.2.items)
-    (c.copy_beside-run.ensures.answers ∙ ap (λ (x : AllAnswered). x.answers) (as_in_flight g c))
+    (c.copy_beside-run.ensures.answers ∙ ap (λ (x : AccessResults). x.answers) (as_in_flight g c))
     ∙ ap (λ (s : State). (run s t ws accesses).answers) at in
     let statuses = c.into_statuses.ensures ∙ sym c.requires.plan.agrees.statuses in
     λ i. record { state = state i; statuses = statuses i; answers = answers i }
@@ -166,7 +166,7 @@ returns-in-Ok-clause-events g c =
     let jobs = c.copy_beside-run.result.1.items in
     let run = c.copy_beside-run.ensures.run in
     let pairs : map pair_of jobs ≡ _ = ap (map pair_of) c.copy_beside-run.ensures.jobs ∙ still_pairs c.begin-run.result.1.items ∙ c.begin-run.ensures.pairs in
-    let shows = c.copy_beside-run.ensures.state ∙ ap (λ (d : AllAnswered). d.state) (as_in_flight g c) ∙ ap (λ (s : State). (all_in_flight (with_moves s asked.target moves) (pages_of moves) asked.accesses).state) at in
+    let shows = c.copy_beside-run.ensures.state ∙ ap (λ (d : AccessResults). d.state) (as_in_flight g c) ∙ ap (λ (s : State). (all_in_flight (with_moves s asked.target moves) (pages_of moves) asked.accesses).state) at in
     let ended = subst (λ zs. EndsAs x jobs zs c.finish-machine.result.0) (c.statuses.ensures ∙ sym c.into_statuses.ensures) c.finish-machine.ensures.event in (
       x,
       c.copy_beside-run.result.1,
@@ -176,8 +176,8 @@ returns-in-Ok-clause-events g c =
     )
 
 -- memory that is asked for moves, or for accesses, is asked for none where nothing is requested
-asked_for : (s : State) (t : ℕ) (ws : List Wanted) (p : Planned) (moves : List Taken) (n : ℕ) → IsPlanOf s t ws p → moves ≡ p.taken → 0 < length moves + n → 0 < length ws + n
-asked_for s t [] p moves n plan same h = subst (λ (ms : List Taken). 0 < length ms + n) (same ∙ ap (λ (q : Planned). q.taken) plan.planned) h
+asked_for : (s : State) (t : ℕ) (ws : List Wanted) (p : RunPlan) (moves : List Taken) (n : ℕ) → IsPlanOf s t ws p → moves ≡ p.taken → 0 < length moves + n → 0 < length ws + n
+asked_for s t [] p moves n plan same h = subst (λ (ms : List Taken). 0 < length ms + n) (same ∙ ap (λ (q : RunPlan). q.taken) plan.planned) h
 asked_for s t (w ∷ ws) p moves n plan same h = omega arith
 
 pub returns-in-Err-clause-asked : goal.returns-in-Err-clause-asked

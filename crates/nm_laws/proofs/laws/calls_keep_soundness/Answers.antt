@@ -1,5 +1,5 @@
 use Rattle.std.proofs.Common.{[], ◌+◌, ◌/◌}
-use Rattle.nm_model.specs.definitions.Effect.{pages_of}
+use Rattle.nm_model.specs.definitions.Effect.{page_count}
 use Rattle.nm_laws.proofs.Soundness.New.{new_sound}
 use Rattle.nm_laws.proofs.Soundness.Called.{spawn_sound, map_sound, attach_sound, pin_sound, unpin_sound}
 use Rattle.nm_laws.proofs.Soundness.Dropped.{unmap_sound, exit_sound}
@@ -31,4 +31,4 @@ pub returns-clause-exit : goal.returns-clause-exit
 returns-clause-exit c = λ s pid h. exit_sound s h pid
 
 pub returns-clause-policies : goal.returns-clause-policies
-returns-clause-policies c = λ s pid address len policy h. policy_sound s [] pid (address / 4096) (address / 4096 + pages_of len) policy h
+returns-clause-policies c = λ s pid address len policy h. policy_sound s [] pid (address / 4096) (address / 4096 + page_count len) policy h

@@ -1,5 +1,5 @@
 use Rattle.std.proofs.Common.{[], ◌+◌, ◌/◌}
-use Rattle.nm_model.specs.definitions.Effect.{pages_of}
+use Rattle.nm_model.specs.definitions.Effect.{page_count}
 use Rattle.nm_laws.proofs.OneByOne.Memory.{each_keeps, frees_keep, batch_keeps}
 use Rattle.nm_laws.proofs.Seen.Rewritten.{run_writes, runs_write}
 use Rattle.nm_laws.proofs.Soundness.Touched.{reading_keeps}
@@ -27,5 +27,5 @@ returns-clause-read c = λ s left pid address len q at h. reading_keeps s left p
 pub returns-clause-policies : goal.returns-clause-policies
 returns-clause-policies c = λ s pid address len policy q v at h.
     let first = address / 4096 in
-    let end = first + pages_of len in
+    let end = first + page_count len in
     (policy_shows s [] pid first end policy q v h, policy_keeps s [] pid first end policy q at h)

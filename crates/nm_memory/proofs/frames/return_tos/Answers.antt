@@ -2,7 +2,7 @@ use Rattle.std.proofs.Common.{◌≡◌, ◌<◌, ◌-◌, ◌++◌, ℕ, List, 
 use Rattle.std.specs.Prelude.{slice_index_or, sum}
 use Rattle.nm_types.specs.Layout.{owner}
 use Rattle.nm_types.specs.Nodes.{is_in}
-use Rattle.nm_model.specs.definitions.Frames.{Pool, list_of, with_list, prepended}
+use Rattle.nm_model.specs.definitions.Frames.{Pool, list_of, with_list, with_front}
 use Rattle.nm_model.specs.definitions.BeforeCopy.{frames_taken}
 use Rattle.nm_memory.proofs.FreeLists.Returned.{left_from, can_left, one_back, there_now}
 use Rattle.nm_memory.proofs.frames.return_tos.Goals as goal
@@ -29,7 +29,7 @@ loop-left-preserved g c =
     let node = c.args.node in
     let can = can_left c.args.moves.now c.loop-left.left c.index-moves-left.result p node c.loop-left-test.true c.loop-left.invariant.few c.requires.can in
     record {
-      nodes = c.prepend.ensures ∙ ap (λ (q : Pool). prepended q item) c.loop-left.invariant.nodes
+      nodes = c.prepend.ensures ∙ ap (λ (q : Pool). with_front q item) c.loop-left.invariant.nodes
           ∙ one_back p node (drop c.loop-left.left (frames_taken c.args.moves.now) ++ list_of p node) item c.requires.node can.1
           ∙ ap (λ (xs : List ℕ). with_list p node (xs ++ list_of p node)) (sym (left_from c.args.moves.now c.loop-left.left c.index-moves-left.result c.loop-left-test.true c.loop-left.invariant.few));
       few = omega (arith, c.loop-left.invariant.few);

@@ -1,6 +1,6 @@
 use Rattle.std.proofs.Common.{◌+◌, ◌-◌, ◌<◌, ◌≤◌, ◌≡◌, refl, ap, sym, ◌∙◌, arith}
 use Rattle.nm_model.specs.definitions.Areas.{EndsLow, IsSomePages}
-use Rattle.nm_model.specs.definitions.Areas.{is_mapped}
+use Rattle.nm_model.specs.definitions.Areas.{is_well_formed}
 use Rattle.nm_model.specs.views.Table.{Table}
 use Rattle.nm_model.proofs.areas.Parted.{All-among}
 use Rattle.nm_model.proofs.areas.Cut.{over_facts}
@@ -38,7 +38,7 @@ returns-then-is_some g c =
     let size : c.args.range.now.end - c.args.range.now.first ≡ end - c.args.range.now.first = omega (arith, c.number-then-is_some.ensures) in
     c.goes_on.ensures
     ∙ mapped_inside c.self.inside.areas.entries areas (ap (λ (t : Table). t.areas) c.self.view_is) c.args.pid _ _
-    ∙ sym (ap (is_mapped areas c.args.pid c.args.range.now.first) size ∙ mapped_next areas c.args.pid c.args.range.now.first end _ _ _ c.requires.apart c.in-Some.ensures refl (omega (arith, facts.2, c.if-past-number.false, c.number.ensures, c.number-in-Some.ensures, c.number-then-is_some.ensures)))
+    ∙ sym (ap (is_well_formed areas c.args.pid c.args.range.now.first) size ∙ mapped_next areas c.args.pid c.args.range.now.first end _ _ _ c.requires.apart c.in-Some.ensures refl (omega (arith, facts.2, c.if-past-number.false, c.number.ensures, c.number-in-Some.ensures, c.number-then-is_some.ensures)))
 
 pub returns-else-is_some : goal.returns-else-is_some
 returns-else-is_some g c =

@@ -2,7 +2,7 @@ use Rattle.std.proofs.Common.{◌∙◌, ap, arith}
 use Rattle.std.specs.List.{flat_map}
 use Rattle.nm_types.specs.Map.{with_values}
 use Rattle.nm_model.specs.views.Table.{Table}
-use Rattle.nm_model.specs.definitions.Areas.{repoliced, painted}
+use Rattle.nm_model.specs.definitions.Areas.{parts_with_policy, with_policy_in}
 use Rattle.nm_model.specs.views.Table.{with_areas}
 use Rattle.nm_model.proofs.areas.Cut.{areas_alone}
 use Rattle.nm_areas.proofs.Counted.{err_always}
@@ -20,10 +20,10 @@ returns-clause-ok g c =
     let first = c.args.range.first in
     let end = c.args.range.end in
     let areas = c.args.self.now.areas in
-    let after = flat_map (repoliced pid first end c.args.policy) areas in
+    let after = flat_map (parts_with_policy pid first end c.args.policy) areas in
     let split = c.in_ok-cut.ensures.ok in
     areas_alone c.self.inside.areas.entries c.paint.new.areas.entries after c.self.inside.segments.entries c.self.inside.next_segment c.cut.new.self c.self.view_is
-    (c.paint.ensures ∙ ap (with_values (painted pid first end c.args.policy)) (ap (λ (m : Table). m.areas) (c.self.view_is ∙ split))
+    (c.paint.ensures ∙ ap (with_values (with_policy_in pid first end c.args.policy)) (ap (λ (m : Table). m.areas) (c.self.view_is ∙ split))
     ∙ all_repoliced pid first end c.args.policy (omega (arith, c.requires.some)) areas c.requires.whole)
     ∙ ap (λ (m : Table). with_areas m after) split
 

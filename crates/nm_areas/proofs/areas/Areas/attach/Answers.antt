@@ -8,11 +8,11 @@ use Rattle.nm_types.specs.Map.{Map, get, set, spot_cmp}
 use Rattle.nm_types.specs.declared.area.Area.{Area}
 use Rattle.nm_model.specs.definitions.Areas.{is_shared}
 use Rattle.nm_model.specs.views.Table.{Table, with_areas}
-use Rattle.nm_model.specs.definitions.Areas.{Mapped, mapped}
+use Rattle.nm_model.specs.definitions.Areas.{Mapping, mapping_of}
 use Rattle.nm_model.specs.definitions.AreaRefusal.{stretch_refusal, is_range, is_room, is_stretch, overlaps}
 use Rattle.nm_areas.proofs.Beginning.{none_begins, free_pages}
 use Rattle.nm_model.proofs.areas.Shown.{over_more}
-use Rattle.nm_model.specs.definitions.Areas.{new_area, over_with, attached}
+use Rattle.nm_model.specs.definitions.Areas.{new_area, over_with, with_area}
 use Rattle.nm_areas.proofs.Inserted.{attached_mapped, stretch_ends}
 use Rattle.nm_areas.proofs.Private.{stretch_shared}
 use Rattle.nm_areas.proofs.Covered.{came, stayed}
@@ -25,34 +25,34 @@ room_is areas pid addr pages first at range =
     ap (λ b. b && not (list_any (overlaps pid (addr / 4096) (addr / 4096 + pages)) areas)) range ∙ ap (λ n. not (list_any (overlaps pid n (n + pages)) areas)) (sym at)
 
 -- what is refused, by whether there is room and such a stretch
-no_room : (m : Mapped) (pid addr segment offset pages : ℕ) → is_room m.areas pid addr pages ≡ false → stretch_refusal m pid addr segment offset pages ≡ Some Einval
+no_room : (m : Mapping) (pid addr segment offset pages : ℕ) → is_room m.areas pid addr pages ≡ false → stretch_refusal m pid addr segment offset pages ≡ Some Einval
 no_room m pid addr segment offset pages e = ap (λ b. if not (b && is_stretch (get nat_cmp m.segments segment) offset pages) then Some Einval else None) e
 
-by_stretch : (m : Mapped) (pid addr segment offset pages : ℕ) → is_room m.areas pid addr pages ≡ true
+by_stretch : (m : Mapping) (pid addr segment offset pages : ℕ) → is_room m.areas pid addr pages ≡ true
     → stretch_refusal m pid addr segment offset pages ≡ (if not (is_stretch (get nat_cmp m.segments segment) offset pages) then Some Einval else None)
 by_stretch m pid addr segment offset pages e = ap (λ b. if not (b && is_stretch (get nat_cmp m.segments segment) offset pages) then Some Einval else None) e
 
-no_range : (m : Mapped) (pid addr segment offset pages : ℕ) → is_range addr pages ≡ false → stretch_refusal m pid addr segment offset pages ≡ Some Einval
+no_range : (m : Mapping) (pid addr segment offset pages : ℕ) → is_range addr pages ≡ false → stretch_refusal m pid addr segment offset pages ≡ Some Einval
 no_range m pid addr segment offset pages e = no_room m pid addr segment offset pages (ap (λ b. b && not (list_any (overlaps pid (addr / 4096) (addr / 4096 + pages)) m.areas)) e)
 
-module _ (m n : Mapped) (pid addr segment offset pages first : ℕ) (free : Bool) (same : m ≡ n) (at : first ≡ addr / 4096) (range : is_range addr pages ≡ true)
+module _ (m n : Mapping) (pid addr segment offset pages first : ℕ) (free : Bool) (same : m ≡ n) (at : first ≡ addr / 4096) (range : is_range addr pages ≡ true)
     (told : free ≡ not (list_any (overlaps pid first (first + pages)) m.areas)) where
   occupied : free ≡ false → stretch_refusal n pid addr segment offset pages ≡ Some Einval
-  occupied refused = subst (λ (x : Mapped). stretch_refusal x pid addr segment offset pages ≡ Some Einval) same
+  occupied refused = subst (λ (x : Mapping). stretch_refusal x pid addr segment offset pages ≡ Some Einval) same
       (no_room m pid addr segment offset pages (room_is m.areas pid addr pages first at range ∙ sym told ∙ refused))
 
   no_stretch : free ≡ true → is_stretch (get nat_cmp m.segments segment) offset pages ≡ false → stretch_refusal n pid addr segment offset pages ≡ Some Einval
-  no_stretch given refused = subst (λ (x : Mapped). stretch_refusal x pid addr segment offset pages ≡ Some Einval) same
+  no_stretch given refused = subst (λ (x : Mapping). stretch_refusal x pid addr segment offset pages ≡ Some Einval) same
       (by_stretch m pid addr segment offset pages (room_is m.areas pid addr pages first at range ∙ sym told ∙ given) ∙ ap (λ b. if not b then Some Einval else None) refused)
 
   accepted : free ≡ true → (number : ℕ) → number ≡ segment → is_stretch (get nat_cmp m.segments number) offset pages ≡ true → stretch_refusal n pid addr segment offset pages ≡ None
-  accepted given number is fits = subst (λ (x : Mapped). stretch_refusal x pid addr segment offset pages ≡ None) same
+  accepted given number is fits = subst (λ (x : Mapping). stretch_refusal x pid addr segment offset pages ≡ None) same
       (by_stretch m pid addr segment offset pages (room_is m.areas pid addr pages first at range ∙ sym told ∙ given)
       ∙ ap (λ b. if not b then Some Einval else None) (ap (λ k. is_stretch (get nat_cmp m.segments k) offset pages) (sym is) ∙ fits))
 
 -- the table with the new area is that of the definition
 attached_at : (t u : Table) (place : Map Page ℕ) (pid addr segment offset pages first number : ℕ) → first ≡ addr / 4096 → number ≡ segment
-    → u ≡ with_areas t (set spot_cmp t.areas (pid, first) (new_area number offset pages)) → mapped u place ≡ attached (mapped t place) pid addr segment offset pages
+    → u ≡ with_areas t (set spot_cmp t.areas (pid, first) (new_area number offset pages)) → mapping_of u place ≡ with_area (mapping_of t place) pid addr segment offset pages
 attached_at t u place pid addr segment offset pages first number at is e = rw (e, at, is)
 
 pub is_free-requires-clause-apart : goal.is_free-requires-clause-apart
@@ -82,7 +82,7 @@ returns-in_default-clause-done g c = (no_range c.args.self.now c.args.pid c.args
 pub returns-then-not-is_free-clause-done : goal.returns-then-not-is_free-clause-done
 returns-then-not-is_free-clause-done g c =
     let range = c.in-Some.ensures.some in (
-      occupied (mapped c.self.inside.table c.self.inside.places.entries) c.args.self.now c.args.pid c.args.addr c.args.segment c.args.offset c.args.pages c.in-Some.range.first c.is_free.result c.self.view_is
+      occupied (mapping_of c.self.inside.table c.self.inside.places.entries) c.args.self.now c.args.pid c.args.addr c.args.segment c.args.offset c.args.pages c.in-Some.range.first c.is_free.result c.self.view_is
           range.0 range.2 (free_pages c.self.inside.table.areas c.args.pid _ _ range.0 range.1 c.is_free.ensures) c.if-not-is_free.true,
       refl,
     )
@@ -90,7 +90,7 @@ returns-then-not-is_free-clause-done g c =
 pub returns-in_default-stretch_of-clause-done : goal.returns-in_default-stretch_of-clause-done
 returns-in_default-stretch_of-clause-done g c =
     let range = c.in-Some.ensures.some in (
-      no_stretch (mapped c.self.inside.table c.self.inside.places.entries) c.args.self.now c.args.pid c.args.addr c.args.segment c.args.offset c.args.pages c.in-Some.range.first c.is_free.result c.self.view_is
+      no_stretch (mapping_of c.self.inside.table c.self.inside.places.entries) c.args.self.now c.args.pid c.args.addr c.args.segment c.args.offset c.args.pages c.in-Some.range.first c.is_free.result c.self.view_is
           range.0 range.2 (free_pages c.self.inside.table.areas c.args.pid _ _ range.0 range.1 c.is_free.ensures) c.if-not-is_free.false c.in_default-stretch_of.ensures.none,
       refl,
     )
@@ -99,34 +99,34 @@ pub returns-in_err-count_in-clause-memory : goal.returns-in_err-count_in-clause-
 returns-in_err-count_in-clause-memory g c = λ _.
     let range = c.in-Some.ensures.some in
     let stretch = c.in-Some-stretch_of.ensures.some in
-    accepted (mapped c.self.inside.table c.self.inside.places.entries) c.args.self.now c.args.pid c.args.addr c.args.segment c.args.offset c.args.pages c.in-Some.range.first c.is_free.result c.self.view_is
+    accepted (mapping_of c.self.inside.table c.self.inside.places.entries) c.args.self.now c.args.pid c.args.addr c.args.segment c.args.offset c.args.pages c.in-Some.range.first c.is_free.result c.self.view_is
     range.0 range.2 (free_pages c.self.inside.table.areas c.args.pid _ _ range.0 range.1 c.is_free.ensures) c.if-not-is_free.false c.in-Some-stretch_of.number stretch.0 stretch.1
 
 pub returns-in_default-attach-clause-memory : goal.returns-in_default-attach-clause-memory
 returns-in_default-attach-clause-memory g c = λ _.
     let range = c.in-Some.ensures.some in
     let stretch = c.in-Some-stretch_of.ensures.some in
-    accepted (mapped c.self.inside.table c.self.inside.places.entries) c.args.self.now c.args.pid c.args.addr c.args.segment c.args.offset c.args.pages c.in-Some.range.first c.is_free.result c.self.view_is
+    accepted (mapping_of c.self.inside.table c.self.inside.places.entries) c.args.self.now c.args.pid c.args.addr c.args.segment c.args.offset c.args.pages c.in-Some.range.first c.is_free.result c.self.view_is
     range.0 range.2 (free_pages c.self.inside.table.areas c.args.pid _ _ range.0 range.1 c.is_free.ensures) c.if-not-is_free.false c.in-Some-stretch_of.number stretch.0 stretch.1
 
 pub returns-clause-memory : goal.returns-clause-memory
 returns-clause-memory g c = λ _.
     let range = c.in-Some.ensures.some in
     let stretch = c.in-Some-stretch_of.ensures.some in
-    accepted (mapped c.self.inside.table c.self.inside.places.entries) c.args.self.now c.args.pid c.args.addr c.args.segment c.args.offset c.args.pages c.in-Some.range.first c.is_free.result c.self.view_is
+    accepted (mapping_of c.self.inside.table c.self.inside.places.entries) c.args.self.now c.args.pid c.args.addr c.args.segment c.args.offset c.args.pages c.in-Some.range.first c.is_free.result c.self.view_is
     range.0 range.2 (free_pages c.self.inside.table.areas c.args.pid _ _ range.0 range.1 c.is_free.ensures) c.if-not-is_free.false c.in-Some-stretch_of.number stretch.0 stretch.1
 
 pub returns-in_default-attach-clause-done : goal.returns-in_default-attach-clause-done
-returns-in_default-attach-clause-done g c = ap (λ (t : Table). mapped t c.self.inside.places.entries) c.in_default-attach.ensures.err ∙ c.self.view_is
+returns-in_default-attach-clause-done g c = ap (λ (t : Table). mapping_of t c.self.inside.places.entries) c.in_default-attach.ensures.err ∙ c.self.view_is
 
 pub returns-clause-done : goal.returns-clause-done
 returns-clause-done g c =
     let range = c.in-Some.ensures.some in
     let stretch = c.in-Some-stretch_of.ensures.some in (
-      accepted (mapped c.self.inside.table c.self.inside.places.entries) c.args.self.now c.args.pid c.args.addr c.args.segment c.args.offset c.args.pages c.in-Some.range.first c.is_free.result c.self.view_is
+      accepted (mapping_of c.self.inside.table c.self.inside.places.entries) c.args.self.now c.args.pid c.args.addr c.args.segment c.args.offset c.args.pages c.in-Some.range.first c.is_free.result c.self.view_is
           range.0 range.2 (free_pages c.self.inside.table.areas c.args.pid _ _ range.0 range.1 c.is_free.ensures) c.if-not-is_free.false c.in-Some-stretch_of.number stretch.0 stretch.1,
       attached_at c.self.inside.table c.attach.new.self c.self.inside.places.entries c.args.pid c.args.addr c.args.segment c.args.offset c.args.pages c.in-Some.range.first c.in-Some-stretch_of.number range.0 stretch.0 c.in-Ok.ensures.ok
-          ∙ ap (λ (m : Mapped). attached m c.args.pid c.args.addr c.args.segment c.args.offset c.args.pages) c.self.view_is,
+          ∙ ap (λ (m : Mapping). with_area m c.args.pid c.args.addr c.args.segment c.args.offset c.args.pages) c.self.view_is,
     )
 
 pub attach-requires : goal.attach-requires
@@ -171,4 +171,4 @@ returns-clause-over g c q v =
     over_more c.self.inside.table c.attach.new.self c.self.inside.places.entries c.args.pid c.in-Some.range.first (c.args.addr / 4096) (new_area number c.args.offset c.args.pages) c.self.invariant.0 (omega (arith, range.0, range.1, range.3)) range.0
     (sym c.if-not-is_free.false ∙ free_pages c.self.inside.table.areas c.args.pid _ _ range.0 range.1 c.is_free.ensures) (ap (λ (t : Table). t.areas) c.in-Ok.ensures.ok) q v
     ∙ ap (λ (n : ℕ). over_with c.self.inside.table.areas ((c.args.pid, c.args.addr / 4096), new_area n c.args.offset c.args.pages) q v) c.in-Some-stretch_of.ensures.some.0
-    ∙ ap (λ (m : Mapped). over_with m.areas ((c.args.pid, c.args.addr / 4096), new_area c.args.segment c.args.offset c.args.pages) q v) c.self.view_is
+    ∙ ap (λ (m : Mapping). over_with m.areas ((c.args.pid, c.args.addr / 4096), new_area c.args.segment c.args.offset c.args.pages) q v) c.self.view_is

@@ -13,9 +13,9 @@ use Rattle.nm_types.specs.Map.{Map, set, spot_cmp}
 use Rattle.nm_types.specs.declared.area.Segment.{Segment}
 use Rattle.nm_model.specs.definitions.Areas.{is_shared}
 use Rattle.nm_model.specs.views.Table.{Table}
-use Rattle.nm_model.specs.definitions.Areas.{Mapped, mapped}
+use Rattle.nm_model.specs.definitions.Areas.{Mapping, mapping_of}
 use Rattle.nm_model.specs.definitions.AreaRefusal.{insert_refusal, is_range, is_room, overlaps}
-use Rattle.nm_model.specs.definitions.Areas.{new_area, over_with, inserted}
+use Rattle.nm_model.specs.definitions.Areas.{new_area, over_with, with_segment}
 use Rattle.nm_areas.proofs.Beginning.{none_begins, free_pages}
 use Rattle.nm_areas.proofs.Covered.{came, stayed}
 use Rattle.nm_areas.proofs.Masked.{new_shared, old_shared}
@@ -30,42 +30,42 @@ room_is areas pid addr pages first at range =
     ap (λ b. b && not (list_any (overlaps pid (addr / 4096) (addr / 4096 + pages)) areas)) range ∙ ap (λ n. not (list_any (overlaps pid n (n + pages)) areas)) (sym at)
 
 -- what is refused, by whether there is room and a number
-refused_room : (m : Mapped) (pid addr pages : ℕ) → is_room m.areas pid addr pages ≡ false → insert_refusal m pid addr pages ≡ Some Einval
+refused_room : (m : Mapping) (pid addr pages : ℕ) → is_room m.areas pid addr pages ≡ false → insert_refusal m pid addr pages ≡ Some Einval
 refused_room m pid addr pages e = ap (λ b. if not b then Some Einval else (if nat_le 65536 m.next then Some Enomem else None)) e
 
-refused_number : (m : Mapped) (pid addr pages : ℕ) → is_room m.areas pid addr pages ≡ true → insert_refusal m pid addr pages ≡ (if nat_le 65536 m.next then Some Enomem else None)
+refused_number : (m : Mapping) (pid addr pages : ℕ) → is_room m.areas pid addr pages ≡ true → insert_refusal m pid addr pages ≡ (if nat_le 65536 m.next then Some Enomem else None)
 refused_number m pid addr pages e = ap (λ b. if not b then Some Einval else (if nat_le 65536 m.next then Some Enomem else None)) e
 
-refused_not : (m : Mapped) (pid addr pages : ℕ) → is_room m.areas pid addr pages ≡ true → m.next < 65536 → insert_refusal m pid addr pages ≡ None
+refused_not : (m : Mapping) (pid addr pages : ℕ) → is_room m.areas pid addr pages ≡ true → m.next < 65536 → insert_refusal m pid addr pages ≡ None
 refused_not m pid addr pages e lt = refused_number m pid addr pages e ∙ ap (λ b. if b then Some Enomem else None) (lt-leb 65536 m.next lt)
 
 -- the call is not refused where the range is free and a number is left
-accepted : (m n : Mapped) (pid addr pages first : ℕ) (free : Bool) → m ≡ n → first ≡ addr / 4096 → is_range addr pages ≡ true
+accepted : (m n : Mapping) (pid addr pages first : ℕ) (free : Bool) → m ≡ n → first ≡ addr / 4096 → is_range addr pages ≡ true
     → free ≡ not (list_any (overlaps pid first (first + pages)) m.areas) → free ≡ true → m.next < 65536 → insert_refusal n pid addr pages ≡ None
 accepted m n pid addr pages first free same at range told given lt =
-    subst (λ (x : Mapped). insert_refusal x pid addr pages ≡ None) same (refused_not m pid addr pages (room_is m.areas pid addr pages first at range ∙ sym told ∙ given) lt)
+    subst (λ (x : Mapping). insert_refusal x pid addr pages ≡ None) same (refused_not m pid addr pages (room_is m.areas pid addr pages first at range ∙ sym told ∙ given) lt)
 
-occupied : (m n : Mapped) (pid addr pages first : ℕ) (free : Bool) → m ≡ n → first ≡ addr / 4096 → is_range addr pages ≡ true
+occupied : (m n : Mapping) (pid addr pages first : ℕ) (free : Bool) → m ≡ n → first ≡ addr / 4096 → is_range addr pages ≡ true
     → free ≡ not (list_any (overlaps pid first (first + pages)) m.areas) → free ≡ false → insert_refusal n pid addr pages ≡ Some Einval
 occupied m n pid addr pages first free same at range told refused =
-    subst (λ (x : Mapped). insert_refusal x pid addr pages ≡ Some Einval) same (refused_room m pid addr pages (room_is m.areas pid addr pages first at range ∙ sym told ∙ refused))
+    subst (λ (x : Mapping). insert_refusal x pid addr pages ≡ Some Einval) same (refused_room m pid addr pages (room_is m.areas pid addr pages first at range ∙ sym told ∙ refused))
 
-exhausted : (m n : Mapped) (pid addr pages first : ℕ) (free : Bool) → m ≡ n → first ≡ addr / 4096 → is_range addr pages ≡ true
+exhausted : (m n : Mapping) (pid addr pages first : ℕ) (free : Bool) → m ≡ n → first ≡ addr / 4096 → is_range addr pages ≡ true
     → free ≡ not (list_any (overlaps pid first (first + pages)) m.areas) → free ≡ true → 65536 ≤ m.next → insert_refusal n pid addr pages ≡ Some Enomem
 exhausted m n pid addr pages first free same at range told given le =
-    subst (λ (x : Mapped). insert_refusal x pid addr pages ≡ Some Enomem) same
+    subst (λ (x : Mapping). insert_refusal x pid addr pages ≡ Some Enomem) same
     (refused_number m pid addr pages (room_is m.areas pid addr pages first at range ∙ sym told ∙ given) ∙ ap (λ b. if b then Some Enomem else None) (le-leb 65536 m.next le))
 
 refused_is_not : (e : Errno) → ◌≡◌ {A = Result ℕ MachineError} (Err (error.Refused e)) (Err error.HostMemory) → ⊥
 refused_is_not e h = cc
 
-no_range : (m : Mapped) (pid addr pages : ℕ) → is_range addr pages ≡ false → insert_refusal m pid addr pages ≡ Some Einval
+no_range : (m : Mapping) (pid addr pages : ℕ) → is_range addr pages ≡ false → insert_refusal m pid addr pages ≡ Some Einval
 no_range m pid addr pages e = refused_room m pid addr pages (ap (λ b. b && not (list_any (overlaps pid (addr / 4096) (addr / 4096 + pages)) m.areas)) e)
 
 -- the table with the new segment is that of the definition
 inserted_at : (t u : Table) (place : Map Page ℕ) (pid addr pages first : ℕ) (shared : Bool) → first ≡ addr / 4096
     → u ≡ record { areas = set spot_cmp t.areas (pid, first) (new_area t.next 0 pages); segments = set nat_cmp t.segments t.next (record { pages = pages; shared = shared }); next = suc t.next }
-    → mapped u place ≡ inserted (mapped t place) pid addr pages shared
+    → mapping_of u place ≡ with_segment (mapping_of t place) pid addr pages shared
 inserted_at t u place pid addr pages first shared at e = rw (e, at)
 
 pub is_free-requires-clause-apart : goal.is_free-requires-clause-apart
@@ -98,7 +98,7 @@ returns-in_default-clause-done g c = (no_range c.args.self.now c.args.pid c.args
 pub returns-then-not-is_free-clause-done : goal.returns-then-not-is_free-clause-done
 returns-then-not-is_free-clause-done g c =
     let range = c.in-Some.ensures.some in (
-      occupied (mapped c.self.inside.table c.self.inside.places.entries) c.args.self.now c.args.pid c.args.addr c.args.pages c.in-Some.range.first c.is_free.result c.self.view_is range.0 range.2
+      occupied (mapping_of c.self.inside.table c.self.inside.places.entries) c.args.self.now c.args.pid c.args.addr c.args.pages c.in-Some.range.first c.is_free.result c.self.view_is range.0 range.2
           (free_pages c.self.inside.table.areas c.args.pid _ _ range.0 range.1 c.is_free.ensures) c.if-not-is_free.true,
       refl,
     )
@@ -106,13 +106,13 @@ returns-then-not-is_free-clause-done g c =
 pub returns-in_err-count_in-clause-memory : goal.returns-in_err-count_in-clause-memory
 returns-in_err-count_in-clause-memory g c = λ _.
     let range = c.in-Some.ensures.some in
-    accepted (mapped c.self.inside.table c.self.inside.places.entries) c.args.self.now c.args.pid c.args.addr c.args.pages c.in-Some.range.first c.is_free.result c.self.view_is range.0 range.2
+    accepted (mapping_of c.self.inside.table c.self.inside.places.entries) c.args.self.now c.args.pid c.args.addr c.args.pages c.in-Some.range.first c.is_free.result c.self.view_is range.0 range.2
     (free_pages c.self.inside.table.areas c.args.pid _ _ range.0 range.1 c.is_free.ensures) c.if-not-is_free.false (omega (arith, c.next_segment.ensures, c.if-next_segment-ge-MAX_SEGMENTS.false))
 
 pub returns-then-next_segment-ge-MAX_SEGMENTS-clause-done : goal.returns-then-next_segment-ge-MAX_SEGMENTS-clause-done
 returns-then-next_segment-ge-MAX_SEGMENTS-clause-done g c =
     let range = c.in-Some.ensures.some in (
-      exhausted (mapped c.self.inside.table c.self.inside.places.entries) c.args.self.now c.args.pid c.args.addr c.args.pages c.in-Some.range.first c.is_free.result c.self.view_is range.0 range.2
+      exhausted (mapping_of c.self.inside.table c.self.inside.places.entries) c.args.self.now c.args.pid c.args.addr c.args.pages c.in-Some.range.first c.is_free.result c.self.view_is range.0 range.2
           (free_pages c.self.inside.table.areas c.args.pid _ _ range.0 range.1 c.is_free.ensures) c.if-not-is_free.false (omega (arith, c.next_segment.ensures, c.if-next_segment-ge-MAX_SEGMENTS.true)),
       refl,
     )
@@ -130,30 +130,30 @@ pub insert-requires-clause-number : goal.insert-requires-clause-number
 insert-requires-clause-number g c = omega (arith, c.next_segment.ensures, c.if-next_segment-ge-MAX_SEGMENTS.false)
 
 pub returns-in_default-insert-clause-done : goal.returns-in_default-insert-clause-done
-returns-in_default-insert-clause-done g c = ap (λ (t : Table). mapped t c.self.inside.places.entries) c.in_default-insert.ensures.err ∙ c.self.view_is
+returns-in_default-insert-clause-done g c = ap (λ (t : Table). mapping_of t c.self.inside.places.entries) c.in_default-insert.ensures.err ∙ c.self.view_is
 
 pub returns-in_default-insert-clause-memory : goal.returns-in_default-insert-clause-memory
 returns-in_default-insert-clause-memory g c = λ _.
     let range = c.in-Some.ensures.some in
-    accepted (mapped c.self.inside.table c.self.inside.places.entries) c.args.self.now c.args.pid c.args.addr c.args.pages c.in-Some.range.first c.is_free.result c.self.view_is range.0 range.2
+    accepted (mapping_of c.self.inside.table c.self.inside.places.entries) c.args.self.now c.args.pid c.args.addr c.args.pages c.in-Some.range.first c.is_free.result c.self.view_is range.0 range.2
     (free_pages c.self.inside.table.areas c.args.pid _ _ range.0 range.1 c.is_free.ensures) c.if-not-is_free.false (omega (arith, c.next_segment.ensures, c.if-next_segment-ge-MAX_SEGMENTS.false))
 
 pub returns-clause-memory : goal.returns-clause-memory
 returns-clause-memory g c = λ _.
     let range = c.in-Some.ensures.some in
-    accepted (mapped c.self.inside.table c.self.inside.places.entries) c.args.self.now c.args.pid c.args.addr c.args.pages c.in-Some.range.first c.is_free.result c.self.view_is range.0 range.2
+    accepted (mapping_of c.self.inside.table c.self.inside.places.entries) c.args.self.now c.args.pid c.args.addr c.args.pages c.in-Some.range.first c.is_free.result c.self.view_is range.0 range.2
     (free_pages c.self.inside.table.areas c.args.pid _ _ range.0 range.1 c.is_free.ensures) c.if-not-is_free.false (omega (arith, c.next_segment.ensures, c.if-next_segment-ge-MAX_SEGMENTS.false))
 
 pub returns-clause-number : goal.returns-clause-number
-returns-clause-number g c = c.in-Ok.ensures.number ∙ ap (λ (m : Mapped). m.next) c.self.view_is
+returns-clause-number g c = c.in-Ok.ensures.number ∙ ap (λ (m : Mapping). m.next) c.self.view_is
 
 pub returns-clause-done : goal.returns-clause-done
 returns-clause-done g c =
     let range = c.in-Some.ensures.some in (
-      accepted (mapped c.self.inside.table c.self.inside.places.entries) c.args.self.now c.args.pid c.args.addr c.args.pages c.in-Some.range.first c.is_free.result c.self.view_is range.0 range.2
+      accepted (mapping_of c.self.inside.table c.self.inside.places.entries) c.args.self.now c.args.pid c.args.addr c.args.pages c.in-Some.range.first c.is_free.result c.self.view_is range.0 range.2
           (free_pages c.self.inside.table.areas c.args.pid _ _ range.0 range.1 c.is_free.ensures) c.if-not-is_free.false (omega (arith, c.next_segment.ensures, c.if-next_segment-ge-MAX_SEGMENTS.false)),
       inserted_at c.self.inside.table c.insert.new.self c.self.inside.places.entries c.args.pid c.args.addr c.args.pages c.in-Some.range.first c.args.shared range.0 c.in-Ok.ensures.ok
-          ∙ ap (λ (m : Mapped). inserted m c.args.pid c.args.addr c.args.pages c.args.shared) c.self.view_is,
+          ∙ ap (λ (m : Mapping). with_segment m c.args.pid c.args.addr c.args.pages c.args.shared) c.self.view_is,
     )
 
 pub insert-requires-clause-new : goal.insert-requires-clause-new
@@ -188,4 +188,4 @@ returns-clause-over g c q v =
     let range = c.in-Some.ensures.some in
     over_more c.self.inside.table c.insert.new.self c.self.inside.places.entries c.args.pid c.in-Some.range.first (c.args.addr / 4096) (new_area c.self.inside.table.next 0 c.args.pages) c.self.invariant.0 (omega (arith, range.0, range.1, range.3)) range.0
     (sym c.if-not-is_free.false ∙ free_pages c.self.inside.table.areas c.args.pid _ _ range.0 range.1 c.is_free.ensures) (ap (λ (t : Table). t.areas) c.in-Ok.ensures.ok) q v
-    ∙ ap (λ (m : Mapped). over_with m.areas ((c.args.pid, c.args.addr / 4096), new_area m.next 0 c.args.pages) q v) c.self.view_is
+    ∙ ap (λ (m : Mapping). over_with m.areas ((c.args.pid, c.args.addr / 4096), new_area m.next 0 c.args.pages) q v) c.self.view_is

@@ -4,7 +4,7 @@ use Rattle.std.specs.List.{AllByRecursion}
 use Rattle.std.specs.List.Sorted.{IsStrictlySortedBy}
 use Rattle.std.specs.Map.{keys_of}
 use Rattle.std.specs.Ordering.{nat_cmp}
-use Rattle.nm_model.specs.definitions.Areas.{Mapped, mapped, IsMapped, IsSomePages, HasIndices, AreasAreApart}
+use Rattle.nm_model.specs.definitions.Areas.{Mapping, mapping_of, IsWellFormed, IsSomePages, HasIndices, AreasAreApart}
 use Rattle.nm_types.specs.State.{page_at}
 use Rattle.nm_model.specs.views.Table.{Table}
 use Rattle.nm_areas.specs.Coverage.{IsCoverage, IsSteps, of_shared, ends_at, covers_at, splits_at}
@@ -16,7 +16,7 @@ use Rattle.nm_areas.proofs.Counted.{err_always}
 use Rattle.nm_areas.proofs.Covered.{was_cut}
 use Rattle.nm_areas.proofs.Divided.{split_in}
 use Rattle.nm_areas.proofs.Masked.{left_covered}
-use Rattle.nm_model.specs.definitions.Areas.{removed, frames_lost, others, page_outside}
+use Rattle.nm_model.specs.definitions.Areas.{after_removal, frames_lost, others, page_outside}
 use Rattle.nm_model.proofs.areas.Shown.{left_shows}
 use Rattle.nm_areas.proofs.Roomy.{few_own}
 use Rattle.nm_areas.proofs.Letting.{cut_indices, cut_shown, now_left, after_is, after_mapped, lost_is}
@@ -26,9 +26,9 @@ use Rattle.nm_areas.proofs.Untouched.{not_false, same_removed, none_lost, none_h
 use Rattle.nm_areas.proofs.areas.Areas.remove.Goals as goal
 
 -- where the range is not free, an area overlaps it
-taken : (m n : Mapped) (pid first end : ℕ) (free : Bool) → m ≡ n → free ≡ not (list_any (overlaps pid first end) m.areas) → free ≡ false → list_any (overlaps pid first end) n.areas ≡ true
+taken : (m n : Mapping) (pid first end : ℕ) (free : Bool) → m ≡ n → free ≡ not (list_any (overlaps pid first end) m.areas) → free ≡ false → list_any (overlaps pid first end) n.areas ≡ true
 taken m n pid first end free same told h =
-    ap (λ (x : Mapped). list_any (overlaps pid first end) x.areas) (sym same) ∙ not_false free (list_any (overlaps pid first end) m.areas) told h
+    ap (λ (x : Mapping). list_any (overlaps pid first end) x.areas) (sym same) ∙ not_false free (list_any (overlaps pid first end) m.areas) told h
 
 pub lose_all-requires-clause-indices : goal.lose_all-requires-clause-indices
 lose_all-requires-clause-indices g c =
@@ -74,13 +74,13 @@ pub returns-clause-ok : goal.returns-clause-ok
 returns-clause-ok g c =
     after_is c.self.inside.table c.self.inside.places.entries c.self.invariant.0 c.args.pid c.args.range.first c.args.range.end c.requires.some c.cut.new.self c.drop_own.new.self
     c.lose_all.new.places.entries c.in-Ok.ensures.ok c.drop_own.ensures c.lose_all.ensures.places
-    ∙ ap (λ (m : Mapped). removed m c.args.pid c.args.range.first c.args.range.end) c.self.view_is
+    ∙ ap (λ (m : Mapping). after_removal m c.args.pid c.args.range.first c.args.range.end) c.self.view_is
 
 pub returns-clause-freed : goal.returns-clause-freed
 returns-clause-freed g c =
     lost_is c.self.inside.table c.self.inside.places.entries c.self.invariant.0 c.args.pid c.args.range.first c.args.range.end c.requires.some c.cut.new.self c.drop_own.new.self
     c.lose_all.new.places.entries c.in-Ok.ensures.ok c.drop_own.ensures c.lose_all.ensures.places c.in_ok-freed.freed.items c.lose_all.new.freed.items c.in_ok-freed.ensures.items c.lose_all.ensures.freed
-    ∙ ap (λ (m : Mapped). frames_lost m c.args.pid c.args.range.first c.args.range.end) c.self.view_is
+    ∙ ap (λ (m : Mapping). frames_lost m c.args.pid c.args.range.first c.args.range.end) c.self.view_is
 
 pub returns-clause-pages : goal.returns-clause-pages
 returns-clause-pages g c q v =
@@ -88,7 +88,7 @@ returns-clause-pages g c q v =
     ap (λ (t : Table). page_at t.areas q v) (now_left c.self.inside.table c.self.inside.places.entries c.self.invariant.0 c.args.pid c.args.range.first c.args.range.end c.requires.some c.cut.new.self c.drop_own.new.self
     c.lose_all.new.places.entries c.in-Ok.ensures.ok c.drop_own.ensures c.lose_all.ensures.places)
     ∙ left_shows c.args.pid c.args.range.first c.args.range.end (omega (arith, c.requires.some)) areas c.self.invariant.0.whole c.self.invariant.0.apart q v
-    ∙ ap (λ (m : Mapped). page_outside m.areas c.args.pid c.args.range.first c.args.range.end q v) c.self.view_is
+    ∙ ap (λ (m : Mapping). page_outside m.areas c.args.pid c.args.range.first c.args.range.end q v) c.self.view_is
 
 pub split_steps-requires-clause-steps : goal.split_steps-requires-clause-steps
 split_steps-requires-clause-steps g c = c.self.invariant.1
@@ -133,10 +133,10 @@ join_steps-requires-clause-indices g c = subst (λ (t : Table). AllByRecursion H
 
 pub invariant_of-self-in_default : goal.invariant_of-self-in_default
 invariant_of-self-in_default g c =
-    (subst (λ (t : Table). IsMapped (mapped t c.self.inside.places.entries)) (sym c.in_default.ensures.err) c.self.invariant.0, c.join_steps.ensures)
+    (subst (λ (t : Table). IsWellFormed (mapping_of t c.self.inside.places.entries)) (sym c.in_default.ensures.err) c.self.invariant.0, c.join_steps.ensures)
 
 pub returns-in_default-clause-err : goal.returns-in_default-clause-err
-returns-in_default-clause-err g c = ap (λ (t : Table). mapped t c.self.inside.places.entries) c.in_default.ensures.err ∙ c.self.view_is
+returns-in_default-clause-err g c = ap (λ (t : Table). mapping_of t c.self.inside.places.entries) c.in_default.ensures.err ∙ c.self.view_is
 
 pub count_out_own-requires-clause-range : goal.count_out_own-requires-clause-range
 count_out_own-requires-clause-range g c = omega (arith, c.requires.some)
@@ -152,7 +152,7 @@ drop_own-requires-clause-named g c = subst (λ (t : Table). IsStrictlySortedBy n
 
 pub returns-clause-room : goal.returns-clause-room
 returns-clause-room g c =
-    omega (arith, c.lose_all.ensures.room, c.in_ok-freed.ensures.exact, c.min-most.ensures, c.len.ensures.len, ap (λ (m : Mapped). length m.place) c.self.view_is)
+    omega (arith, c.lose_all.ensures.room, c.in_ok-freed.ensures.exact, c.min-most.ensures, c.len.ensures.len, ap (λ (m : Mapping). length m.place) c.self.view_is)
 
 -- ---- no area in the range
 
@@ -160,33 +160,33 @@ pub returns-then-is_free-clause-ok : goal.returns-then-is_free-clause-ok
 returns-then-is_free-clause-ok g c =
     sym c.self.view_is
     ∙ same_removed c.self.inside.table c.self.inside.places.entries c.self.invariant.0 c.args.pid c.args.range.first c.args.range.end c.requires.some (sym c.if-is_free.true ∙ c.is_free.ensures)
-    ∙ ap (λ (m : Mapped). removed m c.args.pid c.args.range.first c.args.range.end) c.self.view_is
+    ∙ ap (λ (m : Mapping). after_removal m c.args.pid c.args.range.first c.args.range.end) c.self.view_is
 
 pub returns-then-is_free-clause-pages : goal.returns-then-is_free-clause-pages
 returns-then-is_free-clause-pages g c q v =
-    ap (λ (m : Mapped). page_at m.areas q v) (sym c.self.view_is)
+    ap (λ (m : Mapping). page_at m.areas q v) (sym c.self.view_is)
     ∙ none_hidden c.self.inside.table c.self.inside.places.entries c.self.invariant.0 c.args.pid c.args.range.first c.args.range.end c.requires.some (sym c.if-is_free.true ∙ c.is_free.ensures) q v
-    ∙ ap (λ (m : Mapped). page_outside m.areas c.args.pid c.args.range.first c.args.range.end q v) c.self.view_is
+    ∙ ap (λ (m : Mapping). page_outside m.areas c.args.pid c.args.range.first c.args.range.end q v) c.self.view_is
 
 pub returns-then-is_free-clause-freed : goal.returns-then-is_free-clause-freed
 returns-then-is_free-clause-freed g c =
     c.new.ensures.items
     ∙ none_lost c.self.inside.table c.self.inside.places.entries c.self.invariant.0 c.args.pid c.args.range.first c.args.range.end c.requires.some (sym c.if-is_free.true ∙ c.is_free.ensures)
-    ∙ ap (λ (m : Mapped). frames_lost m c.args.pid c.args.range.first c.args.range.end) c.self.view_is
+    ∙ ap (λ (m : Mapping). frames_lost m c.args.pid c.args.range.first c.args.range.end) c.self.view_is
 
 -- ---- memory is asked for only where an area overlaps the range
 
 pub returns-in_err-freed-clause-asked : goal.returns-in_err-freed-clause-asked
 returns-in_err-freed-clause-asked g c = err_always c.from_residual.result
-    (taken (mapped c.self.inside.table c.self.inside.places.entries) c.args.self.now c.args.pid c.args.range.first c.args.range.end c.is_free.result c.self.view_is c.is_free.ensures c.if-is_free.false)
+    (taken (mapping_of c.self.inside.table c.self.inside.places.entries) c.args.self.now c.args.pid c.args.range.first c.args.range.end c.is_free.result c.self.view_is c.is_free.ensures c.if-is_free.false)
 
 pub returns-in_err-split_steps-clause-asked : goal.returns-in_err-split_steps-clause-asked
 returns-in_err-split_steps-clause-asked g c = err_always c.from_residual-in_err-split_steps.result
-    (taken (mapped c.self.inside.table c.self.inside.places.entries) c.args.self.now c.args.pid c.args.range.first c.args.range.end c.is_free.result c.self.view_is c.is_free.ensures c.if-is_free.false)
+    (taken (mapping_of c.self.inside.table c.self.inside.places.entries) c.args.self.now c.args.pid c.args.range.first c.args.range.end c.is_free.result c.self.view_is c.is_free.ensures c.if-is_free.false)
 
 pub returns-in_default-clause-asked : goal.returns-in_default-clause-asked
 returns-in_default-clause-asked g c =
-    taken (mapped c.self.inside.table c.self.inside.places.entries) c.args.self.now c.args.pid c.args.range.first c.args.range.end c.is_free.result c.self.view_is c.is_free.ensures c.if-is_free.false
+    taken (mapping_of c.self.inside.table c.self.inside.places.entries) c.args.self.now c.args.pid c.args.range.first c.args.range.end c.is_free.result c.self.view_is c.is_free.ensures c.if-is_free.false
 
 -- ---- it is asked for a list of pages that have frames, or where an area is split
 
@@ -200,12 +200,12 @@ some_places places pages most is fails = elim (cases_order 0 places) [
 pub returns-in_err-freed-clause-needed : goal.returns-in_err-freed-clause-needed
 returns-in_err-freed-clause-needed g c =
     let many = some_places c.len.result (c.number.result - c.number-2.result) c.min-most.result c.min-most.ensures c.in_err-freed.ensures.succeeds in
-    err_always c.from_residual.result (inl (omega (arith, many, c.len.ensures.len, ap (λ (m : Mapped). length m.place) c.self.view_is)))
+    err_always c.from_residual.result (inl (omega (arith, many, c.len.ensures.len, ap (λ (m : Mapping). length m.place) c.self.view_is)))
 
 pub returns-in_err-split_steps-clause-needed : goal.returns-in_err-split_steps-clause-needed
 returns-in_err-split_steps-clause-needed g c = err_always c.from_residual-in_err-split_steps.result
-    (inr (split_in c.self.inside.table.areas c.args.self.now.areas c.args.pid _ _ _ _ (ap (λ (m : Mapped). m.areas) c.self.view_is) refl refl c.in_err-split_steps.ensures.asked))
+    (inr (split_in c.self.inside.table.areas c.args.self.now.areas c.args.pid _ _ _ _ (ap (λ (m : Mapping). m.areas) c.self.view_is) refl refl c.in_err-split_steps.ensures.asked))
 
 pub returns-in_default-clause-needed : goal.returns-in_default-clause-needed
 returns-in_default-clause-needed g c =
-    inr (split_in c.self.inside.table.areas c.args.self.now.areas c.args.pid _ _ _ _ (ap (λ (m : Mapped). m.areas) c.self.view_is) refl refl c.in_default.ensures.asked)
+    inr (split_in c.self.inside.table.areas c.args.self.now.areas c.args.pid _ _ _ _ (ap (λ (m : Mapping). m.areas) c.self.view_is) refl refl c.in_default.ensures.asked)

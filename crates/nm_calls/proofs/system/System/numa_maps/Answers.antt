@@ -5,7 +5,7 @@ use Rattle.nm_types.specs.Map.{get}
 use Rattle.nm_types.specs.declared.errno.Errno.TheVariants.{Esrch}
 use Rattle.nm_areas.specs.Lines.{lines_of}
 use Rattle.nm_areas.specs.declared.lines.Area.{Area}
-use Rattle.nm_model.specs.definitions.Areas.{Mapped}
+use Rattle.nm_model.specs.definitions.Areas.{Mapping}
 use Rattle.nm_model.specs.definitions.Effect.{info_of}
 use Rattle.nm_spaces.specs.views.AddressSpaces.{AddressSpacesView}
 use Rattle.nm_steps.specs.Calls.{NumaMaps}
@@ -41,13 +41,13 @@ returns-in_err-areas-clause-done g c =
 
 pub returns-in_err-areas-clause-asked : goal.returns-in_err-areas-clause-asked
 returns-in_err-areas-clause-asked g c = λ runs policy_set is.
-    let lines = ap (λ (m : Mapped). lines_of m.segments m.areas c.args.pid) c.areas.ensures.areas ∙ ap (λ (y : AddressSpacesView). lines_of y.segments y.areas c.args.pid) c.spaces-spaces.ensures in
+    let lines = ap (λ (m : Mapping). lines_of m.segments m.areas c.args.pid) c.areas.ensures.areas ∙ ap (λ (y : AddressSpacesView). lines_of y.segments y.areas c.args.pid) c.spaces-spaces.ensures in
     subst (λ (z : SystemState). 0 < length (lines_of z.state.segments z.state.areas c.args.pid)) c.self.view_is
     (subst (λ (l : List Area). 0 < length l) lines c.in_err-areas.ensures.asked)
 
 pub areas_text-requires-after_bounds : goal.areas_text-requires-after_bounds
 areas_text-requires-after_bounds g c = λ lifetimes bound.
-    let lines = c.in_ok-areas.ensures.lines ∙ ap (λ (m : Mapped). lines_of m.segments m.areas c.args.pid) c.areas.ensures.areas ∙ ap (λ (y : AddressSpacesView). lines_of y.segments y.areas c.args.pid) c.spaces-spaces.ensures in
+    let lines = c.in_ok-areas.ensures.lines ∙ ap (λ (m : Mapping). lines_of m.segments m.areas c.args.pid) c.areas.ensures.areas ∙ ap (λ (y : AddressSpacesView). lines_of y.segments y.areas c.args.pid) c.spaces-spaces.ensures in
     lines_end c.self.inside.machine c.args.pid c.as_slice.result.now c.geometry.ensures.sound (c.as_slice.ensures.value ∙ lines)
 
 pub returns-in_err-areas_text-clause-done : goal.returns-in_err-areas_text-clause-done
@@ -62,7 +62,7 @@ returns-in_err-areas_text-clause-done g c =
 
 pub returns-in_err-areas_text-clause-asked : goal.returns-in_err-areas_text-clause-asked
 returns-in_err-areas_text-clause-asked g c = λ runs policy_set is.
-    let lines = c.in_ok-areas.ensures.lines ∙ ap (λ (m : Mapped). lines_of m.segments m.areas c.args.pid) c.areas.ensures.areas ∙ ap (λ (y : AddressSpacesView). lines_of y.segments y.areas c.args.pid) c.spaces-spaces.ensures in
+    let lines = c.in_ok-areas.ensures.lines ∙ ap (λ (m : Mapping). lines_of m.segments m.areas c.args.pid) c.areas.ensures.areas ∙ ap (λ (y : AddressSpacesView). lines_of y.segments y.areas c.args.pid) c.spaces-spaces.ensures in
     subst (λ (z : SystemState). 0 < length (lines_of z.state.segments z.state.areas c.args.pid)) c.self.view_is
     (subst (λ (l : List Area). 0 < length l) (c.as_slice.ensures.value ∙ lines) c.in_err-areas_text.ensures.asked)
 
@@ -73,7 +73,7 @@ returns-clause-done g c =
     let y : SystemState = record { state = s; run_limit = c.self.inside.run_limit } in
     let info = c.info.ensures ∙ ap (λ (v : AddressSpacesView). option_map info_of (get nat_cmp v.processes c.args.pid)) c.spaces-spaces.ensures in
     let known = unlisted (get nat_cmp s.processes c.args.pid) c.info.result false info (c.is_none.ensures ∙ ap not c.if-is_none.false) in
-    let lines = c.in_ok-areas.ensures.lines ∙ ap (λ (m : Mapped). lines_of m.segments m.areas c.args.pid) c.areas.ensures.areas ∙ ap (λ (y : AddressSpacesView). lines_of y.segments y.areas c.args.pid) c.spaces-spaces.ensures in
+    let lines = c.in_ok-areas.ensures.lines ∙ ap (λ (m : Mapping). lines_of m.segments m.areas c.args.pid) c.areas.ensures.areas ∙ ap (λ (y : AddressSpacesView). lines_of y.segments y.areas c.args.pid) c.spaces-spaces.ensures in
     let text = c.in_ok-areas_text.ensures.list ∙ maps_are s c.args.pid c.as_slice.result.now (c.as_slice.ensures.value ∙ lines) in
     subst (λ (z : SystemState). outcome z (NumaMaps c.args.pid) ≡ record { answer = Lines (lines_shown c.in_ok-areas_text.field-0.items); system = z }) c.self.view_is
     (answers y (NumaMaps c.args.pid) (record { answer = Lines (lines_shown c.in_ok-areas_text.field-0.items); system = y }) known (ap (λ (ls : List (List ℕ)). record { answer = Lines ls; system = y }) (sym text)))

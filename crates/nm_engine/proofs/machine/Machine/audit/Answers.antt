@@ -1,8 +1,8 @@
 use Rattle.std.proofs.Common.{ap, ◌∙◌}
 use Rattle.std.proofs.lemmas.Result.{IfOk-from_err}
 use Rattle.std.specs.Map.{values_of}
-use Rattle.nm_model.specs.definitions.Areas.{Mapped}
-use Rattle.nm_model.specs.definitions.Sound.{audited, is_audited, numbered}
+use Rattle.nm_model.specs.definitions.Areas.{Mapping}
+use Rattle.nm_model.specs.definitions.Sound.{each_frame_is_once, is_audited, with_numbers}
 use Rattle.nm_engine.specs.views.Shown.{shown_by}
 use Rattle.nm_laws.proofs.Soundness.Sounded.{sound_is_audited}
 use Rattle.nm_engine.proofs.Between.{sound_between}
@@ -12,15 +12,15 @@ pub returns-clause-sound : goal.returns-clause-sound
 returns-clause-sound g c =
     let i = c.self.inside in
     let s = shown_by i.spaces i.frames i.online i.totals.moved i.totals.failed in
-    c.in_ok-once.ensures ∙ ap (is_audited s.layout (numbered 0 s.free)) (c.as_slice.ensures.value ∙ c.in_ok-places.ensures.frames ∙ ap (λ (m : Mapped). values_of m.place) c.areas.ensures.areas)
+    c.in_ok-once.ensures ∙ ap (is_audited s.layout (with_numbers 0 s.free)) (c.as_slice.ensures.value ∙ c.in_ok-places.ensures.frames ∙ ap (λ (m : Mapping). values_of m.place) c.areas.ensures.areas)
     ∙ sound_is_audited s (sound_between c.self.invariant)
 
 pub returns-clause-told : goal.returns-clause-told
 returns-clause-told g c =
     let i = c.self.inside in
     let s = shown_by i.spaces i.frames i.online i.totals.moved i.totals.failed in
-    c.in_ok-once.ensures ∙ ap (is_audited s.layout (numbered 0 s.free)) (c.as_slice.ensures.value ∙ c.in_ok-places.ensures.frames ∙ ap (λ (m : Mapped). values_of m.place) c.areas.ensures.areas)
-    ∙ ap audited c.self.view_is
+    c.in_ok-once.ensures ∙ ap (is_audited s.layout (with_numbers 0 s.free)) (c.as_slice.ensures.value ∙ c.in_ok-places.ensures.frames ∙ ap (λ (m : Mapping). values_of m.place) c.areas.ensures.areas)
+    ∙ ap each_frame_is_once c.self.view_is
 
 pub returns-in_err-places-clause-told : goal.returns-in_err-places-clause-told
 returns-in_err-places-clause-told g c = IfOk-from_err c.from_residual.result _ c.from_residual.ensures.0

@@ -6,8 +6,8 @@ use Rattle.nm_areas.specs.Splits.{HasSplit}
 use Rattle.nm_model.proofs.areas.Apart.{covers_parts}
 use Rattle.nm_model.proofs.areas.Parted.{All-among, among_over}
 use Rattle.nm_model.specs.definitions.Seen.{sight_in, sight_at}
-use Rattle.nm_model.specs.definitions.Effect.{dropped}
-use Rattle.nm_model.specs.definitions.Sound.{IsSoundMidRun, IsSound, IsWhole}
+use Rattle.nm_model.specs.definitions.Effect.{drop_range}
+use Rattle.nm_model.specs.definitions.Sound.{IsSoundInFlight, IsSound, IsWhole}
 use Rattle.nm_spaces.specs.views.AddressSpaces.{AddressSpacesView}
 use Rattle.nm_engine.specs.views.Shown.{shown_by}
 use Rattle.nm_engine.specs.views.MidRun.{IsKept}
@@ -31,7 +31,7 @@ pub remove_task-requires : goal.remove_task-requires
 remove_task-requires g c p there =
     let s = c.args.self.now in
     let sound : IsSound s = subst IsSound c.self.view_is (sound_between c.self.invariant) in
-    let is = c.self-2.view_is ∙ c.in_ok-let_go.ensures.ok ∙ (λ i. dropped s c.args.pid (c.new-first.ensures i) (c.new-end.ensures i)) in
+    let is = c.self-2.view_is ∙ c.in_ok-let_go.ensures.ok ∙ (λ i. drop_range s c.args.pid (c.new-first.ensures i) (c.new-end.ensures i)) in
     sees_nothing p.sees (λ w. sym (ap (λ o. sight_in o w) there) ∙ ap (λ (t : State). sight_at t c.args.pid w) is ∙ sees_none s sound c.args.pid w)
 
 pub invariant_of-self : goal.invariant_of-self
@@ -39,16 +39,16 @@ invariant_of-self g c =
     let s = c.args.self.now in
     let i = c.self-2.inside in
     let sound : IsSound s = subst IsSound c.self.view_is (sound_between c.self.invariant) in
-    let is : shown_by i.spaces i.frames i.online i.totals.moved i.totals.failed ≡ dropped s c.args.pid 0 (2 ^ 35) =
-    c.self-2.view_is ∙ c.in_ok-let_go.ensures.ok ∙ (λ i. dropped s c.args.pid (c.new-first.ensures i) (c.new-end.ensures i)) in
+    let is : shown_by i.spaces i.frames i.online i.totals.moved i.totals.failed ≡ drop_range s c.args.pid 0 (2 ^ 35) =
+    c.self-2.view_is ∙ c.in_ok-let_go.ensures.ok ∙ (λ i. drop_range s c.args.pid (c.new-first.ensures i) (c.new-end.ensures i)) in
     let left : i.frames.vacated ≡ [] = c.self-2.invariant.none in
     let out : State → State = λ t. record t { processes = without nat_cmp t.processes c.args.pid } in
     record {
       none = left;
       kept = subst (λ (z : AddressSpacesView). IsKept (shown_by z i.frames i.online i.totals.moved i.totals.failed) i.frames.vacated z.frames) (sym c.remove_task.ensures)
           (record {
-            sound = subst (λ l. IsSoundMidRun (out (shown_by i.spaces i.frames i.online i.totals.moved i.totals.failed)) l) (sym left)
-                (subst (λ t. IsSoundMidRun t []) (sym (ap out is)) (exit_sound s sound c.args.pid));
+            sound = subst (λ l. IsSoundInFlight (out (shown_by i.spaces i.frames i.online i.totals.moved i.totals.failed)) l) (sym left)
+                (subst (λ t. IsSoundInFlight t []) (sym (ap out is)) (exit_sound s sound c.args.pid));
             as_many = c.self-2.invariant.kept.as_many;
           });
     }

@@ -1,7 +1,7 @@
 use Rattle.std.proofs.Common.{◌<◌, List, ℕ, length, ap, sym, subst, ◌∙◌, arith}
 use Rattle.std.specs.Prelude.{◌⊎◌}
 use Rattle.nm_types.specs.declared.page.Page.{Page}
-use Rattle.nm_model.specs.definitions.Effect.{dropped}
+use Rattle.nm_model.specs.definitions.Effect.{drop_range}
 use Rattle.nm_memory.specs.views.Frames.{FramesView, pool_of, CanFree}
 use Rattle.nm_types.specs.State.{State}
 use Rattle.nm_areas.specs.Splits.{HasSplit}
@@ -34,7 +34,7 @@ returns-clause-ok g c =
     let i = c.self.inside in
     gone_shows i.spaces i.frames i.online i.totals.moved i.totals.failed c.args.pid c.args.range.first c.args.range.end c.remove.new.self c.free_each.new.frames _
     c.self.invariant.kept.sound.pins.same_pages c.in_ok-freed.ensures.ok (c.as_slice.ensures.value ∙ c.in_ok-freed.ensures.freed) c.free_each.ensures
-    ∙ ap (λ (s : State). dropped s c.args.pid c.args.range.first c.args.range.end) c.self.view_is
+    ∙ ap (λ (s : State). drop_range s c.args.pid c.args.range.first c.args.range.end) c.self.view_is
 
 pub invariant_of-self : goal.invariant_of-self
 invariant_of-self g c =

@@ -5,7 +5,7 @@ use Rattle.nm_model.specs.definitions.Frames.{bytes_of}
 use Rattle.nm_model.specs.definitions.Seen.{sight_at}
 use Rattle.nm_model.specs.definitions.Memory.{mem_range}
 use Rattle.nm_model.specs.definitions.Memory.{stretch_of}
-use Rattle.nm_model.specs.definitions.Touch.{Answered, Bytes, read, read_after, touched}
+use Rattle.nm_model.specs.definitions.Touch.{AccessResult, Bytes, read, read_after, touch_site}
 use Rattle.nm_types.specs.State.{State}
 use Rattle.nm_engine.specs.views.Shown.{shown}
 use Rattle.nm_model.specs.definitions.Seen.{frame_seen}
@@ -41,10 +41,10 @@ returns-clause-answer g c =
     let s = shown i.spaces.processes (table_of i.spaces) (paged_frames i.spaces i.frames) i.online i.totals.moved i.totals.failed in
     let new = shown y.processes (table_of y) (paged_frames y k) i.online i.totals.moved i.totals.failed in
     let sound = (c.touch.ensures.kept i.totals.moved i.totals.failed).sound in
-    let by : State → Answered = λ s. read s c.args.pid c.args.addr c.args.len in
+    let by : State → AccessResult = λ s. read s c.args.pid c.args.addr c.args.len in
     let there = c.in_ok-resolved.ensures.ok in
-    let touched = touch_is s new c.args.pid c.args.addr c.args.len false _ (there.3 s refl refl) (c.in_ok-touched.ensures.touches i.totals.moved i.totals.failed there.0 there.1 there.2) in
-    let done : by s ≡ read_after s c.args.pid c.args.addr c.args.len (Ok new) = ap (read_after s c.args.pid c.args.addr c.args.len) touched in
+    let touch_site = touch_is s new c.args.pid c.args.addr c.args.len false _ (there.3 s refl refl) (c.in_ok-touched.ensures.touches i.totals.moved i.totals.failed there.0 there.1 there.2) in
+    let done : by s ≡ read_after s c.args.pid c.args.addr c.args.len (Ok new) = ap (read_after s c.args.pid c.args.addr c.args.len) touch_site in
     let bytes : c.match-touched.bytes.items ≡ mem_range new c.args.pid c.args.addr c.args.len = elim c.match-touched.branch [
       | in-Some w ↦
           let seen = ap (λ (x : ℕ × ℕ). frame_seen new x.0 x.1) (λ i. (sym c.in_ok-resolved.ensures.pid i, sym c.in_ok-resolved.ensures.page i)) ∙ sym c.in_ok-touched.ensures.frame ∙ w.in-Some.is in
@@ -59,8 +59,8 @@ returns-clause-answer g c =
           ∙ sym (reads_zeros y.processes (table_of y) (paged_frames y k) i.online i.totals.moved i.totals.failed _ sound c.args.pid c.args.addr c.args.len c.in_ok-resolved.ensures.inside seen)
     ] in
     let at = c.self.view_is in (
-      ap (λ (z : State). (by z).answer) (sym at) ∙ ap (λ (z : Answered). z.answer) done ∙ ap Bytes (sym bytes),
-      sym (ap (λ (z : Answered). z.state) done) ∙ ap (λ (z : State). (by z).state) at,
+      ap (λ (z : State). (by z).answer) (sym at) ∙ ap (λ (z : AccessResult). z.answer) done ∙ ap Bytes (sym bytes),
+      sym (ap (λ (z : AccessResult). z.state) done) ∙ ap (λ (z : State). (by z).state) at,
     )
 
 pub returns-in_err-touched-clause-answer : goal.returns-in_err-touched-clause-answer
@@ -71,4 +71,4 @@ returns-in_err-touched-clause-answer g c =
     let there = c.in_ok-resolved.ensures.ok in
     subst (λ (z : State). Accesses c.from_residual-in_err-touched.result (λ bytes. Bytes bytes.items) z new (read z c.args.pid c.args.addr c.args.len)) c.self.view_is
     (read_handed_on c.touch.result c.from_residual-in_err-touched.result _ (λ bytes. Bytes bytes.items) s new c.args.pid c.args.addr c.args.len c.in_err-touched.was c.from_residual-in_err-touched.ensures
-    (ap (touched s false) (there.3 s refl refl)) (c.touch.ensures.touches i.totals.moved i.totals.failed there.0 there.1 there.2))
+    (ap (touch_site s false) (there.3 s refl refl)) (c.touch.ensures.touches i.totals.moved i.totals.failed there.0 there.1 there.2))

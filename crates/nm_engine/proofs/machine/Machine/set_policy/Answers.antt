@@ -1,5 +1,5 @@
 use Rattle.std.proofs.Common.{◌+◌, ◌/◌, ap, ◌∙◌}
-use Rattle.nm_model.specs.definitions.Areas.{pages_of}
+use Rattle.nm_model.specs.definitions.Areas.{page_count}
 use Rattle.nm_spaces.specs.views.AddressSpaces.{with_mapped}
 use Rattle.nm_engine.proofs.MidRun.AreaChanges.{made_or_same, kept_same, kept_policed}
 use Rattle.nm_engine.proofs.machine.Machine.set_policy.Goals as goal
@@ -13,6 +13,6 @@ invariant_of-self g c =
       kept =
           made_or_same c.set_policy.result c.set_policy.ensures.done
           (kept_same i.spaces c.set_policy.new.self i.frames i.online i.totals.moved i.totals.failed c.set_policy.ensures.same c.self.invariant.kept)
-          (λ fine new. kept_policed i.spaces c.set_policy.new.self i.frames i.online i.totals.moved i.totals.failed c.self.invariant.kept a.pid first (first + pages_of a.len) a.policy (c.set_policy.ensures.same ∙ ap (with_mapped i.spaces) new));
+          (λ fine new. kept_policed i.spaces c.set_policy.new.self i.frames i.online i.totals.moved i.totals.failed c.self.invariant.kept a.pid first (first + page_count a.len) a.policy (c.set_policy.ensures.same ∙ ap (with_mapped i.spaces) new));
       none = c.self.invariant.none;
     }

@@ -7,7 +7,7 @@ use Rattle.nm_types.specs.declared.process.ProcessInfo.{ProcessInfo}
 use Rattle.nm_types.specs.Layout.{node_count}
 use Rattle.nm_types.specs.Map.{get, set}
 use Rattle.nm_types.specs.State.{State}
-use Rattle.nm_model.specs.definitions.Effect.{info_of, spawn, spawn_refusal, untouched}
+use Rattle.nm_model.specs.definitions.Effect.{info_of, spawn, spawn_refusal, new_process}
 use Rattle.nm_spaces.specs.views.AddressSpaces.{AddressSpacesView, table_of}
 use Rattle.nm_engine.specs.views.Shown.{paged_frames, shown_by}
 use Rattle.nm_engine.specs.views.MidRun.{IsKept}
@@ -32,7 +32,7 @@ invariant_of-self g c =
       none = c.self.invariant.none;
       kept = on_either c.add.result c.add.ensures.ok c.add.ensures.err
           (λ new. subst kept_by (sym new)
-          (kept_spawned i.spaces.processes (table_of i.spaces) (paged_frames i.spaces i.frames) i.online i.totals.moved i.totals.failed (set nat_cmp i.spaces.processes c.args.pid (untouched info)) c.args.pid (untouched info)
+          (kept_spawned i.spaces.processes (table_of i.spaces) (paged_frames i.spaces i.frames) i.online i.totals.moved i.totals.failed (set nat_cmp i.spaces.processes c.args.pid (new_process info)) c.args.pid (new_process info)
           c.self.invariant.none c.self.invariant.kept fine refl refl))
           (λ same. subst kept_by (sym same) c.self.invariant.kept);
     }
@@ -53,7 +53,7 @@ invariant_of-self-2 g c =
       none = c.self.invariant.none;
       kept = on_either c.add.result c.add.ensures.ok c.add.ensures.err
           (λ new. subst kept_by (sym new)
-          (kept_spawned i.spaces.processes (table_of i.spaces) (paged_frames i.spaces i.frames) i.online i.totals.moved i.totals.failed (set nat_cmp i.spaces.processes c.args.pid (untouched info)) c.args.pid (untouched info)
+          (kept_spawned i.spaces.processes (table_of i.spaces) (paged_frames i.spaces i.frames) i.online i.totals.moved i.totals.failed (set nat_cmp i.spaces.processes c.args.pid (new_process info)) c.args.pid (new_process info)
           c.self.invariant.none c.self.invariant.kept fine refl refl))
           (λ same. subst kept_by (sym same) c.self.invariant.kept);
     }

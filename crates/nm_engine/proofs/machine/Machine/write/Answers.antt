@@ -4,7 +4,7 @@ use Rattle.std.specs.Result.{result_err}
 use Rattle.nm_model.specs.definitions.Frames.{bytes_of, overwrite}
 use Rattle.nm_types.specs.State.{State}
 use Rattle.nm_memory.specs.views.Frames.{FramesView}
-use Rattle.nm_model.specs.definitions.Touch.{Answered, touch, touched, write, write_after}
+use Rattle.nm_model.specs.definitions.Touch.{AccessResult, touch, touch_site, write, write_after}
 use Rattle.nm_engine.specs.views.MidRun.{IsKept}
 use Rattle.nm_engine.specs.views.Shown.{shown}
 use Rattle.nm_model.specs.definitions.Seen.{frame_seen}
@@ -62,15 +62,15 @@ returns-clause-answer g c =
     let s = shown_by i.spaces i.frames i.online i.totals.moved i.totals.failed in
     let new = shown_by y k i.online i.totals.moved i.totals.failed in
     let kept = c.touch.ensures.kept i.totals.moved i.totals.failed in
-    let by : State → Answered = λ s. write s c.args.pid c.args.addr c.args.bytes.now in
+    let by : State → AccessResult = λ s. write s c.args.pid c.args.addr c.args.bytes.now in
     let seen = ap (λ (x : ℕ × ℕ). frame_seen new x.0 x.1) (λ i. (sym c.in_ok-resolved.ensures.pid i, sym c.in_ok-resolved.ensures.page i)) ∙ sym c.in_ok-touched.ensures.frame ∙ c.in-Some.is in
     let there = c.in_ok-resolved.ensures.ok in
-    let touched = touch_is s new c.args.pid c.args.addr (length c.args.bytes.now) true _ (there.3 s refl refl) (c.in_ok-touched.ensures.touches i.totals.moved i.totals.failed there.0 there.1 there.2) in
-    let done : by s ≡ write_after s c.args.pid c.args.addr c.args.bytes.now (Ok new) = ap (write_after s c.args.pid c.args.addr c.args.bytes.now) touched in
+    let touch_site = touch_is s new c.args.pid c.args.addr (length c.args.bytes.now) true _ (there.3 s refl refl) (c.in_ok-touched.ensures.touches i.totals.moved i.totals.failed there.0 there.1 there.2) in
+    let done : by s ≡ write_after s c.args.pid c.args.addr c.args.bytes.now (Ok new) = ap (write_after s c.args.pid c.args.addr c.args.bytes.now) touch_site in
     let at = c.self.view_is in (
-      ap (λ (z : State). (by z).answer) (sym at) ∙ ap (λ (z : Answered). z.answer) done,
+      ap (λ (z : State). (by z).answer) (sym at) ∙ ap (λ (z : AccessResult). z.answer) done,
       written_is y.processes (table_of y) (paged_frames y k) i.online i.totals.moved i.totals.failed _ c.args.pid c.args.addr c.in-Some.frame c.args.bytes.now (paged_frames y c.write.new.self) kept (kept_stocked y k i.online i.totals.moved i.totals.failed kept c.write.ensures.shelf) seen (ap (paged_frames y) (c.write.ensures.written ∙ ap (overwritten k c.in-Some.frame c.args.bytes.now) c.offset.ensures.value))
-          ∙ sym (ap (λ (z : Answered). z.state) done) ∙ ap (λ (z : State). (by z).state) at,
+          ∙ sym (ap (λ (z : AccessResult). z.state) done) ∙ ap (λ (z : State). (by z).state) at,
     )
 
 pub returns-in_err-touched-clause-memory : goal.returns-in_err-touched-clause-memory
@@ -79,4 +79,4 @@ returns-in_err-touched-clause-memory g c =
     let s = shown_by i.spaces i.frames i.online i.totals.moved i.totals.failed in
     let there = c.in_ok-resolved.ensures.ok in
     subst (λ (z : State). AsksLast c.from_residual-in_err-touched.result (result_err (touch z c.args.pid c.args.addr (length c.args.bytes.now) true))) c.self.view_is
-    (memory_handed_on c.touch.result c.from_residual-in_err-touched.result _ c.in_err-touched.was c.from_residual-in_err-touched.ensures (ap (λ x. result_err (touched s true x)) (there.3 s refl refl)) (c.touch.ensures.memory i.totals.moved i.totals.failed there.0 there.1 there.2))
+    (memory_handed_on c.touch.result c.from_residual-in_err-touched.result _ c.in_err-touched.was c.from_residual-in_err-touched.ensures (ap (λ x. result_err (touch_site s true x)) (there.3 s refl refl)) (c.touch.ensures.memory i.totals.moved i.totals.failed there.0 there.1 there.2))

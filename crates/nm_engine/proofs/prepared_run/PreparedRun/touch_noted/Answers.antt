@@ -3,8 +3,8 @@ use Rattle.std.specs.Prelude.{Ok, Option}
 use Rattle.std.specs.Ordering.{nat_cmp}
 use Rattle.nm_types.specs.Map.{get, page_cmp}
 use Rattle.nm_model.specs.definitions.Seen.{sight_at}
-use Rattle.nm_model.specs.definitions.Sound.{IsSoundMidRun}
-use Rattle.nm_model.specs.definitions.Touch.{touched_entry}
+use Rattle.nm_model.specs.definitions.Sound.{IsSoundInFlight}
+use Rattle.nm_model.specs.definitions.Touch.{touch_sight}
 use Rattle.nm_engine.specs.declared.prepared_run.undo.Undo.{Undo}
 use Rattle.nm_engine.specs.definitions.Does.{Touches}
 use Rattle.nm_engine.specs.definitions.Undo.{IsStillUndone, noted, with_undo}
@@ -32,7 +32,7 @@ returns-clause-touches g c p a known =
     let i = c.self.inside in
     let t = c.args.t in
     let here = inside _ _ _ _ c.self.view_is (λ s. IsSiteOf s.processes s.areas t p a) known in
-    outside _ _ _ _ c.self.view_is (λ s. touched_entry s (access_site t p a) c.args.writes (get nat_cmp p.sees t.vpn) ≡ Ok (shown_by c.touch.new.spaces c.touch.new.frames i.online i.totals.moved i.totals.failed))
+    outside _ _ _ _ c.self.view_is (λ s. touch_sight s (access_site t p a) c.args.writes (get nat_cmp p.sees t.vpn) ≡ Ok (shown_by c.touch.new.spaces c.touch.new.frames i.online i.totals.moved i.totals.failed))
     (c.in_ok-frame.ensures.touches i.totals.moved i.totals.failed p a here)
 
 pub returns-in_err-frame-clause-touches : goal.returns-in_err-frame-clause-touches
@@ -42,7 +42,7 @@ returns-in_err-frame-clause-touches g c p a known =
     let new = shown_by c.touch.new.spaces c.touch.new.frames i.online i.totals.moved i.totals.failed in
     let here = inside _ _ _ _ c.self.view_is (λ s. IsSiteOf s.processes s.areas t p a) known in
     touch_handed_on c.touch.result c.from_residual-in_err-frame.result _ c.args.self.now.state new c.in_err-frame.was c.from_residual-in_err-frame.ensures refl
-    (outside _ _ _ _ c.self.view_is (λ s. Touches c.touch.result s new (touched_entry s (access_site t p a) c.args.writes (get nat_cmp p.sees t.vpn)))
+    (outside _ _ _ _ c.self.view_is (λ s. Touches c.touch.result s new (touch_sight s (access_site t p a) c.args.writes (get nat_cmp p.sees t.vpn)))
     (c.touch.ensures.touches i.totals.moved i.totals.failed p a here))
 
 pub returns-in_err-frame-clause-back : goal.returns-in_err-frame-clause-back
@@ -68,9 +68,9 @@ returns-clause-back g c =
     let new = shown_by c.touch.new.spaces c.touch.new.frames i.online i.totals.moved i.totals.failed in
     let old : List Undo = c.args.undos.now.items in
     let frame = c.in_ok-frame.field-0.frame in
-    let sound = subst (λ (x : MidRun). IsSoundMidRun x.state x.left) c.self.view_is c.self.invariant.sound in
+    let sound = subst (λ (x : MidRun). IsSoundInFlight x.state x.left) c.self.view_is c.self.invariant.sound in
     let here = inside _ _ _ _ c.self.view_is (λ s. IsSiteOf s.processes s.areas t p a) c.requires.2 in
-    let done = outside _ _ _ _ c.self.view_is (λ s. touched_entry s (access_site t p a) c.args.writes (get nat_cmp p.sees t.vpn) ≡ Ok new) (c.in_ok-frame.ensures.touches i.totals.moved i.totals.failed p a here) in
+    let done = outside _ _ _ _ c.self.view_is (λ s. touch_sight s (access_site t p a) c.args.writes (get nat_cmp p.sees t.vpn) ≡ Ok new) (c.in_ok-frame.ensures.touches i.totals.moved i.totals.failed p a here) in
     let back = touched_back x.state x.left t p a c.args.writes new frame sound c.requires.2 done c.in_ok-frame.ensures.frame in
     let more : Option Undo = noted t.pid t.vpn t.page (sight_at x.state t.pid t.vpn) (get page_cmp x.state.place t.page) frame in
     let undo = c.in_ok-frame.ensures.undo ∙ ap (λ (x : MidRun). noted t.pid t.vpn t.page (sight_at x.state t.pid t.vpn) (get page_cmp x.state.place t.page) frame) c.self.view_is in

@@ -5,7 +5,7 @@ use Rattle.nm_types.specs.Map.{get, page_cmp}
 use Rattle.nm_memory.specs.views.Frames.{FramesView}
 use Rattle.nm_engine.specs.views.MidRun.{MidRun, with_state}
 use Rattle.nm_engine.specs.views.Shown.{shown_by}
-use Rattle.nm_model.specs.definitions.Sound.{IsSoundMidRun}
+use Rattle.nm_model.specs.definitions.Sound.{IsSoundInFlight}
 use Rattle.nm_engine.specs.definitions.Undo.{IsGiven, seen_before, undone}
 use Rattle.nm_engine.proofs.Undo.Touches.{place_kept, can_put_back, back_shows, back_kept}
 use Rattle.nm_engine.proofs.prepared_run.PreparedRun.undo.Goals as goal
@@ -26,10 +26,10 @@ invariant_of-self-2 g c =
     let u = c.args.undo in
     let s = shown_by i.spaces i.frames i.online i.totals.moved i.totals.failed in
     let known = subst (λ (x : MidRun). IsSome (get nat_cmp x.state.processes u.pid)) (sym c.self.view_is) c.requires.known in
-    let sound = subst (λ (x : MidRun). IsSoundMidRun (undone x.state u) x.left) (sym c.self.view_is) c.requires.sound in
+    let sound = subst (λ (x : MidRun). IsSoundInFlight (undone x.state u) x.left) (sym c.self.view_is) c.requires.sound in
     back_kept i.spaces c.see_before.new.self c.unplace.new.self i.frames c.free_first.new.self i.online i.totals.moved i.totals.failed u.pid u.vpn u.zero c.in-Some.given.0 c.in-Some.given.1
     known c.see_before.ensures c.unplace.ensures c.free_first.ensures c.self.invariant
-    (subst (λ (o : Option (Page × ℕ)). IsSoundMidRun (undone s (record { pid = u.pid; vpn = u.vpn; zero = u.zero; given = o })) i.frames.vacated) c.in-Some.is sound)
+    (subst (λ (o : Option (Page × ℕ)). IsSoundInFlight (undone s (record { pid = u.pid; vpn = u.vpn; zero = u.zero; given = o })) i.frames.vacated) c.in-Some.is sound)
 
 pub returns : goal.returns
 returns g c =

@@ -7,7 +7,7 @@ use Rattle.nm_types.specs.State.{Process, State, Placed, page_of, page_shown}
 use Rattle.nm_engine.specs.declared.resolved_address.ResolvedAddress.{ResolvedAddress}
 use Rattle.nm_model.specs.definitions.Seen.{frame_of, sight_in}
 use Rattle.nm_model.specs.definitions.Order.{first_touch_order}
-use Rattle.nm_model.specs.definitions.Touch.{allocated, filled, first_free}
+use Rattle.nm_model.specs.definitions.Touch.{allocate_page, fill_page, first_free}
 use Rattle.nm_types.specs.Layout.{frame_count, node_count}
 use Rattle.nm_types.specs.Map.{get}
 use Rattle.nm_memory.specs.views.Populated.{IsPopulated}
@@ -105,7 +105,7 @@ returns-clause-touches g c m f p a touched =
     let is = c.in_ok-allocate.ensures.ok p touched.known in
     let to = stocked_both y c.allocate.new.self c.populate.new.self c.take_front.new.self c.zero.new.self t.pid t.vpn p t.page c.in-Some.node c.in-Some-front.frame is c.take_front.ensures.rest c.zero.ensures front in
     let whole = kept_stocked y c.populate.new.self o m f kept c.in_ok-populate.ensures.shelf in
-    ap (λ (s : State). filled s (access_site t p a)) (sym same)
+    ap (λ (s : State). fill_page s (access_site t p a)) (sym same)
     ∙ filled_is y.processes (table_of y) (paged_frames y c.populate.new.self) o m f _ t p a kept touched c.in-Some.node found
     ∙ ap Ok (sym (ap (λ (z : AddressSpacesView). shown z.processes (table_of z) (paged_frames c.allocate.new.self c.zero.new.self) o m f) is
     ∙ filled_shows y.processes (table_of y) (paged_frames y c.populate.new.self) o m f _ t p a kept touched c.in-Some.node (with_new_page y t.pid p t.vpn t.page c.in-Some-front.frame).processes (paged_frames c.allocate.new.self c.zero.new.self) whole refl to c.requires.unplaced (found_free c.populate.new.self.free _ c.in-Some.node found)))
@@ -175,11 +175,11 @@ returns-in_err-allocate-clause-memory g c m f p a touched =
 
 -- no node has a free frame
 none_free : (s : State) (t : ResolvedAddress) (p : Process) (a : Placed) → IsSiteOf s.processes s.areas t p a → first_free s.free (first_touch_order s.layout s.online t.info.home t.info.allowed t.policy t.page.index) ≡ None
-    → filled s (access_site t p a) ≡ Err Enomem
+    → fill_page s (access_site t p a) ≡ Err Enomem
 none_free s t p a h none =
     let order : first_touch_order s.layout s.online p.home p.allowed a.1.policy (page_of a t.vpn).index ≡ first_touch_order s.layout s.online t.info.home t.info.allowed t.policy t.page.index =
     λ i. first_touch_order s.layout s.online (h.info i).home (h.info i).allowed (h.policy i) (h.page i).index in
-    ap (allocated s (access_site t p a)) (ap (first_free s.free) order ∙ none)
+    ap (allocate_page s (access_site t p a)) (ap (first_free s.free) order ∙ none)
 
 pub returns-in_default-clause-touches : goal.returns-in_default-clause-touches
 returns-in_default-clause-touches g c m f p a touched =

@@ -6,7 +6,7 @@ use Rattle.nm_types.specs.State.{Process, Placed, State, area_over}
 use Rattle.nm_types.proofs.Cases.{some_is}
 use Rattle.nm_engine.specs.views.Parts.{IsSiteOf, access_site}
 use Rattle.nm_engine.specs.declared.resolved_address.ResolvedAddress.{ResolvedAddress}
-use Rattle.nm_model.specs.definitions.Areas.{HasIndices, Mapped}
+use Rattle.nm_model.specs.definitions.Areas.{HasIndices, Mapping}
 use Rattle.nm_model.specs.definitions.Touch.{site}
 use Rattle.nm_engine.proofs.Does.Touches.{touched_there}
 use Rattle.nm_spaces.proofs.Spaces.AreaLookups.{found_below, found_index}
@@ -44,5 +44,5 @@ returns-clause-ok g c =
     subst (λ x. (p : Process) × (a : Placed) × IsSiteOf y.processes y.areas (of x) p a × ((s : State) → s.processes ≡ y.processes → s.areas ≡ y.areas → site s c.args.pid c.args.addr c.args.len ≡ Ok (access_site (of x) p a))) (sym same)
     (touched_there y.processes y.areas c.args.pid c.args.addr c.args.len c.of_address-vpn.result c.in-Some-over.first _
     c.in-Some.info c.in-Some-over.area (sym c.info.ensures ∙ c.in-Some.is) c.if-len-eq0.false (omega (arith, c.if-len-offset.false, c.offset.ensures.value)) c.of_address-vpn.ensures
-    (c.in-Some-over.ensures'.found ∙ ap (λ (m : Mapped). area_over m.areas c.args.pid c.of_address-vpn.result) c.areas.ensures.areas)
+    (c.in-Some-over.ensures'.found ∙ ap (λ (m : Mapping). area_over m.areas c.args.pid c.of_address-vpn.result) c.areas.ensures.areas)
     (ap (λ n. c.in-Some-over.area.page.index + (c.number.result - n)) (c.number-2.ensures ∙ ap (λ (x : Placed). x.0.1) same) ∙ ap (λ n. c.in-Some-over.area.page.index + (n - c.in-Some-over.first)) c.number.ensures))

@@ -7,10 +7,10 @@ use Rattle.nm_types.proofs.Cases.{none_some}
 use Rattle.nm_types.specs.declared.page.Page.{Page}
 use Rattle.nm_types.specs.declared.sight.Sight.{Sight}
 use Rattle.nm_types.specs.State.{State, Process, Placed}
-use Rattle.nm_model.specs.definitions.Areas.{Mapped, is_shared}
+use Rattle.nm_model.specs.definitions.Areas.{Mapping, is_shared}
 use Rattle.nm_engine.specs.declared.resolved_address.ResolvedAddress.{ResolvedAddress}
 use Rattle.nm_engine.specs.declared.touch.Touched.{Touched}
-use Rattle.nm_model.specs.definitions.Touch.{shown_at, filled, joined, with_sight, touched_entry}
+use Rattle.nm_model.specs.definitions.Touch.{shown_at, fill_page, share_page, with_sight, touch_sight}
 use Rattle.nm_types.specs.declared.sight.Sight.TheVariants.{Sees, ZeroPage}
 use Rattle.nm_types.specs.Map.{get, page_cmp}
 use Rattle.std.specs.Ordering.{nat_cmp}
@@ -41,32 +41,32 @@ entry_is s t p a h e = ap (λ q. sight_in q t.vpn) (sym h.known) ∙ e
 
 -- the touch of a page that the process sees already, or of the page of zeros
 entry_touched : (s : State) (t : ResolvedAddress) (p : Process) (a : Placed) (writes : Bool) (o : Option Sight) → IsSiteOf s.processes s.areas t p a → sight_at s t.pid t.vpn ≡ o
-    → touched_entry s (access_site t p a) writes (get nat_cmp p.sees t.vpn) ≡ touched_entry s (access_site t p a) writes o
-entry_touched s t p a writes o h e = ap (touched_entry s (access_site t p a) writes) (entry_is s t p a h e)
+    → touch_sight s (access_site t p a) writes (get nat_cmp p.sees t.vpn) ≡ touch_sight s (access_site t p a) writes o
+entry_touched s t p a writes o h e = ap (touch_sight s (access_site t p a) writes) (entry_is s t p a h e)
 
 zero_touched : (s : State) (t : ResolvedAddress) (p : Process) (a : Placed) (writes : Bool) → IsSiteOf s.processes s.areas t p a → sight_at s t.pid t.vpn ≡ Some ZeroPage → {b : Bool} → writes ≡ b
-    → touched_entry s (access_site t p a) writes (get nat_cmp p.sees t.vpn) ≡ (if b then filled s (access_site t p a) else Ok s)
-zero_touched s t p a writes h e w = entry_touched s t p a writes (Some ZeroPage) h e ∙ ap (λ b. if b then filled s (access_site t p a) else Ok s) w
+    → touch_sight s (access_site t p a) writes (get nat_cmp p.sees t.vpn) ≡ (if b then fill_page s (access_site t p a) else Ok s)
+zero_touched s t p a writes h e w = entry_touched s t p a writes (Some ZeroPage) h e ∙ ap (λ b. if b then fill_page s (access_site t p a) else Ok s) w
 
 -- where it sees nothing, the page's segment decides
 shared_at : (s : State) (t : ResolvedAddress) (p : Process) (a : Placed) → IsSiteOf s.processes s.areas t p a → {b : Bool} → is_shared s.segments t.page.segment ≡ b → is_shared s.segments (shown_at (access_site t p a)).segment ≡ b
 shared_at s t p a h e = ap (λ (q : Page). is_shared s.segments q.segment) h.page ∙ e
 
 shared_touched : (s : State) (t : ResolvedAddress) (p : Process) (a : Placed) (writes : Bool) → IsSiteOf s.processes s.areas t p a → sight_at s t.pid t.vpn ≡ None → is_shared s.segments t.page.segment ≡ true
-    → touched_entry s (access_site t p a) writes (get nat_cmp p.sees t.vpn) ≡ joined s (access_site t p a) (get page_cmp s.place t.page)
+    → touch_sight s (access_site t p a) writes (get nat_cmp p.sees t.vpn) ≡ share_page s (access_site t p a) (get page_cmp s.place t.page)
 shared_touched s t p a writes h e shared =
     let at = access_site t p a in
     entry_touched s t p a writes None h e
-    ∙ ap (λ b. if b then joined s at (get page_cmp s.place (shown_at at)) else (if writes then filled s at else Ok (with_sight s at ZeroPage))) (shared_at s t p a h shared)
-    ∙ ap (λ (q : Page). joined s at (get page_cmp s.place q)) h.page
+    ∙ ap (λ b. if b then share_page s at (get page_cmp s.place (shown_at at)) else (if writes then fill_page s at else Ok (with_sight s at ZeroPage))) (shared_at s t p a h shared)
+    ∙ ap (λ (q : Page). share_page s at (get page_cmp s.place q)) h.page
 
 private_touched : (s : State) (t : ResolvedAddress) (p : Process) (a : Placed) (writes : Bool) → IsSiteOf s.processes s.areas t p a → sight_at s t.pid t.vpn ≡ None → is_shared s.segments t.page.segment ≡ false → {b : Bool} → writes ≡ b
-    → touched_entry s (access_site t p a) writes (get nat_cmp p.sees t.vpn) ≡ (if b then filled s (access_site t p a) else Ok (with_sight s (access_site t p a) ZeroPage))
+    → touch_sight s (access_site t p a) writes (get nat_cmp p.sees t.vpn) ≡ (if b then fill_page s (access_site t p a) else Ok (with_sight s (access_site t p a) ZeroPage))
 private_touched s t p a writes h e private w =
     let at = access_site t p a in
     entry_touched s t p a writes None h e
-    ∙ ap (λ b. if b then joined s at (get page_cmp s.place (shown_at at)) else (if writes then filled s at else Ok (with_sight s at ZeroPage))) (shared_at s t p a h private)
-    ∙ ap (λ b. if b then filled s at else Ok (with_sight s at ZeroPage)) w
+    ∙ ap (λ b. if b then share_page s at (get page_cmp s.place (shown_at at)) else (if writes then fill_page s at else Ok (with_sight s at ZeroPage))) (shared_at s t p a h private)
+    ∙ ap (λ b. if b then fill_page s at else Ok (with_sight s at ZeroPage)) w
 
 pub fill-requires-clause-unplaced : goal.fill-requires-clause-unplaced
 fill-requires-clause-unplaced g c =
@@ -78,7 +78,7 @@ pub fill-requires-then-writes-2-clause-unplaced : goal.fill-requires-then-writes
 fill-requires-then-writes-2-clause-unplaced g c =
     let touched = c.requires.site.2 in
     let sees : sight_at (shown c.args.spaces.now.processes (table_of c.args.spaces.now) (paged_frames c.args.spaces.now c.args.frames.now) c.args.online 0 0) c.args.self.pid c.args.self.vpn ≡ None = sym c.sight.ensures.sight ∙ ap seen_sight c.in-None.is in
-    private_unplaced_here c.args.spaces.now.processes (table_of c.args.spaces.now) (paged_frames c.args.spaces.now c.args.frames.now) c.args.online 0 0 _ c.args.self c.requires.site.0 c.requires.site.1 (c.requires.kept 0 0) touched (none_sees sees) (sym (c.is_shared.ensures ∙ ap (λ (m : Mapped). is_shared m.segments c.args.self.page.segment) c.areas.ensures.areas) ∙ c.if-is_shared.false)
+    private_unplaced_here c.args.spaces.now.processes (table_of c.args.spaces.now) (paged_frames c.args.spaces.now c.args.frames.now) c.args.online 0 0 _ c.args.self c.requires.site.0 c.requires.site.1 (c.requires.kept 0 0) touched (none_sees sees) (sym (c.is_shared.ensures ∙ ap (λ (m : Mapping). is_shared m.segments c.args.self.page.segment) c.areas.ensures.areas) ∙ c.if-is_shared.false)
 
 pub returns-in_ok-see_zero-in-None-clause-kept : goal.returns-in_ok-see_zero-in-None-clause-kept
 returns-in_ok-see_zero-in-None-clause-kept g c m f =
@@ -86,7 +86,7 @@ returns-in_ok-see_zero-in-None-clause-kept g c m f =
     let sees : sight_at (shown c.args.spaces.now.processes (table_of c.args.spaces.now) (paged_frames c.args.spaces.now c.args.frames.now) c.args.online m f) c.args.self.pid c.args.self.vpn ≡ None = sym c.sight.ensures.sight ∙ ap seen_sight c.in-None.is in
     subst (λ (z : AddressSpacesView). IsKept (shown_by z c.args.frames.now c.args.online m f) c.args.frames.now.vacated z.frames) (sym (c.in_ok-see_zero-in-None.ensures.ok c.requires.site.0 touched.known))
     (seen_kept c.args.spaces.now.processes (table_of c.args.spaces.now) (paged_frames c.args.spaces.now c.args.frames.now) c.args.online m f _ c.args.self c.requires.site.0 c.requires.site.1 (c.requires.kept m f) touched ZeroPage _ refl
-    (private_here c.args.spaces.now.processes (table_of c.args.spaces.now) (paged_frames c.args.spaces.now c.args.frames.now) c.args.online m f _ c.args.self c.requires.site.0 c.requires.site.1 (c.requires.kept m f) touched (sym (c.is_shared.ensures ∙ ap (λ (m : Mapped). is_shared m.segments c.args.self.page.segment) c.areas.ensures.areas) ∙ c.if-is_shared.false)) (none_sees sees))
+    (private_here c.args.spaces.now.processes (table_of c.args.spaces.now) (paged_frames c.args.spaces.now c.args.frames.now) c.args.online m f _ c.args.self c.requires.site.0 c.requires.site.1 (c.requires.kept m f) touched (sym (c.is_shared.ensures ∙ ap (λ (m : Mapping). is_shared m.segments c.args.self.page.segment) c.areas.ensures.areas) ∙ c.if-is_shared.false)) (none_sees sees))
 
 pub returns-in-Sees-clause-some : goal.returns-in-Sees-clause-some
 returns-in-Sees-clause-some g c writes =
@@ -144,7 +144,7 @@ returns-in_ok-frame-in-None-clause-touches g c m f p a known =
     let s = shown_by c.args.spaces.now c.args.frames.now c.args.online m f in
     private_touched s c.args.self p a c.args.writes known
     ((sym c.sight.ensures.sight ∙ ap seen_sight c.in-None.is))
-    ((sym (c.is_shared.ensures ∙ ap (λ (m : Mapped). is_shared m.segments c.args.self.page.segment) c.areas.ensures.areas) ∙ c.if-is_shared.false)) c.if-writes-2.true
+    ((sym (c.is_shared.ensures ∙ ap (λ (m : Mapping). is_shared m.segments c.args.self.page.segment) c.areas.ensures.areas) ∙ c.if-is_shared.false)) c.if-writes-2.true
     ∙ c.in_ok-frame-in-None.ensures.touches m f p a known
 
 pub returns-in_err-frame-in-None-clause-touches : goal.returns-in_err-frame-in-None-clause-touches
@@ -153,7 +153,7 @@ returns-in_err-frame-in-None-clause-touches g c m f p a known =
     touch_handed_on c.fill-then-writes-2.result c.from_residual-in_err-frame-in-None.result _ s (shown_by c.fill-then-writes-2.new.spaces c.fill-then-writes-2.new.frames c.args.online m f) c.in_err-frame-in-None.was c.from_residual-in_err-frame-in-None.ensures
     (private_touched s c.args.self p a c.args.writes known
     ((sym c.sight.ensures.sight ∙ ap seen_sight c.in-None.is))
-    ((sym (c.is_shared.ensures ∙ ap (λ (m : Mapped). is_shared m.segments c.args.self.page.segment) c.areas.ensures.areas) ∙ c.if-is_shared.false)) c.if-writes-2.true)
+    ((sym (c.is_shared.ensures ∙ ap (λ (m : Mapping). is_shared m.segments c.args.self.page.segment) c.areas.ensures.areas) ∙ c.if-is_shared.false)) c.if-writes-2.true)
     (c.fill-then-writes-2.ensures.touches m f p a known)
 
 pub returns-in_ok-see_zero-in-None-clause-touches : goal.returns-in_ok-see_zero-in-None-clause-touches
@@ -161,7 +161,7 @@ returns-in_ok-see_zero-in-None-clause-touches g c m f p a known =
     let touched = known in
     private_touched (shown_by c.args.spaces.now c.args.frames.now c.args.online m f) c.args.self p a c.args.writes known
     ((sym c.sight.ensures.sight ∙ ap seen_sight c.in-None.is))
-    ((sym (c.is_shared.ensures ∙ ap (λ (m : Mapped). is_shared m.segments c.args.self.page.segment) c.areas.ensures.areas) ∙ c.if-is_shared.false)) c.if-writes-2.false
+    ((sym (c.is_shared.ensures ∙ ap (λ (m : Mapping). is_shared m.segments c.args.self.page.segment) c.areas.ensures.areas) ∙ c.if-is_shared.false)) c.if-writes-2.false
     ∙ ap (λ (z : AddressSpacesView). Ok (shown_by z c.args.frames.now c.args.online m f)) (sym (c.in_ok-see_zero-in-None.ensures.ok p touched.known))
 
 pub returns-in_err-see_zero-in-None-clause-touches : goal.returns-in_err-see_zero-in-None-clause-touches
@@ -231,14 +231,14 @@ pub returns-in_err-frame-in-None-clause-memory : goal.returns-in_err-frame-in-No
 returns-in_err-frame-in-None-clause-memory g c m f p a known =
     let s = shown_by c.args.spaces.now c.args.frames.now c.args.online m f in
     memory_handed_on c.fill-then-writes-2.result c.from_residual-in_err-frame-in-None.result _ c.in_err-frame-in-None.was c.from_residual-in_err-frame-in-None.ensures
-    (ap result_err (private_touched s c.args.self p a c.args.writes known ((sym c.sight.ensures.sight ∙ ap seen_sight c.in-None.is)) ((sym (c.is_shared.ensures ∙ ap (λ (m : Mapped). is_shared m.segments c.args.self.page.segment) c.areas.ensures.areas) ∙ c.if-is_shared.false)) c.if-writes-2.true))
+    (ap result_err (private_touched s c.args.self p a c.args.writes known ((sym c.sight.ensures.sight ∙ ap seen_sight c.in-None.is)) ((sym (c.is_shared.ensures ∙ ap (λ (m : Mapping). is_shared m.segments c.args.self.page.segment) c.areas.ensures.areas) ∙ c.if-is_shared.false)) c.if-writes-2.true))
     (c.fill-then-writes-2.ensures.memory m f p a known)
 
 pub returns-in_err-see_zero-in-None-clause-memory : goal.returns-in_err-see_zero-in-None-clause-memory
 returns-in_err-see_zero-in-None-clause-memory g c m f p a known =
     let s = shown_by c.args.spaces.now c.args.frames.now c.args.online m f in
     may_ask c.from_residual-in_err-see_zero-in-None.result _
-    (ap result_err (private_touched s c.args.self p a c.args.writes known ((sym c.sight.ensures.sight ∙ ap seen_sight c.in-None.is)) ((sym (c.is_shared.ensures ∙ ap (λ (m : Mapped). is_shared m.segments c.args.self.page.segment) c.areas.ensures.areas) ∙ c.if-is_shared.false)) c.if-writes-2.false))
+    (ap result_err (private_touched s c.args.self p a c.args.writes known ((sym c.sight.ensures.sight ∙ ap seen_sight c.in-None.is)) ((sym (c.is_shared.ensures ∙ ap (λ (m : Mapping). is_shared m.segments c.args.self.page.segment) c.areas.ensures.areas) ∙ c.if-is_shared.false)) c.if-writes-2.false))
 
 -- .. and not for a read of the page of zeros
 pub returns-in_err-frame-in-ZeroPage-clause-zero : goal.returns-in_err-frame-in-ZeroPage-clause-zero
@@ -287,7 +287,7 @@ pub returns-in_ok-frame-in-None-clause-undo : goal.returns-in_ok-frame-in-None-c
 returns-in_ok-frame-in-None-clause-undo g c =
     let touched = c.requires.site.2 in
     let sees : sight_at (shown c.args.spaces.now.processes (table_of c.args.spaces.now) (paged_frames c.args.spaces.now c.args.frames.now) c.args.online 0 0) c.args.self.pid c.args.self.vpn ≡ None = sym c.sight.ensures.sight ∙ ap seen_sight c.in-None.is in
-    let none = private_unplaced_here c.args.spaces.now.processes (table_of c.args.spaces.now) (paged_frames c.args.spaces.now c.args.frames.now) c.args.online 0 0 _ c.args.self c.requires.site.0 c.requires.site.1 (c.requires.kept 0 0) touched (none_sees sees) (sym (c.is_shared.ensures ∙ ap (λ (m : Mapped). is_shared m.segments c.args.self.page.segment) c.areas.ensures.areas) ∙ c.if-is_shared.false) in
+    let none = private_unplaced_here c.args.spaces.now.processes (table_of c.args.spaces.now) (paged_frames c.args.spaces.now c.args.frames.now) c.args.online 0 0 _ c.args.self c.requires.site.0 c.requires.site.1 (c.requires.kept 0 0) touched (none_sees sees) (sym (c.is_shared.ensures ∙ ap (λ (m : Mapping). is_shared m.segments c.args.self.page.segment) c.areas.ensures.areas) ∙ c.if-is_shared.false) in
     noted_placed c.placed-then-writes-2.result (sight_in (get nat_cmp c.args.spaces.now.processes c.args.self.pid) c.args.self.vpn) (get page_cmp c.args.spaces.now.place c.args.self.page) c.args.self.pid c.args.self.vpn false c.args.self.page c.in_ok-frame-in-None.frame c.placed-then-writes-2.ensures
     (sees) none
 
@@ -301,12 +301,12 @@ pub returns-then-is_shared-clause-touches : goal.returns-then-is_shared-clause-t
 returns-then-is_shared-clause-touches g c m f p a known =
     let s = shown_by c.args.spaces.now c.args.frames.now c.args.online m f in
     subst (λ found. Touches c.join.result s (shown_by c.join.new.spaces c.join.new.frames c.args.online m f) found)
-    (sym (shared_touched s c.args.self p a c.args.writes known (sym c.sight.ensures.sight ∙ ap seen_sight c.in-None.is) (sym (c.is_shared.ensures ∙ ap (λ (m : Mapped). is_shared m.segments c.args.self.page.segment) c.areas.ensures.areas) ∙ c.if-is_shared.true)))
+    (sym (shared_touched s c.args.self p a c.args.writes known (sym c.sight.ensures.sight ∙ ap seen_sight c.in-None.is) (sym (c.is_shared.ensures ∙ ap (λ (m : Mapping). is_shared m.segments c.args.self.page.segment) c.areas.ensures.areas) ∙ c.if-is_shared.true)))
     (c.join.ensures.touches m f p a known)
 
 pub returns-then-is_shared-clause-memory : goal.returns-then-is_shared-clause-memory
 returns-then-is_shared-clause-memory g c m f p a known =
     let s = shown_by c.args.spaces.now c.args.frames.now c.args.online m f in
     subst (λ found. AsksLast c.join.result (result_err found))
-    (sym (shared_touched s c.args.self p a c.args.writes known (sym c.sight.ensures.sight ∙ ap seen_sight c.in-None.is) (sym (c.is_shared.ensures ∙ ap (λ (m : Mapped). is_shared m.segments c.args.self.page.segment) c.areas.ensures.areas) ∙ c.if-is_shared.true)))
+    (sym (shared_touched s c.args.self p a c.args.writes known (sym c.sight.ensures.sight ∙ ap seen_sight c.in-None.is) (sym (c.is_shared.ensures ∙ ap (λ (m : Mapping). is_shared m.segments c.args.self.page.segment) c.areas.ensures.areas) ∙ c.if-is_shared.true)))
     (c.join.ensures.memory m f p a known)

@@ -1,6 +1,6 @@
 use Rattle.std.proofs.Common.{ap, [], ◌∷◌, ◌∙◌}
 use Rattle.nm_types.specs.Layout.{owner}
-use Rattle.nm_model.specs.definitions.Frames.{Pool, prepended}
+use Rattle.nm_model.specs.definitions.Frames.{Pool, with_front}
 use Rattle.nm_memory.proofs.Shelves.{list_set, free_changed, can_free}
 use Rattle.nm_memory.proofs.Boxed.{seen, held}
 use Rattle.nm_memory.proofs.frames.Frames.free_first.Goals as goal
@@ -30,4 +30,4 @@ pub returns : goal.returns
 returns g c =
     let own = held c.self.inside.jobs c.deref_mut-parts.ensures.value c.self.invariant in
     let shown = seen c.self.inside.jobs c.deref_mut-parts.ensures.value c.self.view_is in
-    free_changed (λ (p : Pool). prepended p c.args.frame) _ c.args.self.now c.deref_mut-parts.result.now.nodes.sizes c.prepend.new.self shown own.0 c.prepend.ensures
+    free_changed (λ (p : Pool). with_front p c.args.frame) _ c.args.self.now c.deref_mut-parts.result.now.nodes.sizes c.prepend.new.self shown own.0 c.prepend.ensures

@@ -1,7 +1,7 @@
 use Rattle.std.proofs.Common.{ℕ, ap, sym, subst, ◌∙◌}
 use Rattle.std.specs.Ordering.{nat_cmp}
 use Rattle.nm_types.specs.Map.{Map, set}
-use Rattle.nm_model.specs.definitions.Effect.{untouched}
+use Rattle.nm_model.specs.definitions.Effect.{new_process}
 use Rattle.nm_model.specs.definitions.PageTables.{Task}
 use Rattle.nm_spaces.specs.views.AddressSpaces.{AddressSpacesView, spaces_view}
 use Rattle.nm_spaces.specs.definitions.Tied.{IsTied}
@@ -29,5 +29,5 @@ returns-clause-ok g c =
     on_ok c.add.result
     (λ is. ap (λ ts. spaces_view ts x.areas x.rmap) is
     ∙ added_shows x.tasks x.areas x.rmap c.args.pid c.args.info (tied c.deref_mut-parts.ensures.value c.self.invariant) none
-    ∙ ap (λ (y : AddressSpacesView). record y { processes = set nat_cmp y.processes c.args.pid (untouched c.args.info) }) (seen c.deref_mut-parts.ensures.value c.self.view_is))
+    ∙ ap (λ (y : AddressSpacesView). record y { processes = set nat_cmp y.processes c.args.pid (new_process c.args.info) }) (seen c.deref_mut-parts.ensures.value c.self.view_is))
     c.add.ensures.ok

@@ -4,7 +4,7 @@ use Rattle.nm_types.specs.declared.page.Page.{Page}
 use Rattle.nm_types.specs.declared.sight.Sight.TheVariants.{Sees}
 use Rattle.nm_types.specs.Map.{Map, get, page_cmp}
 use Rattle.nm_types.specs.State.{page_at}
-use Rattle.nm_model.specs.definitions.Areas.{Mapped}
+use Rattle.nm_model.specs.definitions.Areas.{Mapping}
 use Rattle.nm_model.specs.definitions.Areas.{with_frame, without_frame}
 use Rattle.nm_rmap.specs.Mappers.{Mappers, with_mapper, without_mapper}
 use Rattle.nm_model.specs.definitions.PageTables.{Task}
@@ -18,13 +18,13 @@ use Rattle.nm_spaces.proofs.address_spaces.AddressSpaces.allocate.Given.{Over}
 use Rattle.nm_spaces.proofs.address_spaces.AddressSpaces.allocate.Goals as goal
 
 -- the page has a frame meanwhile
-placed_meanwhile : (m n : Mapped) (p : Page) (f : ℕ) → n ≡ with_frame m p f → IsSome (get page_cmp n.place p)
-placed_meanwhile m n p f is = subst IsSome (sym (ap (λ (n : Mapped). get page_cmp n.place p) is ∙ place_new m.place p f)) refl
+placed_meanwhile : (m n : Mapping) (p : Page) (f : ℕ) → n ≡ with_frame m p f → IsSome (get page_cmp n.place p)
+placed_meanwhile m n p f is = subst IsSome (sym (ap (λ (n : Mapping). get page_cmp n.place p) is ∙ place_new m.place p f)) refl
 
 -- the page again has none
-areas_undone : (y : AddressSpacesView) (tasks : Map ℕ Task) (m n k : Mapped) (r : Mappers) (p : Page) (f : ℕ) → spaces_view tasks m r ≡ y → IsTied tasks m r → get page_cmp y.place p ≡ None → n ≡ with_frame m p f → k ≡ without_frame n p → k ≡ m
+areas_undone : (y : AddressSpacesView) (tasks : Map ℕ Task) (m n k : Mapping) (r : Mappers) (p : Page) (f : ℕ) → spaces_view tasks m r ≡ y → IsTied tasks m r → get page_cmp y.place p ≡ None → n ≡ with_frame m p f → k ≡ without_frame n p → k ≡ m
 areas_undone y tasks m n k r p f is h none given taken =
-    taken ∙ ap (λ (n : Mapped). without_frame n p) given ∙ place_undone m p f h.places (ap (λ (y : AddressSpacesView). get page_cmp y.place p) is ∙ none)
+    taken ∙ ap (λ (n : Mapping). without_frame n p) given ∙ place_undone m p f h.places (ap (λ (y : AddressSpacesView). get page_cmp y.place p) is ∙ none)
 
 pub drop_frame-requires : goal.drop_frame-requires
 drop_frame-requires g c = placed_meanwhile c.deref_mut-parts.result.now.areas c.set_frame.new.self c.args.page c.args.frame c.in_ok-set_frame.ensures.ok
@@ -45,7 +45,7 @@ taken_back g c =
 
 pub invariant_of-self-in-Err : goal.invariant_of-self-in-Err
 invariant_of-self-in-Err g c =
-    subst (λ (m : Mapped). IsTied c.deref_mut-parts.result.now.tasks m c.add.new.self) (sym (taken_back g c))
+    subst (λ (m : Mapping). IsTied c.deref_mut-parts.result.now.tasks m c.add.new.self) (sym (taken_back g c))
     (subst (λ (r : Mappers). IsTied c.deref_mut-parts.result.now.tasks c.deref_mut-parts.result.now.areas r) (sym c.in-Err.ensures.err) (tied c.deref_mut-parts.ensures.value c.self.invariant))
 
 pub returns-in-Err-clause-err : goal.returns-in-Err-clause-err
@@ -66,7 +66,7 @@ rmap_undone g c =
 
 pub invariant_of-self-in-Err-set : goal.invariant_of-self-in-Err-set
 invariant_of-self-in-Err-set g c =
-    subst (λ (m : Mapped). IsTied c.set.new.self m c.drop_one.new.self) (sym (all_taken_back g c))
+    subst (λ (m : Mapping). IsTied c.set.new.self m c.drop_one.new.self) (sym (all_taken_back g c))
     (subst (λ (r : Mappers). IsTied c.set.new.self c.deref_mut-parts.result.now.areas r) (sym (rmap_undone g c))
     (subst (λ (ts : Map ℕ Task). IsTied ts c.deref_mut-parts.result.now.areas c.deref_mut-parts.result.now.rmap) (sym c.in-Err-set.ensures.err) (tied c.deref_mut-parts.ensures.value c.self.invariant)))
 
@@ -84,7 +84,7 @@ invariant_of-self-2 g c =
     let spare = spare_in y x.tasks x.areas x.rmap c.args.frame is c.requires.frame c.requires.spare in
     let none = ap (λ (y : AddressSpacesView). get page_cmp y.place c.args.page) is ∙ c.requires.unplaced in
     let m = with_frame x.areas c.args.page c.args.frame in
-    subst (λ (m : Mapped). IsTied c.set.new.self m c.add.new.self) (sym c.in_ok-set_frame.ensures.ok)
+    subst (λ (m : Mapping). IsTied c.set.new.self m c.add.new.self) (sym c.in_ok-set_frame.ensures.ok)
     (subst (λ (r : Mappers). IsTied c.set.new.self m r) (sym c.in_default.ensures.ok)
     (subst (λ (ts : Map ℕ Task). IsTied ts m (with_mapper x.rmap c.args.frame (c.args.pid, c.args.vpn))) (sym (c.in_default-set.ensures.ok t.0 t.1))
     (page_tied x.tasks m x.rmap c.args.pid t.0 c.args.vpn (place_tied x.tasks x.areas x.rmap c.args.page c.args.frame (tied c.deref_mut-parts.ensures.value c.self.invariant) spare none) t.1 free c.args.page c.args.frame at

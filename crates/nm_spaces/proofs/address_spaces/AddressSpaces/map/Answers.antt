@@ -1,6 +1,6 @@
 use Rattle.std.proofs.Common.{ap}
-use Rattle.nm_model.specs.definitions.Areas.{inserted, new_area}
-use Rattle.nm_model.specs.definitions.Areas.{Mapped}
+use Rattle.nm_model.specs.definitions.Areas.{with_segment, new_area}
+use Rattle.nm_model.specs.definitions.Areas.{Mapping}
 use Rattle.nm_model.specs.definitions.AreaRefusal.{insert_refusal}
 use Rattle.nm_spaces.proofs.Boxed.{seen, tied}
 use Rattle.nm_spaces.proofs.Tied.AreaChanges.{IsShownStill, still_same, still_tied, still_shows_at, still_with_new, insert_room, from_makes}
@@ -12,8 +12,8 @@ still g c =
     let m = c.deref_mut-parts.result.now.areas in
     let n = c.insert.new.self in
     let x = c.args in
-    from_makes c.insert.result m n (inserted m x.pid x.addr x.pages x.shared) (insert_refusal m x.pid x.addr x.pages)
-    (λ fine is over. still_with_new m n x.pid x.addr (new_area m.next 0 x.pages) (insert_room m x.pid x.addr x.pages fine) (ap (λ (n : Mapped). n.place) is) over)
+    from_makes c.insert.result m n (with_segment m x.pid x.addr x.pages x.shared) (insert_refusal m x.pid x.addr x.pages)
+    (λ fine is over. still_with_new m n x.pid x.addr (new_area m.next 0 x.pages) (insert_room m x.pid x.addr x.pages fine) (ap (λ (n : Mapping). n.place) is) over)
     (λ is. still_same m n is) c.insert.ensures.done c.insert.ensures.over
 
 pub invariant_of-self : goal.invariant_of-self

@@ -1,7 +1,7 @@
 use Rattle.std.proofs.Common.{◌+◌, ◌<◌, ℕ, List, [], ◌∷◌, ap, subst, sym, ◌∙◌, arith}
 use Rattle.nm_types.specs.declared.located.Located.{Located}
 use Rattle.nm_model.specs.definitions.PageTables.{entry_at}
-use Rattle.nm_model.specs.definitions.Seen.{located, located_in, between, sights}
+use Rattle.nm_model.specs.definitions.Seen.{locate, located_in, between, sights}
 use Rattle.nm_spaces.proofs.Boxed.{seen, tied}
 use Rattle.nm_spaces.proofs.ProcessTable.NamedFrames.{names_it, sees_page_there, sees_zeros}
 use Rattle.nm_spaces.proofs.Spaces.ListedPages.{page_behind, frame_behind, located_behind, next_located, none_located}
@@ -46,7 +46,7 @@ returns-in-Some-frame_named-clause-some g c =
     let is = sym c.frame_named.ensures ∙ c.in-Some-frame_named.is in
     let named = names_it e f is in
     let here =
-    ap (located c.args.geometry.now y.place v) (sees_page_there y.areas c.args.pid v e f is)
+    ap (locate c.args.geometry.now y.place v) (sees_page_there y.areas c.args.pid v e f is)
     ∙ located_behind y x.tasks x.areas x.rmap c.args.pid (seen c.deref-parts.ensures c.self.view_is) (tied c.deref-parts.ensures c.self.invariant) v f e some.1 named c.args.geometry.now
     ∙ c.seen_in.ensures.page in
     c.loop-vpn.invariant.same
@@ -62,7 +62,7 @@ loop-vpn-preserved g c =
     let some = c.in-Some.ensures.some in
     let v = number_found c.new.result some.0 in
     let e = entry_found (entry_at x.tasks c.args.pid v) some.1 in
-    let zero = ap (located c.args.geometry.now y.place v) (sees_zeros y.areas c.args.pid v e (sym c.frame_named.ensures ∙ c.in_default-frame_named.is)) in
+    let zero = ap (locate c.args.geometry.now y.place v) (sees_zeros y.areas c.args.pid v e (sym c.frame_named.ensures ∙ c.in_default-frame_named.is)) in
     record {
       from = omega (arith, c.loop-vpn.invariant.from, some.0, c.new.ensures, c.number-at-in-Some.ensures);
       same = c.loop-vpn.invariant.same

@@ -4,7 +4,7 @@ use Rattle.nm_types.specs.Layout.{node_count}
 use Rattle.nm_types.specs.Map.{get, page_cmp}
 use Rattle.nm_model.specs.definitions.Seen.{between, sights}
 use Rattle.std.specs.Prelude.{All, Some, IfSome}
-use Rattle.nm_model.specs.definitions.Seen.{IsOver, located}
+use Rattle.nm_model.specs.definitions.Seen.{IsOver, locate}
 use Rattle.nm_spaces.proofs.Boxed.{seen, tied}
 use Rattle.nm_spaces.proofs.ProcessTable.NamedFrames.{names_it, sees_page_there, sees_zeros}
 use Rattle.nm_types.specs.declared.located.Located.{Located}
@@ -47,7 +47,7 @@ loop-vpn-preserved g c =
       | in_default w ↦ record {
         pages = ap (λ v. v.items ++ rest) w.pages-is
             ∙ step_over geometry y.place y.areas c.args.pid es c.loop-vpn.vpn-index e c.loop-vpn-test.true c.loop-vpn-item.is c.loop-vpn.pages.items _
-            (ap (located geometry y.place e.0) (sees_zeros y.areas c.args.pid e.0 e.1 (sym c.frame_named.ensures ∙ w.in_default.is))) c.loop-vpn.invariant.pages;
+            (ap (locate geometry y.place e.0) (sees_zeros y.areas c.args.pid e.0 e.1 (sym c.frame_named.ensures ∙ w.in_default.is))) c.loop-vpn.invariant.pages;
         nodes = subst (λ v. All (λ e. e.node < node_count geometry) v.items) (sym w.pages-is) c.loop-vpn.invariant.nodes;
         last = subst (λ o. IfSome o (IsOver y.areas c.args.pid)) (sym w.last-is) c.loop-vpn.invariant.last;
       }
@@ -55,7 +55,7 @@ loop-vpn-preserved g c =
           let f = w.in-Some.frame in
           let named = names_it e.1 f (sym c.frame_named.ensures ∙ w.in-Some.is) in
           let here =
-          ap (located geometry y.place e.0) (sees_page_there y.areas c.args.pid e.0 e.1 f (sym c.frame_named.ensures ∙ w.in-Some.is))
+          ap (locate geometry y.place e.0) (sees_page_there y.areas c.args.pid e.0 e.1 f (sym c.frame_named.ensures ∙ w.in-Some.is))
           ∙ located_behind y x.tasks x.areas x.rmap c.args.pid (seen c.deref-parts.ensures c.self.view_is) (tied c.deref-parts.ensures c.self.invariant) e.0 f e.1 there named geometry
           ∙ w.seen_in-page.ensures.page in
           let items = ap (λ v. v.items) w.pages-is ∙ w.in_ok-push.ensures.items in

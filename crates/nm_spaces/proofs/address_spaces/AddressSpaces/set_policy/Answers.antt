@@ -1,5 +1,5 @@
 use Rattle.std.proofs.Common.{◌+◌, ◌/◌}
-use Rattle.nm_model.specs.definitions.Areas.{pages_of}
+use Rattle.nm_model.specs.definitions.Areas.{page_count}
 use Rattle.nm_model.specs.definitions.AreaRefusal.{range_refusal}
 use Rattle.nm_spaces.proofs.Boxed.{seen, tied}
 use Rattle.nm_spaces.proofs.Tied.AreaChanges.{IsShownStill, made_still, still_tied, still_shows_at}
@@ -11,7 +11,7 @@ still g c =
     let a = c.args in
     let m = c.deref_mut-parts.result.now.areas in
     let first = a.addr / 4096 in
-    made_still m c.split_policy.new.self a.pid first (first + pages_of a.len) a.policy (range_refusal m a.pid a.addr a.len) c.split_policy.result c.split_policy.ensures.done c.split_policy.ensures.pages
+    made_still m c.split_policy.new.self a.pid first (first + page_count a.len) a.policy (range_refusal m a.pid a.addr a.len) c.split_policy.result c.split_policy.ensures.done c.split_policy.ensures.pages
 
 pub invariant_of-self : goal.invariant_of-self
 invariant_of-self g c =

@@ -1,6 +1,6 @@
 use Rattle.std.proofs.Common.{◌≡◌, ap, subst}
 use Rattle.std.specs.Prelude.{OnOk, OnErr}
-use Rattle.nm_model.specs.definitions.Areas.{Mapped, with_policy}
+use Rattle.nm_model.specs.definitions.Areas.{Mapping, with_policy}
 use Rattle.nm_spaces.specs.views.AddressSpaces.{mapped_of, spaces_view, with_mapped}
 use Rattle.nm_spaces.proofs.Boxed.{seen, tied}
 use Rattle.nm_spaces.proofs.Tied.AreaChanges.{IsShownStill, still_tied, still_shows_at, policed_still, policed_seen, policed_not}
@@ -29,7 +29,7 @@ returns-clause-ok g c =
     let x = c.deref_mut-parts.result.now in
     let r = c.set_range_policy.result in
     policed_seen (spaces_view x.tasks c.set_range_policy.new.self x.rmap) a.self.now (with_policy (mapped_of a.self.now) a.pid a.range.first a.range.end a.policy) r (shown g c)
-    (subst (λ (m : Mapped). OnOk r (c.set_range_policy.new.self ≡ with_policy m a.pid a.range.first a.range.end a.policy)) (ap mapped_of (seen c.deref_mut-parts.ensures.value c.self.view_is)) c.set_range_policy.ensures.ok)
+    (subst (λ (m : Mapping). OnOk r (c.set_range_policy.new.self ≡ with_policy m a.pid a.range.first a.range.end a.policy)) (ap mapped_of (seen c.deref_mut-parts.ensures.value c.self.view_is)) c.set_range_policy.ensures.ok)
 
 pub returns-clause-err : goal.returns-clause-err
 returns-clause-err g c =
@@ -37,4 +37,4 @@ returns-clause-err g c =
     let x = c.deref_mut-parts.result.now in
     let r = c.set_range_policy.result in
     policed_not (spaces_view x.tasks c.set_range_policy.new.self x.rmap) a.self.now r (shown g c)
-    (subst (λ (m : Mapped). OnErr r (c.set_range_policy.new.self ≡ m)) (ap mapped_of (seen c.deref_mut-parts.ensures.value c.self.view_is)) c.set_range_policy.ensures.err)
+    (subst (λ (m : Mapping). OnErr r (c.set_range_policy.new.self ≡ m)) (ap mapped_of (seen c.deref_mut-parts.ensures.value c.self.view_is)) c.set_range_policy.ensures.err)

@@ -4,7 +4,7 @@ use Rattle.std.proofs.Math.ListN.{drop_of_length-le}
 use Rattle.nm_types.specs.Map.{Map}
 use Rattle.nm_types.specs.declared.entry.Entry.TheVariants.{Frame}
 use Rattle.nm_types.specs.declared.taken.Taken.{Taken}
-use Rattle.nm_model.specs.definitions.Events.{arrived, with_entries}
+use Rattle.nm_model.specs.definitions.Events.{arrival_of, with_entries}
 use Rattle.nm_model.specs.definitions.PageTables.{Task, entry_at}
 use Rattle.nm_rmap.specs.Mappers.{mappers_of}
 use Rattle.nm_spaces.specs.views.Held.{is_taken}
@@ -20,7 +20,7 @@ none_taken f h = cc
 
 -- the mappers of a frame that a page takes are the entries that name it once they have arrived
 named : (g : Over) (c : goal.After-replace_each g) (pid v : ℕ)
-    → has_spot (mappers_of c.args.rmap.now c.taken-item.result.to) (pid, v) ≡ names c.taken-item.result.to (entry_at (with_entries arrived c.loop-taken.tasks) pid v)
+    → has_spot (mappers_of c.args.rmap.now c.taken-item.result.to) (pid, v) ≡ names c.taken-item.result.to (entry_at (with_entries arrival_of c.loop-taken.tasks) pid v)
 named g c pid v =
     c.requires.mappers c.taken-item.result.to pid v ∙ ap (λ (ts : Map ℕ Task). names c.taken-item.result.to (entry_at ts pid v)) (sym c.loop-taken.invariant.same)
 
@@ -39,7 +39,7 @@ loop-taken-preserved g c =
     let at = drop_item c.args.moves.now c.loop-taken.taken-index t c.loop-taken-test.true c.taken-item.is in
     let is : c.replace_each.new.tasks ≡ all_replaced tasks l (Frame t.to) = c.replace_each.ensures ∙ ap (λ ms. all_replaced tasks ms (Frame t.to)) c.mappings.ensures.all in
     record {
-      same = ap (with_entries arrived) is ∙ arrive_same tasks l t.to (named g c) ∙ c.loop-taken.invariant.same;
+      same = ap (with_entries arrival_of) is ∙ arrive_same tasks l t.to (named g c) ∙ c.loop-taken.invariant.same;
       among = λ f pid v h.
           let k = arrive_fewer tasks l t.to (named g c) f pid v (ap (λ (ts : Map ℕ Task). entry_at ts pid v) (sym is) ∙ h) in
           still_taken t (drop (c.loop-taken.taken-index + 1) c.args.moves.now) f k.1

@@ -7,8 +7,8 @@ use Rattle.nm_types.specs.declared.page.Page.{Page}
 use Rattle.nm_types.specs.Map.{Map, get, page_cmp}
 use Rattle.nm_types.specs.declared.entry.Entry.TheVariants.{Held}
 use Rattle.nm_types.proofs.Maps.{page_cmp_total, exact_page, replace_is_set}
-use Rattle.nm_model.specs.definitions.Areas.{Mapped, with_frame}
-use Rattle.nm_model.specs.definitions.Events.{arrived, with_entries}
+use Rattle.nm_model.specs.definitions.Areas.{Mapping, with_frame}
+use Rattle.nm_model.specs.definitions.Events.{arrival_of, with_entries}
 use Rattle.nm_model.specs.definitions.PageTables.{Task, entry_at}
 use Rattle.nm_rmap.specs.Mappers.{Mappers, mappers_of, carried}
 use Rattle.nm_laws.specs.Midway.{entry_meanwhile}
@@ -35,7 +35,7 @@ carry-requires-clause-unused g c =
     let is = ap (λ (h : HeldView). h.spaces) (held_seen c.deref_mut-parts.ensures.value c.self.view_is) in
     let spare = spare_in c.args.self.now.spaces x.tasks x.areas x.rmap c.args.to is c.requires.frame c.requires.spare in
     record {
-      mappers = spare_without (with_entries arrived x.tasks) x.areas x.rmap c.args.to (held_tied c.deref_mut-parts.ensures.value c.self.invariant) spare;
+      mappers = spare_without (with_entries arrival_of x.tasks) x.areas x.rmap c.args.to (held_tied c.deref_mut-parts.ensures.value c.self.invariant) spare;
       pins = (held_tied c.deref_mut-parts.ensures.value c.self.invariant).pinned c.args.to spare.place;
     }
 
@@ -55,9 +55,9 @@ invariant_of-self g c =
     let is = ap (λ (h : HeldView). h.spaces) (held_seen c.deref_mut-parts.ensures.value c.self.view_is) in
     let placed = placed_in c.args.self.now.spaces x.tasks x.areas x.rmap c.args.page c.args.from is c.requires.placed in
     let spare = spare_in c.args.self.now.spaces x.tasks x.areas x.rmap c.args.to is c.requires.frame c.requires.spare in
-    subst (λ (r : Mappers). IsTied (with_entries arrived c.replace_each.new.tasks) c.move_page.new.self r) (sym c.carry.ensures)
-    (subst (λ (m : Mapped). IsTied (with_entries arrived c.replace_each.new.tasks) m (carried x.rmap c.args.from c.args.to)) (sym (areas_after g c))
-    (subst (λ (ts : Map ℕ Task). IsTied (with_entries arrived ts) (with_frame x.areas c.args.page c.args.to) (carried x.rmap c.args.from c.args.to)) (sym (tasks_after g c))
+    subst (λ (r : Mappers). IsTied (with_entries arrival_of c.replace_each.new.tasks) c.move_page.new.self r) (sym c.carry.ensures)
+    (subst (λ (m : Mapping). IsTied (with_entries arrival_of c.replace_each.new.tasks) m (carried x.rmap c.args.from c.args.to)) (sym (areas_after g c))
+    (subst (λ (ts : Map ℕ Task). IsTied (with_entries arrival_of ts) (with_frame x.areas c.args.page c.args.to) (carried x.rmap c.args.from c.args.to)) (sym (tasks_after g c))
     (hold_tied x.tasks x.areas x.rmap c.args.page c.args.from c.args.to (held_tied c.deref_mut-parts.ensures.value c.self.invariant) placed spare)))
 
 pub returns-clause-spaces : goal.returns-clause-spaces
