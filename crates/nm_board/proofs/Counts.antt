@@ -5,9 +5,9 @@ use lib.ListN.{get_elem?}
 use Rattle.std.specs.Prelude.{slice_get}
 use Rattle.std.proofs.lemmas.Bool.Decides.{nat_tests}
 use Rattle.atomic_table.proofs.Lists.{set_here, set_else}
-use Rattle.nm_board.specs.Tickets.{hit, times, once_below}
+use Rattle.nm_board.specs.Tickets.{hit, ticket_times, once_below}
 
-pub times_append : (t : ℕ) (xs ys : List ℕ) → times t (xs ++ ys) ≡ times t xs + times t ys
+pub times_append : (t : ℕ) (xs ys : List ℕ) → ticket_times t (xs ++ ys) ≡ ticket_times t xs + ticket_times t ys
 times_append t [] ys = omega arith
 times_append t (x ∷ xs) ys = omega (arith, times_append t xs ys)
 
@@ -54,8 +54,8 @@ pub past_le : (b : Bool) (n : ℕ) → (if b then n else 0) ≤ n
 past_le true n = omega arith
 past_le false n = omega arith
 
-pub within_more : (u t : ℕ) (done drawn : List ℕ) → times u done ≤ times u drawn → times t done < times t drawn → Dec (u ≡ t) → times u (done ++ t ∷ []) ≤ times u drawn
-within_more u t done drawn le lt (yes e) = let a = ap (λ (x : ℕ). times x done) e in let b = ap (λ (x : ℕ). times x drawn) e in let c : hit u t ≡ 1 = ap (λ (x : ℕ). hit x t) e ∙ hit_same t in omega (arith, times_append u done (t ∷ []))
+pub within_more : (u t : ℕ) (done drawn : List ℕ) → ticket_times u done ≤ ticket_times u drawn → ticket_times t done < ticket_times t drawn → Dec (u ≡ t) → ticket_times u (done ++ t ∷ []) ≤ ticket_times u drawn
+within_more u t done drawn le lt (yes e) = let a = ap (λ (x : ℕ). ticket_times x done) e in let b = ap (λ (x : ℕ). ticket_times x drawn) e in let c : hit u t ≡ 1 = ap (λ (x : ℕ). hit x t) e ∙ hit_same t in omega (arith, times_append u done (t ∷ []))
 within_more u t done drawn le lt (no ne) = omega (arith, times_append u done (t ∷ []), hit_other u t ne)
 
 pub back_set : {A : Type 0} (homes : List A) (t u : ℕ) (x y : A) → t < length homes → (u ≡ t → x ≡ y) → (u ≢ t → get_elem? homes u ≡ some y) → Dec (u ≡ t) → get_elem? (set homes t x) u ≡ some y

@@ -9,8 +9,8 @@ use Rattle.atomic_table.specs.Table.{Final, Seen}
 use Rattle.nm_frames.specs.declared.job.CopyJob.{CopyJob}
 use Rattle.nm_frames.specs.Job.{copied}
 use Rattle.nm_board.specs.declared.view.View.{View}
-use Rattle.nm_board.specs.Tickets.{hit, times}
-use Rattle.nm_board.specs.Rule.{total, Keeps, IsKept}
+use Rattle.nm_board.specs.Tickets.{hit, ticket_times}
+use Rattle.nm_board.specs.Rule.{sum_over_hands, RuleHolds, IsBoardRule}
 use Rattle.nm_board.proofs.Sums.{total_le}
 use Rattle.nm_board.proofs.Counts.{hit_same, hit_other, lt_get, once_lt, once_le}
 
@@ -39,9 +39,9 @@ sum_hit x zero h = absurd (omega arith)
 sum_hit x (suc n) h = hit_step x n (sum_to (λ t. hit t x) n) h (sum_hit x n) (sum_above x n) (dec_lt x n)
 
 -- a list of tickets below n is as long as the counts of them together
-length_sum : (n : ℕ) (xs : List ℕ) → ((t : ℕ) → 0 < times t xs → t < n) → length xs ≡ sum_to (λ t. times t xs) n
+length_sum : (n : ℕ) (xs : List ℕ) → ((t : ℕ) → 0 < ticket_times t xs → t < n) → length xs ≡ sum_to (λ t. ticket_times t xs) n
 length_sum n [] h = sym (sum_zero (λ t. 0) n (λ t. refl))
-length_sum n (x ∷ xs) h = omega (arith, hit_same x, sum_hit x n (h x (omega (arith, hit_same x))), length_sum n xs (λ t p. h t (omega arith)), sum_add (λ t. hit t x) (λ t. times t xs) (λ t. hit t x + times t xs) n (λ t. refl))
+length_sum n (x ∷ xs) h = omega (arith, hit_same x, sum_hit x n (h x (omega (arith, hit_same x))), length_sum n xs (λ t p. h t (omega arith)), sum_add (λ t. hit t x) (λ t. ticket_times t xs) (λ t. hit t x + ticket_times t xs) n (λ t. refl))
 
 sum_below : (f : ℕ → ℕ) (n : ℕ) → ((t : ℕ) → f t ≤ 1) → sum_to f n ≤ n
 sum_below f zero h = omega arith
@@ -53,22 +53,22 @@ sum_full f (suc n) h e t lt (yes is) = let k : t ≡ n = omega arith in omega (a
 sum_full f (suc n) h e t lt (no is) = sum_full f n h (omega (arith, h n, sum_below f n h)) t (omega arith) (ℕ_discrete t (n - 1))
 
 module _ {A : Type 0} where
-  total_sum : (n : ℕ) (vs : List (View A)) → ((t : ℕ) → 0 < total (λ v. times t v.done) vs → t < n) → total (λ v. length v.done) vs ≡ sum_to (λ t. total (λ v. times t v.done) vs) n
+  total_sum : (n : ℕ) (vs : List (View A)) → ((t : ℕ) → 0 < sum_over_hands (λ v. ticket_times t v.done) vs → t < n) → sum_over_hands (λ v. length v.done) vs ≡ sum_to (λ t. sum_over_hands (λ v. ticket_times t v.done) vs) n
   total_sum n [] h = sym (sum_zero (λ t. 0) n (λ t. refl))
-  total_sum n (v ∷ vs) h = omega (arith, length_sum n v.done (λ t p. h t (omega arith)), total_sum n vs (λ t p. h t (omega arith)), sum_add (λ t. times t v.done) (λ t. total (λ v. times t v.done) vs) (λ t. times t v.done + total (λ v. times t v.done) vs) n (λ t. refl))
+  total_sum n (v ∷ vs) h = omega (arith, length_sum n v.done (λ t p. h t (omega arith)), total_sum n vs (λ t p. h t (omega arith)), sum_add (λ t. ticket_times t v.done) (λ t. sum_over_hands (λ v. ticket_times t v.done) vs) (λ t. ticket_times t v.done + sum_over_hands (λ v. ticket_times t v.done) vs) n (λ t. refl))
 
-  pub all_given : (jobs : List (CopyJob A)) (ws : List ℕ) (homes : List (Opt.Option (Option (CopyJob A)))) (vs : List (View A)) (next given : ℕ) → Keeps jobs ws homes vs next given → given ≡ length jobs
-      → (t : ℕ) → t < length jobs → 0 < total (λ v. times t v.done) vs
+  pub all_given : (jobs : List (CopyJob A)) (ws : List ℕ) (homes : List (Opt.Option (Option (CopyJob A)))) (vs : List (View A)) (next given : ℕ) → RuleHolds jobs ws homes vs next given → given ≡ length jobs
+      → (t : ℕ) → t < length jobs → 0 < sum_over_hands (λ v. ticket_times t v.done) vs
   all_given jobs ws homes vs next given k e t lt =
-      let within = λ (u : ℕ). total_le (λ v. times u v.done) (λ v. times u v.drawn) vs (λ i v h. (k.hands i v h).within u) in
-      let one : (u : ℕ) → total (λ v. times u v.done) vs ≤ 1 = (λ u. let a = within u in let b = k.once u in omega (arith, once_le u (min next (length jobs)))) in
-      let below : (u : ℕ) → 0 < total (λ v. times u v.done) vs → u < length jobs = (λ u p. let a = within u in let b = k.once u in omega (arith, once_lt u (min next (length jobs)))) in
+      let within = λ (u : ℕ). total_le (λ v. ticket_times u v.done) (λ v. ticket_times u v.drawn) vs (λ i v h. (k.hands i v h).within u) in
+      let one : (u : ℕ) → sum_over_hands (λ v. ticket_times u v.done) vs ≤ 1 = (λ u. let a = within u in let b = k.once u in omega (arith, once_le u (min next (length jobs)))) in
+      let below : (u : ℕ) → 0 < sum_over_hands (λ v. ticket_times u v.done) vs → u < length jobs = (λ u p. let a = within u in let b = k.once u in omega (arith, once_lt u (min next (length jobs)))) in
       let sum = total_sum (length jobs) vs below in
-      let full = sum_full (λ u. total (λ v. times u v.done) vs) (length jobs) one (sym sum ∙ (k.returned ∙ e)) t lt (ℕ_discrete t (length jobs - 1)) in
+      let full = sum_full (λ u. sum_over_hands (λ v. ticket_times u v.done) vs) (length jobs) one (sym sum ∙ (k.returned ∙ e)) t lt (ℕ_discrete t (length jobs - 1)) in
       omega arith
 
   -- at the end each slot has its job's copy
-  pub closed : (jobs : List (CopyJob A)) (id : ℕ) (v : View A) (ws : List ℕ) (xs : List (Option (CopyJob A))) → v.full ≡ true → Final (Seen (IsKept jobs) id v) ws xs
+  pub closed : (jobs : List (CopyJob A)) (id : ℕ) (v : View A) (ws : List ℕ) (xs : List (Option (CopyJob A))) → v.full ≡ true → Final (Seen (IsBoardRule jobs) id v) ws xs
       → (t : ℕ) (j : CopyJob A) → get_elem? jobs t ≡ some j → get_elem? xs t ≡ some (Some (copied j))
   closed jobs id v ws xs full f t j at =
       let held = f.1.0 in

@@ -9,8 +9,8 @@ use Rattle.atomic_table.proofs.Lists.{at_set, set_else, set_again}
 use Rattle.nm_frames.specs.declared.job.CopyJob.{CopyJob}
 use Rattle.nm_frames.specs.Job.{copied}
 use Rattle.nm_board.specs.declared.view.View.{View}
-use Rattle.nm_board.specs.Tickets.{times, once_below}
-use Rattle.nm_board.specs.Rule.{words_of, total, past_shares, IsHand, Keeps, spent_view}
+use Rattle.nm_board.specs.Tickets.{ticket_times, once_below}
+use Rattle.nm_board.specs.Rule.{words_of, sum_over_hands, past_shares, IsHand, RuleHolds, spent_view}
 use Rattle.nm_board.specs.Steps.{both}
 use Rattle.nm_board.proofs.Sums.{total_set, total_has, total_le, total_whole}
 use Rattle.nm_board.proofs.Counts.{times_append, once_le, hit_other, once_next, lt_get, once_lt, not_once, min_stays, past_le, within_more, back_set, or_case}
@@ -46,8 +46,8 @@ module _ {A : Type 0} where
 
   -- the rule after the draw of the next ticket
   pub keeps_draw : (jobs : List (CopyJob A)) (ws : List ℕ) (homes : List (Opt.Option (Option (CopyJob A)))) (vs : List (View A)) (next given id : ℕ) (v : View A)
-      → Keeps jobs ws homes vs next given → get_elem? vs id ≡ some v → 0 < v.shares → v.past_end ≡ false → next < length jobs
-      → Keeps jobs (words_of (next + 1) given) (set homes next Opt.none) (set vs id (record v { drawn = v.drawn ++ next ∷ [] })) (next + 1) given
+      → RuleHolds jobs ws homes vs next given → get_elem? vs id ≡ some v → 0 < v.shares → v.past_end ≡ false → next < length jobs
+      → RuleHolds jobs (words_of (next + 1) given) (set homes next Opt.none) (set vs id (record v { drawn = v.drawn ++ next ∷ [] })) (next + 1) given
   keeps_draw jobs ws homes vs next given id v k at some_share is_open lt =
       let w : View A = record v { drawn = v.drawn ++ next ∷ [] } in
       let put = λ (f : View A → ℕ). total_set f vs id v w at in record {
@@ -55,16 +55,16 @@ module _ {A : Type 0} where
         few = k.few;
         slots = length-set homes next Opt.none ∙ k.slots;
         shares = (let a = put (λ v. v.shares) in let b = k.shares in omega arith);
-        once = (λ t. let a = put (λ v. times t v.drawn) in let b = k.once t in omega (arith, times_append t v.drawn (next ∷ []), once_next t next (length jobs) lt));
+        once = (λ t. let a = put (λ v. ticket_times t v.drawn) in let b = k.once t in omega (arith, times_append t v.drawn (next ∷ []), once_next t next (length jobs) lt));
         drawn = (let a = put (λ v. length v.drawn) in let b = k.drawn in omega (arith, length-append v.drawn (next ∷ [])));
         returned = (let a = put (λ v. length v.done) in let b = k.returned in omega arith);
         ahead = (let a = put past_shares in let b = k.ahead in omega arith);
         hands = hands_set jobs next given (next + 1) given vs id w k.hands (λ u h. later_hand jobs next given u h) (drawn_hand jobs next given v (k.hands id v at) lt some_share is_open);
         laid = (λ t j le e. set_else homes next t Opt.none (λ q. omega arith) ∙ k.laid t j (omega arith) e);
         back = (λ t j some_done e.
-            let a = put (λ v. times t v.done) in
-            let d : 0 < total (λ v. times t v.done) vs = omega arith in
-            let below = total_le (λ v. times t v.done) (λ v. times t v.drawn) vs (λ i u h. (k.hands i u h).within t) in
+            let a = put (λ v. ticket_times t v.done) in
+            let d : 0 < sum_over_hands (λ v. ticket_times t v.done) vs = omega arith in
+            let below = total_le (λ v. ticket_times t v.done) (λ v. ticket_times t v.drawn) vs (λ i u h. (k.hands i u h).within t) in
             let o = k.once t in
             let ne : t ≢ next = λ q. not_once t next (length jobs) (omega arith) q lt in
             set_else homes next t Opt.none ne ∙ k.back t j d e);
@@ -82,8 +82,8 @@ module _ {A : Type 0} where
 
   -- the rule after a draw that finds no ticket
   pub keeps_past : (jobs : List (CopyJob A)) (ws : List ℕ) (homes : List (Opt.Option (Option (CopyJob A)))) (vs : List (View A)) (next given id : ℕ) (v : View A)
-      → Keeps jobs ws homes vs next given → get_elem? vs id ≡ some v → 0 < v.shares → v.past_end ≡ false → length jobs ≤ next
-      → Keeps jobs (words_of (next + 1) given) homes (set vs id (record v { past_end = true })) (next + 1) given
+      → RuleHolds jobs ws homes vs next given → get_elem? vs id ≡ some v → 0 < v.shares → v.past_end ≡ false → length jobs ≤ next
+      → RuleHolds jobs (words_of (next + 1) given) homes (set vs id (record v { past_end = true })) (next + 1) given
   keeps_past jobs ws homes vs next given id v k at some_share is_open le =
       let w : View A = record v { past_end = true } in
       let put = λ (f : View A → ℕ). total_set f vs id v w at in record {
@@ -91,17 +91,17 @@ module _ {A : Type 0} where
         few = k.few;
         slots = k.slots;
         shares = (let a = put (λ v. v.shares) in let b = k.shares in omega arith);
-        once = (λ t. let a = put (λ v. times t v.drawn) in let b = k.once t in omega (arith, ap (once_below t) (min_stays next (length jobs) le)));
+        once = (λ t. let a = put (λ v. ticket_times t v.drawn) in let b = k.once t in omega (arith, ap (once_below t) (min_stays next (length jobs) le)));
         drawn = (let a = put (λ v. length v.drawn) in let b = k.drawn in omega arith);
         returned = (let a = put (λ v. length v.done) in let b = k.returned in omega arith);
         ahead = (let a = put past_shares in let b = k.ahead in let z : past_shares v ≡ 0 = ap (λ (b : Bool). if b then v.shares else 0) is_open in omega arith);
         hands = hands_set jobs next given (next + 1) given vs id w k.hands (λ u h. later_hand jobs next given u h) (past_hand jobs next given v (k.hands id v at) le);
         laid = (λ t j l e. k.laid t j (omega arith) e);
-        back = (λ t j some_done e. let a = put (λ v. times t v.done) in k.back t j (omega arith) e);
+        back = (λ t j some_done e. let a = put (λ v. ticket_times t v.done) in k.back t j (omega arith) e);
       }
 
   -- the next ticket leaves room for one more
-  pub next_small : (jobs : List (CopyJob A)) (ws : List ℕ) (homes : List (Opt.Option (Option (CopyJob A)))) (vs : List (View A)) (next given : ℕ) → Keeps jobs ws homes vs next given → next < 2 ^ 63 + 64
+  pub next_small : (jobs : List (CopyJob A)) (ws : List ℕ) (homes : List (Opt.Option (Option (CopyJob A)))) (vs : List (View A)) (next given : ℕ) → RuleHolds jobs ws homes vs next given → next < 2 ^ 63 + 64
   next_small jobs ws homes vs next given k =
       let a = k.ahead in let b = k.few in let c = k.shares in
       omega (arith, total_le past_shares (λ v. v.shares) vs (λ i v h. past_le v.past_end v.shares))
@@ -110,7 +110,7 @@ module _ {A : Type 0} where
       → (i : ℕ) (u : View A) → get_elem? (set vs id w) i ≡ some u → length u.done ≤ length u.drawn
   fewer_set jobs next given vs id w all mine i u e = ⊎_elim (λ h. subst (λ (x : View A). length x.done ≤ length x.drawn) h.1 mine) (λ h. all i u h.1) (at_set vs id i w u e)
 
-  given_hand : (jobs : List (CopyJob A)) (next given t : ℕ) (v : View A) → IsHand jobs next given v → given + 1 ≤ length jobs → times t v.done < times t v.drawn → length v.done < length v.drawn
+  given_hand : (jobs : List (CopyJob A)) (next given t : ℕ) (v : View A) → IsHand jobs next given v → given + 1 ≤ length jobs → ticket_times t v.done < ticket_times t v.drawn → length v.done < length v.drawn
       → IsHand jobs next (given + 1) (record v { done = v.done ++ t ∷ [] })
   given_hand jobs next given t v h some_out mine more = record {
     jobs_are = h.jobs_are;
@@ -133,17 +133,17 @@ module _ {A : Type 0} where
 
   -- the rule after a ticket was given back
   pub keeps_give : (jobs : List (CopyJob A)) (ws : List ℕ) (homes : List (Opt.Option (Option (CopyJob A)))) (vs : List (View A)) (next given id t : ℕ) (v : View A) (j : CopyJob A)
-      → Keeps jobs ws homes vs next given → get_elem? vs id ≡ some v → get_elem? jobs t ≡ some j → times t v.done < times t v.drawn → length v.done < length v.drawn
-      → (given + 1 ≤ length jobs) × Keeps jobs (words_of next (given + 1)) (set homes t (some (Some (copied j)))) (set vs id (record v { done = v.done ++ t ∷ [] })) next (given + 1)
+      → RuleHolds jobs ws homes vs next given → get_elem? vs id ≡ some v → get_elem? jobs t ≡ some j → ticket_times t v.done < ticket_times t v.drawn → length v.done < length v.drawn
+      → (given + 1 ≤ length jobs) × RuleHolds jobs (words_of next (given + 1)) (set homes t (some (Some (copied j)))) (set vs id (record v { done = v.done ++ t ∷ [] })) next (given + 1)
   keeps_give jobs ws homes vs next given id t v j k at job mine more =
       let w : View A = record v { done = v.done ++ t ∷ [] } in
       let put = λ (f : View A → ℕ). total_set f vs id v w at in
       let counts = put (λ v. length v.done) in
       let drawns = put (λ v. length v.drawn) in
-      let fewer : total (λ v. length v.done) (set vs id w) ≤ total (λ v. length v.drawn) (set vs id w)
+      let fewer : sum_over_hands (λ v. length v.done) (set vs id w) ≤ sum_over_hands (λ v. length v.drawn) (set vs id w)
       = total_le (λ v. length v.done) (λ v. length v.drawn) (set vs id w) (λ i u h. fewer_set jobs next given vs id w (λ i u h. (k.hands i u h).fewer) (omega (arith, length-append v.done (t ∷ []))) i u h) in
       let some_out : given + 1 ≤ length jobs = (let a = k.returned in let b = k.drawn in omega (arith, length-append v.done (t ∷ []))) in
-      let below : t < next = (let o = k.once t in omega (arith, total_has (λ v. times t v.drawn) vs id v at, once_lt t (min next (length jobs)))) in
+      let below : t < next = (let o = k.once t in omega (arith, total_has (λ v. ticket_times t v.drawn) vs id v at, once_lt t (min next (length jobs)))) in
       let there : t < length homes = (let s = k.slots in omega (arith, lt_get jobs t j job)) in (
         some_out,
         record {
@@ -151,7 +151,7 @@ module _ {A : Type 0} where
           few = k.few;
           slots = length-set homes t (some (Some (copied j))) ∙ k.slots;
           shares = (let a = put (λ v. v.shares) in let b = k.shares in omega arith);
-          once = (λ u. let a = put (λ v. times u v.drawn) in let b = k.once u in omega arith);
+          once = (λ u. let a = put (λ v. ticket_times u v.drawn) in let b = k.once u in omega arith);
           drawn = (let b = k.drawn in omega arith);
           returned = (let b = k.returned in omega (arith, length-append v.done (t ∷ [])));
           ahead = (let a = put past_shares in let b = k.ahead in omega arith);
@@ -159,7 +159,7 @@ module _ {A : Type 0} where
           laid = (λ u i le e. set_else homes t u (some (Some (copied j))) (λ q. omega arith) ∙ k.laid u i le e);
           back = (λ u i some_done e. back_set homes t u (some (Some (copied j))) (some (Some (copied i))) there
               (λ q. ap (λ (x : CopyJob A). some (Some (copied x))) (some-injective j i (sym job ∙ ap (get_elem? jobs) (sym q) ∙ e)))
-              (λ ne. let a = put (λ v. times u v.done) in k.back u i (omega (arith, times_append u v.done (t ∷ []), hit_other u t ne)) e)
+              (λ ne. let a = put (λ v. ticket_times u v.done) in k.back u i (omega (arith, times_append u v.done (t ∷ []), hit_other u t ne)) e)
               (ℕ_discrete u t));
         },
       )
@@ -176,8 +176,8 @@ module _ {A : Type 0} where
   }
 
   pub keeps_full : (jobs : List (CopyJob A)) (ws : List ℕ) (homes : List (Opt.Option (Option (CopyJob A)))) (vs : List (View A)) (next given id : ℕ) (v : View A)
-      → Keeps jobs ws homes vs next given → get_elem? vs id ≡ some v → given ≡ length jobs
-      → Keeps jobs (words_of next given) homes (set vs id (record v { full = true })) next given
+      → RuleHolds jobs ws homes vs next given → get_elem? vs id ≡ some v → given ≡ length jobs
+      → RuleHolds jobs (words_of next given) homes (set vs id (record v { full = true })) next given
   keeps_full jobs ws homes vs next given id v k at e =
       let w : View A = record v { full = true } in
       let put = λ (f : View A → ℕ). total_set f vs id v w at in record {
@@ -185,40 +185,40 @@ module _ {A : Type 0} where
         few = k.few;
         slots = k.slots;
         shares = (let a = put (λ v. v.shares) in let b = k.shares in omega arith);
-        once = (λ u. let a = put (λ v. times u v.drawn) in let b = k.once u in omega arith);
+        once = (λ u. let a = put (λ v. ticket_times u v.drawn) in let b = k.once u in omega arith);
         drawn = (let a = put (λ v. length v.drawn) in let b = k.drawn in omega arith);
         returned = (let a = put (λ v. length v.done) in let b = k.returned in omega arith);
         ahead = (let a = put past_shares in let b = k.ahead in omega arith);
         hands = hands_set jobs next given next given vs id w k.hands (λ u h. h) (full_hand jobs next given v (k.hands id v at) e);
         laid = k.laid;
-        back = (λ t j some_done e. let a = put (λ v. times t v.done) in k.back t j (omega arith) e);
+        back = (λ t j some_done e. let a = put (λ v. ticket_times t v.done) in k.back t j (omega arith) e);
       }
 
   pub keeps_same : (jobs : List (CopyJob A)) (ws : List ℕ) (homes : List (Opt.Option (Option (CopyJob A)))) (vs : List (View A)) (next given id : ℕ) (v : View A)
-      → Keeps jobs ws homes vs next given → get_elem? vs id ≡ some v → Keeps jobs (words_of next given) homes (set vs id v) next given
-  keeps_same jobs ws homes vs next given id v k at = subst (λ c. Keeps jobs c homes (set vs id v) next given) k.words_are (subst (λ c. Keeps jobs ws homes c next given) (sym (set_again vs id v at)) k)
+      → RuleHolds jobs ws homes vs next given → get_elem? vs id ≡ some v → RuleHolds jobs (words_of next given) homes (set vs id v) next given
+  keeps_same jobs ws homes vs next given id v k at = subst (λ c. RuleHolds jobs c homes (set vs id v) next given) k.words_are (subst (λ c. RuleHolds jobs ws homes c next given) (sym (set_again vs id v at)) k)
 
   h_jobs : (jobs : List (CopyJob A)) (ws : List ℕ) (homes : List (Opt.Option (Option (CopyJob A)))) (vs : List (View A)) (next given id : ℕ) (v : View A)
-      → Keeps jobs ws homes vs next given → get_elem? vs id ≡ some v → v.shares ≡ 64 → v.jobs ≡ jobs
+      → RuleHolds jobs ws homes vs next given → get_elem? vs id ≡ some v → v.shares ≡ 64 → v.jobs ≡ jobs
   h_jobs jobs ws homes vs next given id v k at all = (k.hands id v at).jobs_are (omega arith)
 
   pub each : (jobs : List (CopyJob A)) (ws : List ℕ) (homes : List (Opt.Option (Option (CopyJob A)))) (vs : List (View A)) (next given id : ℕ) (v : View A)
-      → Keeps jobs ws homes vs next given → get_elem? vs id ≡ some v → v.shares ≡ 64 → v.past_end ≡ true → (t : ℕ) → times t v.drawn ≡ once_below t (length v.jobs)
+      → RuleHolds jobs ws homes vs next given → get_elem? vs id ≡ some v → v.shares ≡ 64 → v.past_end ≡ true → (t : ℕ) → ticket_times t v.drawn ≡ once_below t (length v.jobs)
   each jobs ws homes vs next given id v k at all past t =
       let h = k.hands id v at in
       let js = h_jobs jobs ws homes vs next given id v k at all in
-      let b = total_whole (λ v. v.shares) (λ v. times t v.drawn) vs id v at (k.shares ∙ sym all) (λ i u e z. ap (times t) ((k.hands i u e).spent z).0) in
+      let b = total_whole (λ v. v.shares) (λ v. ticket_times t v.drawn) vs id v at (k.shares ∙ sym all) (λ i u e z. ap (ticket_times t) ((k.hands i u e).spent z).0) in
       let p = h.none_left past in
       let n : min next (length jobs) ≡ length v.jobs = omega (arith, ap length js) in
       sym b ∙ (k.once t ∙ ap (once_below t) n)
 
   -- no hand drew a ticket twice
   pub twice : (jobs : List (CopyJob A)) (ws : List ℕ) (homes : List (Opt.Option (Option (CopyJob A)))) (vs : List (View A)) (next given id : ℕ) (v : View A)
-      → Keeps jobs ws homes vs next given → get_elem? vs id ≡ some v → (t : ℕ) → times t v.drawn ≤ 1
-  twice jobs ws homes vs next given id v k at t = omega (arith, total_has (λ v. times t v.drawn) vs id v at, k.once t, once_le t (min next (length jobs)))
+      → RuleHolds jobs ws homes vs next given → get_elem? vs id ≡ some v → (t : ℕ) → ticket_times t v.drawn ≤ 1
+  twice jobs ws homes vs next given id v k at t = omega (arith, total_has (λ v. ticket_times t v.drawn) vs id v at, k.once t, once_le t (min next (length jobs)))
 
   pub whole : (jobs : List (CopyJob A)) (ws : List ℕ) (homes : List (Opt.Option (Option (CopyJob A)))) (vs : List (View A)) (next given id : ℕ) (v : View A)
-      → Keeps jobs ws homes vs next given → get_elem? vs id ≡ some v → v.shares ≡ 64 → v.past_end ≡ true → length v.done ≡ length v.drawn → given ≡ length v.jobs
+      → RuleHolds jobs ws homes vs next given → get_elem? vs id ≡ some v → v.shares ≡ 64 → v.past_end ≡ true → length v.done ≡ length v.drawn → given ≡ length v.jobs
   whole jobs ws homes vs next given id v k at all past same =
       let js = h_jobs jobs ws homes vs next given id v k at all in
       let h = k.hands id v at in

@@ -7,9 +7,9 @@ use Rattle.atomic_table.specs.Table.{Step}
 use Rattle.nm_frames.specs.declared.job.CopyJob.{CopyJob}
 use Rattle.nm_model.specs.definitions.Events.{is_laid, draw_job, give_job, copy_job}
 use Rattle.nm_model.specs.definitions.RunMachine.{Job, Stage, Laid, InHand, Given}
-use Rattle.nm_board.specs.Rule.{IsKept}
+use Rattle.nm_board.specs.Rule.{IsBoardRule}
 use Rattle.nm_board.specs.Steps.{Mine, Draws}
-use Rattle.nm_board.specs.Stages.{Moment, next_of, IsAt, Turns, Stays, Moves, Shows, DrawIsTheMachines, GiveIsTheMachines}
+use Rattle.nm_board.specs.Stages.{Moment, next_of, IsAt, Turns, Stays, MakesStep, Shows, DrawIsTheMachines, GiveIsTheMachines}
 use Rattle.nm_board.proofs.Staged.{one_stage, draw_takes, late_takes, give_returns}
 
 laid_is : (stage : Stage) → is_laid stage ≡ true → stage ≡ Laid
@@ -54,7 +54,7 @@ module _ {A : Type 0} where
   all_stay : (old new : Moment A) (js : List Job) (k n : ℕ) → ((u : ℕ) (stage : Stage) → u ≢ n → IsAt old u stage → IsAt new u stage) → n < k → From old k js → From new k js
   all_stay old new js k n others below h t job e = others (k + t) job.stage (λ q. omega (arith, q, below)) (h t job e)
 
-  module _ (jobs : List (CopyJob A)) (hand : ℕ) (old new : Moment A) (kept : IsKept jobs old) (lt : next_of old < length jobs) (turns : Turns old new (next_of old) Laid (InHand hand)) where
+  module _ (jobs : List (CopyJob A)) (hand : ℕ) (old new : Moment A) (kept : IsBoardRule jobs old) (lt : next_of old < length jobs) (turns : Turns old new (next_of old) Laid (InHand hand)) where
     first_is_laid : (stage : Stage) → IsAt old (next_of old) stage → stage ≡ Laid
     first_is_laid stage at = let one = one_stage jobs old kept (next_of old) lt in one.2 stage at ∙ sym (one.2 Laid turns.was)
 
@@ -102,7 +102,7 @@ module _ {A : Type 0} where
   shows_from jobs s js many h = record { as_many = many; stages = λ t job e. subst (λ n. IsAt s n job.stage) (omega arith) (h t job e) }
 
   drawn_from : (jobs : List (CopyJob A)) (hand : ℕ) (old new : Moment A) (me now : Mine A) (s : Step (Option (CopyJob A))) (shown : List Job)
-      → Moves jobs hand 0 (next_of old + 1) old new me now → Draws s me (next_of old) now → Shows jobs old shown → Dec (next_of old < length jobs) → From new 0 (draw_job hand shown)
+      → MakesStep jobs hand 0 (next_of old + 1) old new me now → Draws s me (next_of old) now → Shows jobs old shown → Dec (next_of old < length jobs) → From new 0 (draw_job hand shown)
   drawn_from jobs hand old new me now s shown m told h (yes lt) =
       draw_from jobs hand old new m.kept lt (draw_takes jobs hand old new me now s m told lt).0 shown 0 (omega arith) (from_start jobs old shown h)
   drawn_from jobs hand old new me now s shown m told h (no ge) =

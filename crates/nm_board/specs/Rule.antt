@@ -7,12 +7,12 @@ use Rattle.atomic_table.specs.Table.{State}
 use Rattle.nm_frames.specs.declared.job.CopyJob.{CopyJob}
 use Rattle.nm_frames.specs.Job.{copied}
 use Rattle.nm_board.specs.declared.view.View.{View}
-use Rattle.nm_board.specs.Tickets.{times, once_below}
+use Rattle.nm_board.specs.Tickets.{ticket_times, once_below}
 
 -- the sum over all hands
-abbrev pub total : {A : Type 0} → (View A → ℕ) → List (View A) → ℕ
-total f [] = 0
-total f (v ∷ vs) = f v + total f vs
+abbrev pub sum_over_hands : {A : Type 0} → (View A → ℕ) → List (View A) → ℕ
+sum_over_hands f [] = 0
+sum_over_hands f (v ∷ vs) = f v + sum_over_hands f vs
 
 -- the shares of a hand that is past the end, 0 for any other
 abbrev pub past_shares : {A : Type 0} → View A → ℕ
@@ -22,7 +22,7 @@ past_shares v = if v.past_end then v.shares else 0
 pub record IsHand {A : Type 0} (jobs : List (CopyJob A)) (next given : ℕ) (v : View A) : Type 0 where
   pub jobs_are : 0 < v.shares → v.jobs ≡ jobs
   -- it drew every ticket that it gave back
-  pub within : (t : ℕ) → times t v.done ≤ times t v.drawn
+  pub within : (t : ℕ) → ticket_times t v.done ≤ ticket_times t v.drawn
   pub fewer : length v.done ≤ length v.drawn
   -- it is past the end only if no ticket is left
   pub none_left : v.past_end ≡ true → length jobs ≤ next
@@ -35,28 +35,28 @@ abbrev pub words_of : ℕ → ℕ → List ℕ
 words_of next given = next ∷ 0 ∷ 0 ∷ 0 ∷ 0 ∷ 0 ∷ 0 ∷ 0 ∷ given ∷ []
 
 -- what holds of the words `next` and `given`, the slots at home and the hands
-pub record Keeps {A : Type 0} (jobs : List (CopyJob A)) (words : List ℕ) (homes : List (Opt.Option (Option (CopyJob A))))
+pub record RuleHolds {A : Type 0} (jobs : List (CopyJob A)) (words : List ℕ) (homes : List (Opt.Option (Option (CopyJob A))))
     (views : List (View A)) (next given : ℕ) : Type 0 where
   pub words_are : words ≡ words_of next given
   pub few : length jobs < 2 ^ 63
   pub slots : length homes ≡ length jobs
-  pub shares : total (λ v. v.shares) views ≡ 64
+  pub shares : sum_over_hands (λ v. v.shares) views ≡ 64
   -- each ticket below `next` that has a job was drawn by exactly one hand, once, and no other was drawn
-  pub once : (t : ℕ) → total (λ v. times t v.drawn) views ≡ once_below t (min next (length jobs))
-  pub drawn : total (λ v. length v.drawn) views ≡ min next (length jobs)
+  pub once : (t : ℕ) → sum_over_hands (λ v. ticket_times t v.drawn) views ≡ once_below t (min next (length jobs))
+  pub drawn : sum_over_hands (λ v. length v.drawn) views ≡ min next (length jobs)
   -- `given` counts the tickets that were given back
-  pub returned : total (λ v. length v.done) views ≡ given
+  pub returned : sum_over_hands (λ v. length v.done) views ≡ given
   -- each share past the end drew in vain at most once
-  pub ahead : next ≤ length jobs + total past_shares views
+  pub ahead : next ≤ length jobs + sum_over_hands past_shares views
   pub hands : (id : ℕ) (v : View A) → get_elem? views id ≡ some v → IsHand jobs next given v
   -- a job is as it was laid until it is drawn, and is its copy once it was given back
   pub laid : (t : ℕ) (job : CopyJob A) → next ≤ t → get_elem? jobs t ≡ some job → get_elem? homes t ≡ some (some (Some job))
-  pub back : (t : ℕ) (job : CopyJob A) → 0 < total (λ v. times t v.done) views → get_elem? jobs t ≡ some job
+  pub back : (t : ℕ) (job : CopyJob A) → 0 < sum_over_hands (λ v. ticket_times t v.done) views → get_elem? jobs t ≡ some job
       → get_elem? homes t ≡ some (some (Some (copied job)))
 
 -- the board's rule
-abbrev pub IsKept : {A : Type 0} → List (CopyJob A) → State (Option (CopyJob A)) (View A) → Type 0
-IsKept jobs state = (next : ℕ) × (given : ℕ) × Keeps jobs state.words state.homes state.views next given
+abbrev pub IsBoardRule : {A : Type 0} → List (CopyJob A) → State (Option (CopyJob A)) (View A) → Type 0
+IsBoardRule jobs state = (next : ℕ) × (given : ℕ) × RuleHolds jobs state.words state.homes state.views next given
 
 -- the first hand, with all shares
 abbrev pub first_view : {A : Type 0} → List (CopyJob A) → View A

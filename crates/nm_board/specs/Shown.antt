@@ -2,7 +2,7 @@
 use Rattle.std.specs.Prelude.{◌≡◌, ◌≢◌, ℕ, ◌+◌, ◌-◌, ◌^◌, ◌<◌, ◌≤◌, Bool, false, ◌||◌, List, [], ◌∷◌, ◌++◌, drop, length, slice_get, Some}
 use Rattle.atomic_table.specs.Seated.{TableId}
 use Rattle.nm_frames.specs.declared.job.CopyJob.{CopyJob}
-use Rattle.nm_board.specs.Tickets.{InTicketOrder, times, once_below}
+use Rattle.nm_board.specs.Tickets.{InTicketOrder, ticket_times, once_below}
 use Rattle.nm_board.specs.Steps.{Mine, tickets, DrewEach}
 
 -- a board: its identity, and the jobs that were laid, in the order of their tickets
@@ -22,8 +22,8 @@ pub record Holding (A : Type 0) : Type 0 where
 
 module _ {A : Type 0} where
   -- what contracts see of a hand's fields: its table, what its seat knows, its shares, and whether it is past the end
-  abbrev pub shown : TableId → Mine A → ℕ → Bool → Holding A
-  shown id me shares past = record {
+  abbrev pub holding_of : TableId → Mine A → ℕ → Bool → Holding A
+  holding_of id me shares past = record {
     board = record { id = id; jobs = me.0.jobs };
     shares = shares;
     past_end = past;
@@ -37,16 +37,16 @@ module _ {A : Type 0} where
   all_shares board = record { board = board; shares = 64; past_end = false; drawn = []; done = []; out = [] }
 
   -- a hand after these shares were split off
-  abbrev pub without : Holding A → ℕ → Holding A
-  without hand n = record hand { shares = hand.shares - n }
+  abbrev pub drop_ticket : Holding A → ℕ → Holding A
+  drop_ticket hand n = record hand { shares = hand.shares - n }
 
   -- the new hand that gets these shares of another
   abbrev pub split_off : Holding A → ℕ → Holding A
   split_off hand n = record hand { shares = n; drawn = []; done = []; out = [] }
 
   -- a hand that another was joined into
-  abbrev pub joined : Holding A → Holding A → Holding A
-  joined hand other = record hand {
+  abbrev pub both_holdings : Holding A → Holding A → Holding A
+  both_holdings hand other = record hand {
     shares = hand.shares + other.shares;
     past_end = hand.past_end || other.past_end;
     drawn = hand.drawn ++ other.drawn;
@@ -63,27 +63,27 @@ module _ {A : Type 0} where
 
   -- the hand drew each ticket once, and nothing else
   abbrev pub HasEach : Holding A → Type 0
-  HasEach hand = (t : ℕ) → times t hand.drawn ≡ once_below t (length hand.board.jobs)
+  HasEach hand = (t : ℕ) → ticket_times t hand.drawn ≡ once_below t (length hand.board.jobs)
 
   -- each ticket that the hand drew was given back by it or is out with it
   abbrev pub OutIsTheRest : Holding A → Type 0
-  OutIsTheRest hand = (t : ℕ) → times t hand.drawn ≡ times t hand.done + times t hand.out
+  OutIsTheRest hand = (t : ℕ) → ticket_times t hand.drawn ≡ ticket_times t hand.done + ticket_times t hand.out
 
   -- the hand drew no ticket twice
   abbrev pub HasNoneTwice : Holding A → Type 0
-  HasNoneTwice hand = (t : ℕ) → times t hand.drawn ≤ 1
+  HasNoneTwice hand = (t : ℕ) → ticket_times t hand.drawn ≤ 1
 
 -- the hand drew this job: it was laid, and its ticket is above all that the hand drew before
 pub record Drew {A : Type 0} (old new : Holding A) (job : CopyJob A) : Type 0 where
   pub laid : slice_get old.board.jobs job.ticket ≡ Some job
-  pub above : (t : ℕ) → 0 < times t old.drawn → t < job.ticket
+  pub above : (t : ℕ) → 0 < ticket_times t old.drawn → t < job.ticket
   pub now : new ≡ with_ticket old job.ticket
 
 -- some ticket that the hand drew is still out with it
 pub record IsShort {A : Type 0} (hand : Holding A) : Type 0 where
   pub ticket : ℕ
-  pub drawn : 0 < times ticket hand.drawn
-  pub kept : times ticket hand.done ≡ 0
+  pub drawn : 0 < ticket_times ticket hand.drawn
+  pub kept : ticket_times ticket hand.done ≡ 0
   pub out : hand.out ≢ []
 
 -- a board's fields: the numbers of its words and slots, its jobs, and the list with room to return them in
@@ -101,7 +101,7 @@ pub record Fits {A : Type 0} (me : Mine A) (shares : ℕ) (past : Bool) : Type 0
   pub past_is : me.0.past_end ≡ past
   pub some_share : 0 < shares
   pub at_most : shares ≤ 64
-  pub out : (t : ℕ) → times t me.0.drawn ≡ times t me.0.done + times t (tickets me.1)
+  pub out : (t : ℕ) → ticket_times t me.0.drawn ≡ ticket_times t me.0.done + ticket_times t (tickets me.1)
   pub out_count : length me.0.drawn ≡ length me.0.done + length me.1
-  pub once : (t : ℕ) → times t me.0.drawn ≤ 1
+  pub once : (t : ℕ) → ticket_times t me.0.drawn ≤ 1
   pub each : DrewEach me.0

@@ -7,9 +7,9 @@ use Rattle.nm_model.specs.definitions.Events.{draw_job, give_job}
 use Rattle.nm_model.specs.definitions.RunMachine.{Job, Stage, Laid, InHand, Given}
 use Rattle.nm_frames.specs.declared.job.CopyJob.{CopyJob}
 use Rattle.nm_board.specs.declared.view.View.{View}
-use Rattle.nm_board.specs.Tickets.{times}
-use Rattle.nm_board.specs.Rule.{total, IsKept, spent_view}
-use Rattle.nm_board.specs.Steps.{Mine, Draws, Gives, less, part, both}
+use Rattle.nm_board.specs.Tickets.{ticket_times}
+use Rattle.nm_board.specs.Rule.{sum_over_hands, IsBoardRule, spent_view}
+use Rattle.nm_board.specs.Steps.{Mine, Draws, GivesBack, less, part, both}
 use Rattle.nm_board.specs.Shown.{Fits}
 
 -- a board at one moment: its words, its slots and what its hands know
@@ -27,12 +27,12 @@ given_of s = slice_index s.words 8
 -- has not given it back; it was given back if some hand did so
 abbrev pub IsAt : {A : Type 0} → Moment A → ℕ → Stage → Type 0
 IsAt s t Laid = next_of s ≤ t
-IsAt {A} s t (InHand hand) = (v : View A) × (get_elem? s.views hand ≡ some v) × (0 < times t v.drawn) × (times t v.done ≡ 0)
-IsAt s t Given = 0 < total (λ v. times t v.done) s.views
+IsAt {A} s t (InHand hand) = (v : View A) × (get_elem? s.views hand ≡ some v) × (0 < ticket_times t v.drawn) × (ticket_times t v.done ≡ 0)
+IsAt s t Given = 0 < sum_over_hands (λ v. ticket_times t v.done) s.views
 
 -- at each moment each job is at exactly one stage
 abbrev pub EachIsAtOneStage : Type 0 → Type 0
-EachIsAtOneStage A = (jobs : List (CopyJob A)) (s : Moment A) → IsKept jobs s → (t : ℕ) → t < length jobs
+EachIsAtOneStage A = (jobs : List (CopyJob A)) (s : Moment A) → IsBoardRule jobs s → (t : ℕ) → t < length jobs
     → (stage : Stage) × IsAt s t stage × ((other : Stage) → IsAt s t other → other ≡ stage)
 
 -- the job of ticket t goes from one stage to another, and every other job stays at its stage
@@ -46,8 +46,8 @@ abbrev pub Stays : {A : Type 0} → List (CopyJob A) → Moment A → Moment A �
 Stays jobs old new = (t : ℕ) (stage : Stage) → t < length jobs → IsAt old t stage → IsAt new t stage
 
 -- a hand makes a step: one word gets this number, the hand knows what it knows after the step, and nothing else changes
-pub record Moves {A : Type 0} (jobs : List (CopyJob A)) (hand word number : ℕ) (old new : Moment A) (me now : Mine A) : Type 0 where
-  pub kept : IsKept jobs old
+pub record MakesStep {A : Type 0} (jobs : List (CopyJob A)) (hand word number : ℕ) (old new : Moment A) (me now : Mine A) : Type 0 where
+  pub kept : IsBoardRule jobs old
   pub shares : ℕ
   pub past : Bool
   pub fits : Fits me shares past
@@ -58,20 +58,20 @@ pub record Moves {A : Type 0} (jobs : List (CopyJob A)) (hand word number : ℕ)
 -- a draw moves the first job that lies on the board into the hand
 abbrev pub DrawTakesTheFirst : Type 0 → Type 0
 DrawTakesTheFirst A = (jobs : List (CopyJob A)) (hand : ℕ) (old new : Moment A) (me now : Mine A) (s : Step (Option (CopyJob A)))
-    → Moves jobs hand 0 (next_of old + 1) old new me now → Draws s me (next_of old) now → next_of old < length jobs
+    → MakesStep jobs hand 0 (next_of old + 1) old new me now → Draws s me (next_of old) now → next_of old < length jobs
     → Turns old new (next_of old) Laid (InHand hand) × ((t : ℕ) → IsAt old t Laid → next_of old ≤ t)
 
 -- if no job is left, a draw moves none
 abbrev pub LateDrawTakesNone : Type 0 → Type 0
 LateDrawTakesNone A = (jobs : List (CopyJob A)) (hand : ℕ) (old new : Moment A) (me now : Mine A) (s : Step (Option (CopyJob A)))
-    → Moves jobs hand 0 (next_of old + 1) old new me now → Draws s me (next_of old) now → length jobs ≤ next_of old
+    → MakesStep jobs hand 0 (next_of old + 1) old new me now → Draws s me (next_of old) now → length jobs ≤ next_of old
     → Stays jobs old new
 
 -- a hand gives back the job that it drew last
 abbrev pub GiveReturnsTheLast : Type 0 → Type 0
 GiveReturnsTheLast A = (jobs : List (CopyJob A)) (hand t : ℕ) (job : Option (CopyJob A)) (old new : Moment A) (me now : Mine A)
     → (s : Step (Option (CopyJob A)))
-    → Moves jobs hand 8 (given_of old + 1) old new me now → Gives s me (given_of old) now → me.1 ≡ (t, job) ∷ rest me.1
+    → MakesStep jobs hand 8 (given_of old + 1) old new me now → GivesBack s me (given_of old) now → me.1 ≡ (t, job) ∷ rest me.1
     → Turns old new t (InHand hand) Given
 
 -- a board shows jobs of the run machine: as many as it has, each at the stage that it is at
@@ -82,14 +82,14 @@ pub record Shows {A : Type 0} (jobs : List (CopyJob A)) (s : Moment A) (shown : 
 -- a draw, even one that comes when no job is left, is the run machine's
 abbrev pub DrawIsTheMachines : Type 0 → Type 0
 DrawIsTheMachines A = (jobs : List (CopyJob A)) (hand : ℕ) (old new : Moment A) (me now : Mine A) (s : Step (Option (CopyJob A)))
-    → (shown : List Job) → Moves jobs hand 0 (next_of old + 1) old new me now → Draws s me (next_of old) now
+    → (shown : List Job) → MakesStep jobs hand 0 (next_of old + 1) old new me now → Draws s me (next_of old) now
     → Shows jobs old shown → Shows jobs new (draw_job hand shown)
 
 -- giving a job back is the run machine's
 abbrev pub GiveIsTheMachines : Type 0 → Type 0
 GiveIsTheMachines A = (jobs : List (CopyJob A)) (hand t : ℕ) (job : Option (CopyJob A)) (old new : Moment A) (me now : Mine A)
     → (s : Step (Option (CopyJob A))) (shown : List Job)
-    → Moves jobs hand 8 (given_of old + 1) old new me now → Gives s me (given_of old) now → me.1 ≡ (t, job) ∷ rest me.1
+    → MakesStep jobs hand 8 (given_of old + 1) old new me now → GivesBack s me (given_of old) now → me.1 ≡ (t, job) ∷ rest me.1
     → Shows jobs old shown → Shows jobs new (give_job t shown)
 
 -- a split changes no job's stage
@@ -102,6 +102,6 @@ SplitChangesNone A = (jobs : List (CopyJob A)) (hand n : ℕ) (old new : Moment 
 abbrev pub JoinChangesNone : Type 0 → Type 0
 JoinChangesNone A = (jobs : List (CopyJob A)) (hand other : ℕ) (old new : Moment A) (v w : View A)
     → get_elem? old.views hand ≡ some v → get_elem? old.views other ≡ some w → other ≢ hand
-    → ((t : ℕ) → times t v.drawn ≡ times t v.done) → ((t : ℕ) → times t w.drawn ≡ times t w.done)
+    → ((t : ℕ) → ticket_times t v.drawn ≡ ticket_times t v.done) → ((t : ℕ) → ticket_times t w.drawn ≡ ticket_times t w.done)
     → new.words ≡ old.words → new.views ≡ slice_set (slice_set old.views hand (both v w)) other spent_view
     → Stays jobs old new

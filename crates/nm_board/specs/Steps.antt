@@ -5,7 +5,7 @@ use lib.ListN.{get_elem?}
 use Rattle.atomic_table.specs.Table.{Me, Step, rest}
 use Rattle.nm_frames.specs.declared.job.CopyJob.{CopyJob}
 use Rattle.nm_board.specs.declared.view.View.{View}
-use Rattle.nm_board.specs.Tickets.{times, once_below}
+use Rattle.nm_board.specs.Tickets.{ticket_times, once_below}
 
 -- what a hand knows, and the slots that it has out
 abbrev pub Mine : Type 0 → Type 0
@@ -23,14 +23,14 @@ tickets (x ∷ xs) = x.0 ∷ tickets xs
 
 -- a hand with all shares that is past the end drew each ticket once
 abbrev pub DrewEach : {A : Type 0} → View A → Type 0
-DrewEach v = v.shares ≡ 64 → v.past_end ≡ true → (t : ℕ) → times t v.drawn ≡ once_below t (length v.jobs)
+DrewEach v = v.shares ≡ 64 → v.past_end ≡ true → (t : ℕ) → ticket_times t v.drawn ≡ once_below t (length v.jobs)
 
 -- a drawn ticket that has a job comes with the job that was laid, and is above all that the hand drew before
 pub record DrawsNext {A : Type 0} (m : Mine A) (found : ℕ) (r : Mine A) : Type 0 where
   pub job : CopyJob A
   pub laid : get_elem? m.0.jobs found ≡ some job
   pub now : r ≡ (record m.0 { drawn = m.0.drawn ++ found ∷ [] }, (found, Some job) ∷ m.1)
-  pub above : (t : ℕ) → 0 < times t m.0.drawn → t < found
+  pub above : (t : ℕ) → 0 < ticket_times t m.0.drawn → t < found
 
 -- a draw that finds no job left puts the hand past the end
 pub record DrawsNone {A : Type 0} (m r : Mine A) : Type 0 where
@@ -42,8 +42,8 @@ pub record Draws {A : Type 0} (s : Step (Option (CopyJob A))) (m : Mine A) (foun
   pub past : length m.0.jobs ≤ found → DrawsNone m r
 
 -- the ticket drawn last is given back
-abbrev pub Gives : {A : Type 0} → Step (Option (CopyJob A)) → Mine A → ℕ → Mine A → Type 0
-Gives s m found r = r ≡ (record m.0 { done = m.0.done ++ front m.1 }, rest m.1)
+abbrev pub GivesBack : {A : Type 0} → Step (Option (CopyJob A)) → Mine A → ℕ → Mine A → Type 0
+GivesBack s m found r = r ≡ (record m.0 { done = m.0.done ++ front m.1 }, rest m.1)
 
 -- the step returns how many tickets were given back: as many as the hand gave back or more, and no more than there are
 -- jobs; if that is all of them, the hand knows it
@@ -55,10 +55,10 @@ pub record Counts {A : Type 0} (s : Step (Option (CopyJob A))) (m : Mine A) (fou
   pub whole : m.0.shares ≡ 64 → m.0.past_end ≡ true → length m.0.done ≡ length m.0.drawn → found ≡ length m.0.jobs
 
 -- nothing changes; no hand has a ticket twice, or more shares than there are
-pub record Looks {A : Type 0} (s : Step (Option (CopyJob A))) (m : Mine A) (found : ℕ) (r : Mine A) : Type 0 where
+pub record LooksAtBoard {A : Type 0} (s : Step (Option (CopyJob A))) (m : Mine A) (found : ℕ) (r : Mine A) : Type 0 where
   pub same : r ≡ m
   pub at_most : m.0.shares ≤ 64
-  pub once : (t : ℕ) → times t m.0.drawn ≤ 1
+  pub once : (t : ℕ) → ticket_times t m.0.drawn ≤ 1
   pub each : DrewEach m.0
 
 -- what a hand keeps when shares are split off

@@ -11,9 +11,9 @@ abbrev pub hit : ℕ → ℕ → ℕ
 hit t u = if t == u then 1 else 0
 
 -- how often a ticket is in a list
-abbrev pub times : ℕ → List ℕ → ℕ
-times t [] = 0
-times t (u ∷ us) = hit t u + times t us
+abbrev pub ticket_times : ℕ → List ℕ → ℕ
+ticket_times t [] = 0
+ticket_times t (u ∷ us) = hit t u + ticket_times t us
 
 -- 1 for a ticket below n, else 0
 abbrev pub once_below : ℕ → ℕ → ℕ

@@ -1,7 +1,7 @@
 //! The hands that draw from a board.
 
 ghost use Rattle.std.specs.Prelude.{◌≡◌, ◌<◌, [], true};
-ghost use Rattle.nm_board.specs.Shown.{without, split_off, joined, HasEach, HasNoneTwice};
+ghost use Rattle.nm_board.specs.Shown.{drop_ticket, split_off, both_holdings, HasEach, HasNoneTwice};
 
 use crate::board::{Board, GIVEN};
 use crate::rule::{Both, Looking, Slot};
@@ -21,11 +21,11 @@ pub struct Hand<A: Allocator + Copy> {
 }
 
 impl<A: Allocator + Copy> Model for Hand<A> {
-    ghost use Rattle.nm_board.specs.Shown.{Holding, Fits, shown};
+    ghost use Rattle.nm_board.specs.Shown.{Holding, Fits, holding_of};
 
     ghost Value = { Holding A };
 
-    ghost view = { λ h. shown h.seat.table_id h.seat.me h.shares h.past_end };
+    ghost view = { λ h. holding_of h.seat.table_id h.seat.me h.shares h.past_end };
 
     ghost invariant = { λ h. Fits h.seat.me h.shares h.past_end };
 }
@@ -37,7 +37,7 @@ impl<A: Allocator + Copy> Hand<A> {
         requires own { self.old.board ≡ board.now }
         requires some { 0 < shares }
         requires fewer { shares < self.old.shares }
-        ensures left { self.new ≡ without self.old shares }
+        ensures left { self.new ≡ drop_ticket self.old shares }
         ensures new { result ≡ split_off self.old shares }
     {
         let past_end = self.past_end;
@@ -57,7 +57,7 @@ impl<A: Allocator + Copy> Hand<A> {
         requires given { (self.old.out ≡ []) × (other.out ≡ []) }
 
         // In any case
-        ensures both { self.new ≡ joined self.old other }
+        ensures both { self.new ≡ both_holdings self.old other }
         ensures once { HasNoneTwice self.new }
 
         // With all shares

@@ -1,8 +1,8 @@
 //! The board's rule, and what a hand learns from each step that it makes. These types are for proofs only.
 
 ghost use Rattle.std.specs.Prelude.{ℕ};
-ghost use Rattle.nm_board.specs.Rule.{IsKept, first_view, spent_view};
-ghost use Rattle.nm_board.specs.Steps.{Draws, Gives, Counts, Looks, less, part, both};
+ghost use Rattle.nm_board.specs.Rule.{IsBoardRule, first_view, spent_view};
+ghost use Rattle.nm_board.specs.Steps.{Draws, GivesBack, Counts, LooksAtBoard, less, part, both};
 
 use crate::view::View;
 use atomic_table::{Join, Play, Shared, Split, TableRule};
@@ -21,7 +21,7 @@ pub(crate) type Shelf<A> = Shared<Slot<A>, View<A>, Snapshot<Vec<CopyJob<A>, A>>
 pub struct Tickets;
 
 impl<A: Allocator + Copy> TableRule<Slot<A>, View<A>, Snapshot<Vec<CopyJob<A>, A>>> for Tickets {
-    ghost holds = { λ laid state. IsKept laid.value.items state };
+    ghost holds = { λ laid state. IsBoardRule laid.value.items state };
 
     ghost first = { λ laid. first_view laid.value.items };
 }
@@ -37,7 +37,7 @@ impl<A: Allocator + Copy> Play<Slot<A>, View<A>> for Drawing {
 pub struct Giving;
 
 impl<A: Allocator + Copy> Play<Slot<A>, View<A>> for Giving {
-    ghost then = { Gives };
+    ghost then = { GivesBack };
 }
 
 /// Counting the tickets that were given back.
@@ -51,7 +51,7 @@ impl<A: Allocator + Copy> Play<Slot<A>, View<A>> for Counting {
 pub struct Looking;
 
 impl<A: Allocator + Copy> Play<Slot<A>, View<A>> for Looking {
-    ghost then = { Looks };
+    ghost then = { LooksAtBoard };
 }
 
 /// A number of shares to split off.

@@ -1,7 +1,7 @@
 use Rattle.atomic_table.specs.Seated.{TableId}
 use Rattle.std.proofs.Common.{◌≡◌, length, map, sym, refl, ap, ◌∙◌, subst, arith, ℕ, Bool}
 use Rattle.nm_board.specs.Steps.{Mine}
-use Rattle.nm_board.specs.Shown.{Holding, Laying, shown}
+use Rattle.nm_board.specs.Shown.{Holding, Laying, holding_of}
 use Rattle.std.specs.Mem.Slots.{slots_items}
 use Rattle.nm_frames.specs.Job.{copied}
 use Rattle.nm_board.proofs.Stepping.{counts}
@@ -10,8 +10,8 @@ use Rattle.nm_board.proofs.Filled.{each_is, same_jobs}
 use Rattle.nm_board.proofs.Hands.{own_is, short_of}
 use Rattle.nm_board.proofs.board.Board.clear.Goals as goal
 
-same_shown : {A : Type 0} (id tid : TableId) (m n : Mine A) (shares : ℕ) (past : Bool) (h : Holding A) → id ≡ tid → m ≡ n → shown tid n shares past ≡ h → shown id m shares past ≡ h
-same_shown {A} id tid m n shares past h at is e = ap (λ z. shown z m shares past) at ∙ (ap (λ (z : Mine A). shown tid z shares past) is ∙ e)
+same_shown : {A : Type 0} (id tid : TableId) (m n : Mine A) (shares : ℕ) (past : Bool) (h : Holding A) → id ≡ tid → m ≡ n → holding_of tid n shares past ≡ h → holding_of id m shares past ≡ h
+same_shown {A} id tid m n shares past h at is e = ap (λ z. holding_of z m shares past) at ∙ (ap (λ (z : Mine A). holding_of tid z shares past) is ∙ e)
 
 pub load-given-requires : goal.load-given-requires
 load-given-requires g c =

@@ -1,5 +1,5 @@
 use Rattle.atomic_table.specs.Seated.{TableId}
-use Rattle.nm_board.specs.Shown.{Holding, shown}
+use Rattle.nm_board.specs.Shown.{Holding, holding_of}
 use Rattle.std.proofs.Common.{◌<◌, ◌∷◌, length, sym, ap, ◌∙◌, arith, None, ◌≡◌, ℕ, ◌≤◌, Bool, true}
 use lib.ListN.{get_elem?}
 use Rattle.atomic_table.specs.Table.{rest}
@@ -9,8 +9,8 @@ use Rattle.nm_board.proofs.Stepping.{draws}
 use Rattle.nm_board.proofs.Hands.{drew, same_value, fits_drew, own_is, fits_past, headed}
 use Rattle.nm_board.proofs.board.Board.draw.Goals as goal
 
-past_shown : {A : Type 0} (id tid : TableId) (m n : Mine A) (shares : ℕ) (past : Bool) (h : Holding A) → id ≡ tid → n ≡ (record m.0 { past_end = true }, m.1) → shown tid m shares past ≡ h → shown id n shares true ≡ record h { past_end = true }
-past_shown {A} id tid m n shares past h at is e = ap (λ z. shown z n shares true) at ∙ (ap (λ (z : Mine A). shown tid z shares true) is ∙ ap (λ (z : Holding A). record z { past_end = true }) e)
+past_shown : {A : Type 0} (id tid : TableId) (m n : Mine A) (shares : ℕ) (past : Bool) (h : Holding A) → id ≡ tid → n ≡ (record m.0 { past_end = true }, m.1) → holding_of tid m shares past ≡ h → holding_of id n shares true ≡ record h { past_end = true }
+past_shown {A} id tid m n shares past h at is e = ap (λ z. holding_of z n shares true) at ∙ (ap (λ (z : Mine A). holding_of tid z shares true) is ∙ ap (λ (z : Holding A). record z { past_end = true }) e)
 
 pub fetch_add-ticket-requires : goal.fetch_add-ticket-requires
 fetch_add-ticket-requires g c =

@@ -1,6 +1,6 @@
 use Rattle.nm_frames.specs.declared.job.CopyJob.{CopyJob}
 use Rattle.atomic_table.specs.Seated.{TableId}
-use Rattle.nm_board.specs.Shown.{all_shares, shown}
+use Rattle.nm_board.specs.Shown.{all_shares, holding_of}
 use Rattle.nm_board.specs.Rule.{first_view}
 use Rattle.nm_board.specs.Steps.{Mine}
 use Rattle.std.proofs.Common.{map, length, Some, ap, ◌∙◌, sym, subst, arith, ◌≡◌, List, [], false}
@@ -10,8 +10,8 @@ use Rattle.nm_board.proofs.Stepping.{opens}
 use Rattle.nm_board.proofs.Hands.{fits_first}
 use Rattle.nm_board.proofs.board.Board.lay.Goals as goal
 
-first_shown : {A : Type 0} (id tid : TableId) (js jobs : List (CopyJob A)) (m : Mine A) → id ≡ tid → m ≡ (first_view js, []) → jobs ≡ js → shown id m 64 false ≡ all_shares (record { id = tid; jobs = jobs })
-first_shown {A} id tid js jobs m at is same = ap (λ z. shown z m 64 false) at ∙ (ap (λ (z : Mine A). shown tid z 64 false) is ∙ ap (λ (z : List (CopyJob A)). all_shares (record { id = tid; jobs = z })) (sym same))
+first_shown : {A : Type 0} (id tid : TableId) (js jobs : List (CopyJob A)) (m : Mine A) → id ≡ tid → m ≡ (first_view js, []) → jobs ≡ js → holding_of id m 64 false ≡ all_shares (record { id = tid; jobs = jobs })
+first_shown {A} id tid js jobs m at is same = ap (λ z. holding_of z m 64 false) at ∙ (ap (λ (z : Mine A). holding_of tid z 64 false) is ∙ ap (λ (z : List (CopyJob A)). all_shares (record { id = tid; jobs = z })) (sym same))
 
 pub new-requires : goal.new-requires
 new-requires g c =

@@ -1,15 +1,15 @@
 use Rattle.atomic_table.specs.Seated.{TableId}
-use Rattle.nm_board.specs.Shown.{Holding, Fits, joined, shown}
-use Rattle.nm_board.specs.Tickets.{times}
+use Rattle.nm_board.specs.Shown.{Holding, Fits, both_holdings, holding_of}
+use Rattle.nm_board.specs.Tickets.{ticket_times}
 use Rattle.nm_board.specs.Steps.{Mine, both}
 use Rattle.std.proofs.Common.{refl, ap, ◌∙◌, arith, ◌≡◌, ℕ, ◌+◌, Bool, ◌||◌}
 use Rattle.nm_board.proofs.Stepping.{joins, looks}
 use Rattle.nm_board.proofs.Hands.{none_out, fits_joined, own_is}
 use Rattle.nm_board.proofs.hand.Hand.join.Goals as goal
 
-joined_shown : {A : Type 0} (id tid oid : TableId) (m o n : Mine A) (s t : ℕ) (p q : Bool) (h k : Holding A) → id ≡ tid → n ≡ (both m.0 o.0, m.1) → shown tid m s p ≡ h → shown oid o t q ≡ k → shown id n (s + t) (p || q) ≡ joined h k
+joined_shown : {A : Type 0} (id tid oid : TableId) (m o n : Mine A) (s t : ℕ) (p q : Bool) (h k : Holding A) → id ≡ tid → n ≡ (both m.0 o.0, m.1) → holding_of tid m s p ≡ h → holding_of oid o t q ≡ k → holding_of id n (s + t) (p || q) ≡ both_holdings h k
 joined_shown {A} id tid oid m o n s t p q h k at is e f =
-    ap (λ z. shown z n (s + t) (p || q)) at ∙ (ap (λ (z : Mine A). shown tid z (s + t) (p || q)) is ∙ (ap (λ (z : Holding A). joined z (shown oid o t q)) e ∙ ap (λ (z : Holding A). joined h z) f))
+    ap (λ z. holding_of z n (s + t) (p || q)) at ∙ (ap (λ (z : Mine A). holding_of tid z (s + t) (p || q)) is ∙ (ap (λ (z : Holding A). both_holdings z (holding_of oid o t q)) e ∙ ap (λ (z : Holding A). both_holdings h z) f))
 
 pub join_seat-requires : goal.join_seat-requires
 join_seat-requires g c =
@@ -39,7 +39,7 @@ pub returns-clause-both : goal.returns-clause-both
 returns-clause-both g c = joined_shown _ _ _ c.self.inside.seat.me c.other.inside.seat.me _ _ _ _ _ _ _ (c.load.ensures.0 ∙ c.join_seat.ensures.0) (c.load.ensures.2.same ∙ c.join_seat.ensures.2) c.self.view_is c.other.view_is
 
 pub returns-clause-once : goal.returns-clause-once
-returns-clause-once g c = λ t. omega (arith, c.load.ensures.2.once t, ap (λ (z : Mine _). times t z.0.drawn) c.load.ensures.2.same)
+returns-clause-once g c = λ t. omega (arith, c.load.ensures.2.once t, ap (λ (z : Mine _). ticket_times t z.0.drawn) c.load.ensures.2.same)
 
 pub returns-clause-each : goal.returns-clause-each
 returns-clause-each g c = λ past all.

@@ -1,15 +1,15 @@
 use Rattle.std.proofs.Common.{◌≡◌, ℕ, ◌-◌, [], Bool, ap, ◌∙◌, arith}
 use Rattle.atomic_table.specs.Seated.{TableId}
 use Rattle.nm_board.specs.Steps.{Mine, less, part}
-use Rattle.nm_board.specs.Shown.{Holding, without, split_off, shown}
+use Rattle.nm_board.specs.Shown.{Holding, drop_ticket, split_off, holding_of}
 use Rattle.nm_board.proofs.Hands.{fits_less, fits_part, own_is}
 use Rattle.nm_board.proofs.hand.Hand.split.Goals as goal
 
-left_shown : {A : Type 0} (id tid : TableId) (m n : Mine A) (s k : ℕ) (p : Bool) (h : Holding A) → id ≡ tid → n ≡ (less k m.0, m.1) → shown tid m s p ≡ h → shown id n (s - k) p ≡ without h k
-left_shown {A} id tid m n s k p h at is e = ap (λ z. shown z n (s - k) p) at ∙ (ap (λ (z : Mine A). shown tid z (s - k) p) is ∙ ap (λ (z : Holding A). without z k) e)
+left_shown : {A : Type 0} (id tid : TableId) (m n : Mine A) (s k : ℕ) (p : Bool) (h : Holding A) → id ≡ tid → n ≡ (less k m.0, m.1) → holding_of tid m s p ≡ h → holding_of id n (s - k) p ≡ drop_ticket h k
+left_shown {A} id tid m n s k p h at is e = ap (λ z. holding_of z n (s - k) p) at ∙ (ap (λ (z : Mine A). holding_of tid z (s - k) p) is ∙ ap (λ (z : Holding A). drop_ticket z k) e)
 
-new_shown : {A : Type 0} (id tid : TableId) (m n : Mine A) (s k : ℕ) (p : Bool) (h : Holding A) → id ≡ tid → n ≡ (part k m.0, []) → shown tid m s p ≡ h → shown id n k p ≡ split_off h k
-new_shown {A} id tid m n s k p h at is e = ap (λ z. shown z n k p) at ∙ (ap (λ (z : Mine A). shown tid z k p) is ∙ ap (λ (z : Holding A). split_off z k) e)
+new_shown : {A : Type 0} (id tid : TableId) (m n : Mine A) (s k : ℕ) (p : Bool) (h : Holding A) → id ≡ tid → n ≡ (part k m.0, []) → holding_of tid m s p ≡ h → holding_of id n k p ≡ split_off h k
+new_shown {A} id tid m n s k p h at is e = ap (λ z. holding_of z n k p) at ∙ (ap (λ (z : Mine A). holding_of tid z k p) is ∙ ap (λ (z : Holding A). split_off z k) e)
 
 pub cut-seat-requires-clause-table : goal.cut-seat-requires-clause-table
 cut-seat-requires-clause-table g c =
