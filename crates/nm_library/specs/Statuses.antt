@@ -3,7 +3,7 @@ use Rattle.std.specs.Prelude.{◌≡◌, ◌⊎◌, ℕ, ℤ, pos, List, [], Opt
 use Rattle.nm_library.specs.declared.handle.Kept.{Kept}
 use Rattle.nm_library.specs.Rooms.{Tells}
 use Rattle.nm_steps.specs.Calls.{Call}
-use Rattle.nm_steps.specs.Faults.{Plan, trace_of}
+use Rattle.nm_steps.specs.Faults.{TraceContents, trace_of}
 use Rattle.nm_steps.specs.declared.trace_error.TraceError.{TraceError}
 use Rattle.nm_steps.specs.declared.trace_error.TraceError.TheVariants.{NotJson, BadMachine, BadStep, ReadFault, WriteFault, HostMemory}
 use Rattle.nm_trace.specs.Played.{report_of}
@@ -29,7 +29,7 @@ IsBad (HostMemory k) = ⊥
 
 -- the text is the report on the trace that these bytes are
 abbrev pub IsReport : List ℕ → List ℕ → Type 0
-IsReport trace text = (plan : Plan) × (trace_of trace ≡ Ok plan) × (text ≡ report_of plan)
+IsReport trace text = (plan : TraceContents) × (trace_of trace ≡ Ok plan) × (text ≡ report_of plan)
 
 -- the report on a trace is told; or nothing is, for a fault, which is that of the bytes if it is one of bytes
 abbrev pub Reports : List ℕ → ℤ → List ℕ → List ℕ → ℕ → ℕ → Type 0

@@ -9,7 +9,7 @@ use Rattle.nm_steps.specs.Calls.{Call}
 use Rattle.nm_steps.specs.Form.{◌>>=◌, each, step_of}
 use Rattle.nm_steps.specs.Faults.{first_bad}
 use Rattle.nm_steps.specs.Memory.{starts, begins}
-use Rattle.nm_steps.specs.Gives.{Fails}
+use Rattle.nm_steps.specs.Gives.{FailsStep}
 
 -- what was read before, and what is still read
 abbrev pub with_front : {A : Type 0} → List A → Option (List A) → Option (List A)
@@ -28,7 +28,7 @@ module _ {A V : Type 0} (f : Data → Option A) (front : List A) (view : V → D
       let one : with_front front (each f (items_seen view (drop i vs))) ≡ with_front (front ++ x ∷ []) (each f (items_seen view (drop (i + 1) vs))) = rw (split, h) (regroup front x (each f (items_seen view (drop (i + 1) vs)))) in
       sym one ∙ so_far
 
-  pub ends : (e : StepError) → Fails e (f (view v)) → with_front front (each f (items_seen view (drop i vs))) ≡ total → Fails e total
+  pub ends : (e : StepError) → FailsStep e (f (view v)) → with_front front (each f (items_seen view (drop i vs))) ≡ total → FailsStep e total
   ends Memory h so_far = tt
   ends Bad h so_far =
       let one : with_front front (each f (items_seen view (drop i vs))) ≡ None = rw (split, h) refl in

@@ -9,9 +9,9 @@ use Rattle.nm_types.specs.Layout.{Layout}
 use Rattle.nm_types.specs.Refusal.{refusal}
 use Rattle.nm_model.specs.definitions.Cut.{run_count}
 use Rattle.nm_steps.specs.declared.step_error.StepError.{StepError}
-use Rattle.nm_steps.specs.Gives.{Fails, Gives}
+use Rattle.nm_steps.specs.Gives.{FailsStep, GivesStep}
 use Rattle.nm_steps.specs.Tree.{items_seen}
-use Rattle.nm_steps.specs.Form.{◌>>=◌, below, each, number_of, number_at, numbers_at, number_below, smalls_at, items_at, batch_of, in_flight, limit_of, machine_of, row_of}
+use Rattle.nm_steps.specs.Form.{◌>>=◌, below, each, u64_of, number_at, numbers_at, number_below, small_numbers_at, items_at, batch_of, during_of, limit_of, machine_of, row_of}
 use Rattle.nm_steps.specs.Memory.{has_items, holds, begins, begins_at, batch_starts, flight_asks, row_asks, machine_takes_memory, starts, starts_at, step_asks, steps_take_memory}
 
 -- an error that a question mark hands on is that of the call
@@ -23,9 +23,9 @@ handed_on (Err x) called e f h was is =
     was ∙ ap Err same
 
 -- so the definition gives nothing, unless memory ran out
-pub fails_on : {X Y : Type 0} (view : X → Y) (r : Result X StepError) (e : StepError) (found : Option Y) → IsErr r × IsErrAnd r (λ x. x ≡ e) → Fails e found → Gives view r found
+pub fails_on : {X Y : Type 0} (view : X → Y) (r : Result X StepError) (e : StepError) (found : Option Y) → IsErr r × IsErrAnd r (λ x. x ≡ e) → FailsStep e found → GivesStep view r found
 fails_on view (Ok x) e found h fails = absurd (cc)
-fails_on view (Err x) e found h fails = subst (λ y. Fails y found) (sym h.1) fails
+fails_on view (Err x) e found h fails = subst (λ y. FailsStep y found) (sym h.1) fails
 
 -- the list of a value at a key
 pub listed_at : (key : List ℕ) (d v : Data) (ds : Items) → Some v ≡ get key d → as_array v ≡ Some ds → items_at key d ≡ Some ds
@@ -67,7 +67,7 @@ module _ {V : Type 0} (view : V → Data) (vs : List V) where
   begins_listed such o is first = rw is first
 
   -- these values are the rows of a machine
-  pub has_rows : (d m : Data) (sizes : List ℕ) → get (codes "machine") d ≡ Some m → smalls_at (codes "nodes") m ≡ Some sizes → items_at (codes "distance") m ≡ Some (items_seen view vs) → begins row_asks (items_seen view vs) ≡ true
+  pub has_rows : (d m : Data) (sizes : List ℕ) → get (codes "machine") d ≡ Some m → small_numbers_at (codes "nodes") m ≡ Some sizes → items_at (codes "distance") m ≡ Some (items_seen view vs) → begins row_asks (items_seen view vs) ≡ true
       → machine_takes_memory d ≡ true
   has_rows d m sizes machine nodes is first =
       rw (machine, machine_takes_memory) (or_right (starts_at (number_below (2 ^ 32)) (items_at (codes "nodes") m)) _ (and_both _ _ (is_there _ sizes nodes) (begins_listed row_asks _ is first)))
@@ -125,7 +125,7 @@ none_below (Some n) = rw (le-ltb n 0 (omega arith)) refl
 
 -- without runs there is no access in flight
 no_flight : (d : Data) → flight_asks 0 d ≡ false
-unfolding in_flight
+unfolding during_of
 no_flight d = rw (none_below (number_at (codes "run") d)) refl
 
 no_flights : (o : Option Items) → begins_at (flight_asks 0) o ≡ true → ⊥
@@ -145,7 +145,7 @@ unfolding batch_of
 batch_begins limit d batch o is paired first =
     let some = some_runs limit batch.1 o first in
     or_left _ _
-    (starts_read number_of (items_at (codes "pages") d) batch.0 (pages_read (numbers_at (codes "pages") d) (smalls_at (codes "nodes") d) batch is) (omega (arith, paired, some)))
+    (starts_read u64_of (items_at (codes "pages") d) batch.0 (pages_read (numbers_at (codes "pages") d) (small_numbers_at (codes "nodes") d) batch is) (omega (arith, paired, some)))
 
 nodes_read : (p : Option (List ℕ)) (q : Option (List (List ℕ))) (layout : Layout)
     → (p >>= λ sizes. q >>= λ distances. elim (refusal (record { sizes = sizes; distances = distances })) [ None ↦ Some (record { sizes = sizes; distances = distances }) | Some fault ↦ None ]) ≡ Some layout
@@ -156,11 +156,11 @@ nodes_read (Some []) (Some distances) layout is = absurd (cc)
 nodes_read (Some (size ∷ sizes)) q layout is = (size ∷ sizes, refl, omega arith)
 
 nodes_begin : (o : Option Data) (layout : Layout)
-    → (o >>= λ m. smalls_at (codes "nodes") m >>= λ sizes. (items_at (codes "distance") m >>= each row_of) >>= λ distances. elim (refusal (record { sizes = sizes; distances = distances })) [ None ↦ Some (record { sizes = sizes; distances = distances }) | Some fault ↦ None ]) ≡ Some layout
+    → (o >>= λ m. small_numbers_at (codes "nodes") m >>= λ sizes. (items_at (codes "distance") m >>= each row_of) >>= λ distances. elim (refusal (record { sizes = sizes; distances = distances })) [ None ↦ Some (record { sizes = sizes; distances = distances }) | Some fault ↦ None ]) ≡ Some layout
     → (m : Data) × (o ≡ Some m) × (starts_at (number_below (2 ^ 32)) (items_at (codes "nodes") m) ≡ true)
 nodes_begin None layout is = absurd (cc)
 nodes_begin (Some m) layout is =
-    let nodes = nodes_read (smalls_at (codes "nodes") m) (items_at (codes "distance") m >>= each row_of) layout is in
+    let nodes = nodes_read (small_numbers_at (codes "nodes") m) (items_at (codes "distance") m >>= each row_of) layout is in
     (m, refl, starts_read (number_below (2 ^ 32)) (items_at (codes "nodes") m) nodes.0 nodes.1 nodes.2)
 
 -- a machine begins with a number of its nodes

@@ -12,7 +12,7 @@ use Rattle.serde_json.specs.Find.{get, get_member, as_u64}
 use Rattle.serde_json.specs.Read.{number_of, number_from, of_json, of_items, of_members}
 use Rattle.serde_json.specs.View.{items_of}
 use Rattle.serde_json.proofs.Views.{get_member-put, get_member-put_other}
-use Rattle.nm_steps.specs.Tree.{number_or_null, shown, shown_items, shown_members, view, items_view}
+use Rattle.nm_steps.specs.Tree.{number_or_null, shown_data, shown_items, shown_members, view, items_view}
 
 the_some : {A : Type 0} {x y : A} → Some x ≡ Some y → x ≡ y
 the_some {A} {x} {y} e = cc
@@ -39,7 +39,7 @@ abbrev or_else : Option Data → Option Data → Option Data
 or_else None b = b
 or_else (Some d) b = Some d
 
-shown_or : (a b : Option json.Json) → option_map shown (find.later_or a b) ≡ or_else (option_map shown a) (option_map shown b)
+shown_or : (a b : Option json.Json) → option_map shown_data (find.later_or a b) ≡ or_else (option_map shown_data a) (option_map shown_data b)
 shown_or None b = refl
 shown_or (Some j) b = refl
 
@@ -52,28 +52,28 @@ at_put : (b : Bool) (k name : List ℕ) (d : Data) (ms : Members) → bytes_eq k
 at_put true k name d ms e = let same : k ≡ name = (bytes_eq-Decides k name).0 e in ap (λ n. get_member n (put k d ms)) (sym same) ∙ get_member-put k d ms
 at_put false k name d ms e = get_member-put_other name k d ms (λ same. let yes = (bytes_eq-Decides k name).1 (sym same) in absurd (cc))
 
-shown_cond : (b : Bool) (j : json.Json) → option_map shown (cond b (Some j) None) ≡ cond b (Some (shown j)) None
+shown_cond : (b : Bool) (j : json.Json) → option_map shown_data (cond b (Some j) None) ≡ cond b (Some (shown_data j)) None
 shown_cond true j = refl
 shown_cond false j = refl
 
-get_shown_members : (name : List ℕ) (ms : json.Members) (found : Members) → get_member name (shown_members ms found) ≡ or_else (option_map shown (find.get_member name ms)) (get_member name found)
+get_shown_members : (name : List ℕ) (ms : json.Members) (found : Members) → get_member name (shown_members ms found) ≡ or_else (option_map shown_data (find.get_member name ms)) (get_member name found)
 get_shown_members name json.no_members found = refl
 get_shown_members name (json.member k j ms) found =
-    let later = option_map shown (find.get_member name ms) in
+    let later = option_map shown_data (find.get_member name ms) in
     let here = cond (bytes_eq k name) (Some j) None in
     let before = get_member name found in
-    let both : option_map shown (find.later_or (find.get_member name ms) here) ≡ or_else later (cond (bytes_eq k name) (Some (shown j)) None) =
+    let both : option_map shown_data (find.later_or (find.get_member name ms) here) ≡ or_else later (cond (bytes_eq k name) (Some (shown_data j)) None) =
     shown_or (find.get_member name ms) here ∙ ap (or_else later) (shown_cond (bytes_eq k name) j) in
-    get_shown_members name ms (put k (shown j) found)
-    ∙ ap (or_else later) (at_put (bytes_eq k name) k name (shown j) found refl)
-    ∙ or_or later (cond (bytes_eq k name) (Some (shown j)) None) before
+    get_shown_members name ms (put k (shown_data j) found)
+    ∙ ap (or_else later) (at_put (bytes_eq k name) k name (shown_data j) found refl)
+    ∙ or_or later (cond (bytes_eq k name) (Some (shown_data j)) None) before
     ∙ ap (λ o. or_else o before) (sym both)
 
 or_none : (a : Option Data) → or_else a None ≡ a
 or_none None = refl
 or_none (Some d) = refl
 
-pub get_shown : (name : List ℕ) (j : json.Json) → get name (shown j) ≡ option_map shown (find.get name j)
+pub get_shown : (name : List ℕ) (j : json.Json) → get name (shown_data j) ≡ option_map shown_data (find.get name j)
 get_shown name json.null = refl
 get_shown name (json.boolean b) = refl
 get_shown name (json.number s) = no_number (number_of s) where
@@ -82,20 +82,20 @@ get_shown name (json.number s) = no_number (number_of s) where
   no_number (Some n) = refl
 get_shown name (json.string s) = refl
 get_shown name (json.array js) = refl
-get_shown name (json.object ms) = get_shown_members name ms no_members ∙ or_none (option_map shown (find.get_member name ms))
+get_shown name (json.object ms) = get_shown_members name ms no_members ∙ or_none (option_map shown_data (find.get_member name ms))
 
 -- what a reference shows
-pub shown_ref : (r : Option (Bor (Value Global))) → option_map (λ v. view v.now) r ≡ option_map shown (option_map (λ v. tree.value_view v.now) r)
+pub shown_ref : (r : Option (Bor (Value Global))) → option_map (λ v. view v.now) r ≡ option_map shown_data (option_map (λ v. tree.value_view v.now) r)
 shown_ref None = refl
 shown_ref (Some v) = refl
 
 -- ---- lists
 
-shown_items_of : (js : List json.Json) → shown_items (tree.items_of js) ≡ items_of (map shown js)
+shown_items_of : (js : List json.Json) → shown_items (tree.items_of js) ≡ items_of (map shown_data js)
 shown_items_of [] = refl
-shown_items_of (j ∷ js) = ap (item (shown j)) (shown_items_of js)
+shown_items_of (j ∷ js) = ap (item (shown_data j)) (shown_items_of js)
 
-map_twice : (vs : List (Value Global)) → map shown (map tree.value_view vs) ≡ map view vs
+map_twice : (vs : List (Value Global)) → map shown_data (map tree.value_view vs) ≡ map view vs
 map_twice [] = refl
 map_twice (v ∷ vs) = ap (λ ds. view v ∷ ds) (map_twice vs)
 
@@ -152,7 +152,7 @@ member_range k j ms = some_member k (of_json j) ms no_members no_members
 -- ---- what is read is what is shown
 
 mutual
-  pub is_shown : (j : json.Json) (d : Data) → of_json j ≡ Some d → shown j ≡ d
+  pub is_shown : (j : json.Json) (d : Data) → of_json j ≡ Some d → shown_data j ≡ d
   is_shown json.null d e = the_some e
   is_shown (json.boolean b) d e = the_some e
   is_shown (json.number s) d e = the_number (number_of s) d e
@@ -168,9 +168,9 @@ mutual
   members_shown json.no_members found all e = the_some e
   members_shown (json.member k j ms) found all e = let r = the_next (of_json j) (λ d. of_members ms (put k d found)) all e in ap (λ d. shown_members ms (put k d found)) (is_shown j r.0 r.1) ∙ members_shown ms (put k r.0 found) all r.2
 
-the_shown : (j : json.Json) (o : Option Data) → of_json j ≡ o → is_some o ≡ true → o ≡ Some (shown j)
+the_shown : (j : json.Json) (o : Option Data) → of_json j ≡ o → is_some o ≡ true → o ≡ Some (shown_data j)
 the_shown j None e h = absurd (cc)
 the_shown j (Some d) e h = ap Some (sym (is_shown j d e))
 
-pub in_range : (j : json.Json) → is_some (of_json j) ≡ true → of_json j ≡ Some (shown j)
+pub in_range : (j : json.Json) → is_some (of_json j) ≡ true → of_json j ≡ Some (shown_data j)
 in_range j h = the_shown j (of_json j) refl h

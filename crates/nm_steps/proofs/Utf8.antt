@@ -11,7 +11,7 @@ use Rattle.serde_json.specs.Data.{Data}
 use Rattle.serde_json.specs.Read.{of_json, read}
 use Rattle.nm_steps.specs.declared.trace_error.TraceError.{TraceError}
 use Rattle.nm_steps.specs.declared.trace_error.TraceError.TheVariants.{NotJson, HostMemory}
-use Rattle.nm_steps.specs.Faults.{Plan, ◌>>=◌, Gives, plan_of, trace_of, value_of}
+use Rattle.nm_steps.specs.Faults.{TraceContents, ◌>>=◌, Gives, plan_of, trace_of, value_of}
 use Rattle.nm_steps.specs.Memory.{IsSomeText, NeedsMemory}
 use Rattle.nm_steps.proofs.Memory.{some_is}
 
@@ -58,12 +58,12 @@ text_of_value (x ∷ xs) d h = (taken (is_utf8 (x ∷ xs)) (read (x ∷ xs)) d h
 pub text_of_read : (bytes : List ℕ) (d : Data) → ok_or (value_of bytes) NotJson ≡ Ok d → IsSomeText bytes
 text_of_read bytes d h = text_of_value bytes d (some_is (value_of bytes) NotJson d h)
 
-read_first : (r : Result Data TraceError) (f : Data → Result Plan TraceError) (plan : Plan) → (r >>= f) ≡ Ok plan → (d : Data) × (r ≡ Ok d)
+read_first : (r : Result Data TraceError) (f : Data → Result TraceContents TraceError) (plan : TraceContents) → (r >>= f) ≡ Ok plan → (d : Data) × (r ≡ Ok d)
 read_first (Ok d) f plan h = (d, refl)
 read_first (Err e) f plan h = absurd (cc)
 
 -- so has a trace
-pub text_of_trace : (bytes : List ℕ) (plan : Plan) → trace_of bytes ≡ Ok plan → IsSomeText bytes
+pub text_of_trace : (bytes : List ℕ) (plan : TraceContents) → trace_of bytes ≡ Ok plan → IsSomeText bytes
 unfolding trace_of
 text_of_trace bytes plan h =
     let value = read_first (ok_or (value_of bytes) NotJson) plan_of plan h in

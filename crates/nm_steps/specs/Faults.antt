@@ -13,7 +13,7 @@ use Rattle.nm_steps.specs.declared.step_error.StepError.TheVariants.{Bad, Memory
 use Rattle.nm_steps.specs.Form as form
 
 -- a trace: its machine, the most entries that a run may have, and the calls of its steps
-pub record Plan : Type 0 where
+pub record TraceContents : Type 0 where
   pub layout : Layout
   pub run_limit : ℕ
   pub calls : List Call
@@ -36,19 +36,19 @@ abbrev pub calls_of : ℕ → Items → Result (List Call) TraceError
 calls_of limit ds = ok_or (form.each (form.step_of limit) ds) (BadStep (first_bad limit ds))
 
 -- the trace of a machine, with the limit and the steps that data give
-unfoldable pub plan_on : Layout → Data → Result Plan TraceError
+unfoldable pub plan_on : Layout → Data → Result TraceContents TraceError
 plan_on layout d = do
   limit ← ok_or (form.limit_of d) BadMachine
   ds ← ok_or (form.items_at (codes "steps") d) BadMachine
   calls ← calls_of limit ds
   Ok (record { layout = layout; run_limit = limit; calls = calls })
 
-unfoldable pub plan_of : Data → Result Plan TraceError
+unfoldable pub plan_of : Data → Result TraceContents TraceError
 plan_of d = do
   layout ← ok_or (form.machine_of d) BadMachine
   plan_on layout d
 
-unfoldable pub trace_of : List ℕ → Result Plan TraceError
+unfoldable pub trace_of : List ℕ → Result TraceContents TraceError
 trace_of bytes = do
   d ← ok_or (value_of bytes) NotJson
   plan_of d

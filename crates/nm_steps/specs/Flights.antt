@@ -2,7 +2,7 @@
 use Rattle.std.specs.Prelude.{◌≡◌, ℕ, List, [], ◌∷◌, Some, None, codes}
 use Rattle.serde_json.specs.Data.{unsigned, Data, null, number, string, array, object, no_items, item, Members, no_members, member}
 use Rattle.nm_model.specs.definitions.Touch.{Read, Write}
-use Rattle.nm_steps.specs.Form.{in_flight, during_at}
+use Rattle.nm_steps.specs.Form.{during_of, during_at}
 
 -- an object with these members
 abbrev pub members_of : List (List ℕ × Data) → Members
@@ -32,14 +32,14 @@ in_run run keys = object_of (key (codes "run") run ∷ keys)
 
 -- an access has the keys of its step, and the number of a run that the step has
 pub record FlightRows : Type 0 where
-  pub read : in_flight 1 (in_run 0 a_read) ≡ Some (0, Read 1 4096 2)
-  pub write : in_flight 2 (in_run 1 a_write) ≡ Some (1, Write 1 4096 (106 ∷ []))
-  pub no_second_run : in_flight 1 (in_run 1 a_read) ≡ None
+  pub read : during_of 1 (in_run 0 a_read) ≡ Some (0, Read 1 4096 2)
+  pub write : during_of 2 (in_run 1 a_write) ≡ Some (1, Write 1 4096 (106 ∷ []))
+  pub no_second_run : during_of 1 (in_run 1 a_read) ≡ None
   -- a batch without entries has no runs
-  pub no_run_at_all : in_flight 0 (in_run 0 a_read) ≡ None
-  pub run_missing : in_flight 1 (object_of a_read) ≡ None
-  pub key_missing : in_flight 1 (in_run 0 (word (codes "op") (codes "read") ∷ key (codes "pid") 1 ∷ [])) ≡ None
-  pub another_step : in_flight 1 (in_run 0 (word (codes "op") (codes "exit") ∷ key (codes "pid") 1 ∷ [])) ≡ None
+  pub no_run_at_all : during_of 0 (in_run 0 a_read) ≡ None
+  pub run_missing : during_of 1 (object_of a_read) ≡ None
+  pub key_missing : during_of 1 (in_run 0 (word (codes "op") (codes "read") ∷ key (codes "pid") 1 ∷ [])) ≡ None
+  pub another_step : during_of 1 (in_run 0 (word (codes "op") (codes "exit") ∷ key (codes "pid") 1 ∷ [])) ≡ None
   pub in_their_order :
       during_at 2 (object_of ((codes "during", array (item (in_run 1 a_read) (item (in_run 0 a_write) no_items))) ∷ []))
       ≡ Some ((1, Read 1 4096 2) ∷ (0, Write 1 4096 (106 ∷ [])) ∷ [])

@@ -25,12 +25,12 @@ abbrev pub below : ℕ → ℕ → Option ℕ
 below limit n = if nat_lt n limit then Some n else None
 
 -- a number of 64 bits
-abbrev pub number_of : Data → Option ℕ
-number_of d = option_and_then as_u64 (as_number d)
+abbrev pub u64_of : Data → Option ℕ
+u64_of d = option_and_then as_u64 (as_number d)
 
 -- a number below a limit
 abbrev pub number_below : ℕ → Data → Option ℕ
-number_below limit d = option_and_then (below limit) (number_of d)
+number_below limit d = option_and_then (below limit) (u64_of d)
 
 -- what f reads from each item, if it can read all of them
 abbrev pub each : {A : Type 0} → (Data → Option A) → Items → Option (List A)
@@ -43,14 +43,14 @@ abbrev pub set_of : Items → Option (List ℕ)
 set_of ds = option_map (fold (insert_key nat_cmp) []) (each (number_below 64) ds)
 
 -- the bytes that a text of hexadecimal digits spells, in either case
-abbrev pub bytes_of : List ℕ → Option (List ℕ)
-bytes_of text = result_ok (decode_of text)
+abbrev pub hex_bytes : List ℕ → Option (List ℕ)
+hex_bytes text = result_ok (decode_of text)
 
 -- ---- values of keys
 
 -- the number at a key
 abbrev pub number_at : List ℕ → Data → Option ℕ
-number_at key d = option_and_then number_of (get key d)
+number_at key d = option_and_then u64_of (get key d)
 
 -- the number at a key, below 2^32
 abbrev pub small_at : List ℕ → Data → Option ℕ
@@ -67,17 +67,17 @@ abbrev pub items_at : List ℕ → Data → Option Items
 items_at key d = option_and_then as_array (get key d)
 
 abbrev pub numbers_at : List ℕ → Data → Option (List ℕ)
-numbers_at key d = option_and_then (each number_of) (items_at key d)
+numbers_at key d = option_and_then (each u64_of) (items_at key d)
 
 -- the numbers at a key, each below 2^32
-abbrev pub smalls_at : List ℕ → Data → Option (List ℕ)
-smalls_at key d = option_and_then (each (number_below (2 ^ 32))) (items_at key d)
+abbrev pub small_numbers_at : List ℕ → Data → Option (List ℕ)
+small_numbers_at key d = option_and_then (each (number_below (2 ^ 32))) (items_at key d)
 
 abbrev pub set_at : List ℕ → Data → Option (List ℕ)
 set_at key d = option_and_then set_of (items_at key d)
 
 abbrev pub hex_at : List ℕ → Data → Option (List ℕ)
-hex_at key d = option_and_then bytes_of (text_at key d)
+hex_at key d = option_and_then hex_bytes (text_at key d)
 
 -- the number of a process and the address that these keys give
 abbrev pub place_at : Data → Option (ℕ × ℕ)
@@ -96,7 +96,7 @@ row_of d = option_and_then (each (number_below (2 ^ 8))) (as_array d)
 unfoldable pub machine_of : Data → Option Layout
 machine_of d = do
   m ← get (codes "machine") d
-  sizes ← smalls_at (codes "nodes") m
+  sizes ← small_numbers_at (codes "nodes") m
   distances ← items_at (codes "distance") m >>= each row_of
   let layout : Layout = record { sizes = sizes; distances = distances } in
       elim (refusal layout) [ None ↦ Some layout | Some fault ↦ None ]
@@ -138,8 +138,8 @@ access_named op d =
     else (if bytes_eq op (codes "write") then write_access d else None)
 
 -- an access in flight and the number of its run, which is below the number of runs
-unfoldable pub in_flight : ℕ → Data → Option (ℕ × Access)
-in_flight runs d = do
+unfoldable pub during_of : ℕ → Data → Option (ℕ × Access)
+during_of runs d = do
   run ← number_at (codes "run") d >>= below runs
   op ← text_at (codes "op") d
   access ← access_named op d
@@ -148,7 +148,7 @@ in_flight runs d = do
 -- the accesses in flight of a step with this many runs; none if the key is missing
 abbrev pub during_at : ℕ → Data → Option (List (ℕ × Access))
 during_at runs d =
-    elim (get (codes "during") d) [ None ↦ Some [] | Some given ↦ as_array given >>= each (in_flight runs) ]
+    elim (get (codes "during") d) [ None ↦ Some [] | Some given ↦ as_array given >>= each (during_of runs) ]
 
 -- ---- the kinds of step
 
@@ -188,14 +188,14 @@ access_step (Read pid addr len) = ReadBytes pid addr len
 access_step (Write pid addr bytes) = WriteBytes pid addr bytes
 
 -- pages with a node for each, if they are equally many, and at most 16,384
-abbrev pub paired : List ℕ → List ℕ → Option (List ℕ × List ℕ)
-paired pages nodes = if nat_le (length pages) 16384 && (length pages == length nodes) then Some (pages, nodes) else None
+abbrev pub pages_with_nodes : List ℕ → List ℕ → Option (List ℕ × List ℕ)
+pages_with_nodes pages nodes = if nat_le (length pages) 16384 && (length pages == length nodes) then Some (pages, nodes) else None
 
 unfoldable pub batch_of : Data → Option (List ℕ × List ℕ)
 batch_of d = do
   pages ← numbers_at (codes "pages") d
-  nodes ← smalls_at (codes "nodes") d
-  paired pages nodes
+  nodes ← small_numbers_at (codes "nodes") d
+  pages_with_nodes pages nodes
 
 -- the accesses in flight name runs of the batch, none of which has more entries than the limit
 unfoldable pub move_pages_of : ℕ → Data → Option Call
@@ -238,8 +238,8 @@ query_of d = do
   question caller pid pages flags
 
 -- the step with this name, where a run has at most `limit` entries
-unfoldable pub named : ℕ → List ℕ → Data → Option Call
-named limit op d =
+unfoldable pub step_named : ℕ → List ℕ → Data → Option Call
+step_named limit op d =
     if bytes_eq op (codes "spawn") then spawn_of d
     else (if bytes_eq op (codes "map") then map_of d
     else (if bytes_eq op (codes "attach") then attach_of d
@@ -262,4 +262,4 @@ named limit op d =
     else None))))))))))))))))))
 
 unfoldable pub step_of : ℕ → Data → Option Call
-step_of limit d = text_at (codes "op") d >>= λ op. named limit op d
+step_of limit d = text_at (codes "op") d >>= λ op. step_named limit op d

@@ -5,7 +5,7 @@ use Rattle.json.specs.Lex.{tokens}
 use Rattle.json.specs.Reads.{opens}
 use Rattle.serde_json.specs.Data.{Data, Items, no_items, item}
 use Rattle.serde_json.specs.Find.{get, as_array}
-use Rattle.nm_steps.specs.Form.{◌>>=◌, below, number_of, number_below, number_at, small_at, numbers_at, smalls_at, items_at, text_at, place_at, row_of, in_flight, limit_of, step_of}
+use Rattle.nm_steps.specs.Form.{◌>>=◌, below, u64_of, number_below, number_at, small_at, numbers_at, small_numbers_at, items_at, text_at, place_at, row_of, during_of, limit_of, step_of}
 
 -- a text with a byte
 abbrev pub IsSomeText : List ℕ → Type 0
@@ -57,7 +57,7 @@ access_takes_memory op d = bytes_eq op (codes "write") && write_has_pairs d
 -- whether a batch is read up to the first number of a list
 abbrev pub batch_starts : Data → Bool
 batch_starts d =
-    starts_at number_of (items_at (codes "pages") d)
+    starts_at u64_of (items_at (codes "pages") d)
     || (is_some (numbers_at (codes "pages") d) && starts_at (number_below (2 ^ 32)) (items_at (codes "nodes") d))
 
 -- whether a step's caller and process are read
@@ -70,7 +70,7 @@ move_takes_memory d = names_both d && batch_starts d
 
 -- whether a query is read up to the first number of its pages
 abbrev pub query_takes_memory : Data → Bool
-query_takes_memory d = names_both d && starts_at number_of (items_at (codes "pages") d)
+query_takes_memory d = names_both d && starts_at u64_of (items_at (codes "pages") d)
 
 -- whether the step with this name has the digits of its bytes in pairs, or is read up to the first item of a list
 abbrev pub takes_memory : List ℕ → Data → Bool
@@ -97,7 +97,7 @@ names_run runs d = is_some (number_at (codes "run") d >>= below runs)
 -- whether it is an access in flight that is read, or one up to its bytes
 abbrev pub flight_asks : ℕ → Data → Bool
 flight_asks runs d =
-    is_some (in_flight runs d)
+    is_some (during_of runs d)
     || (names_run runs d && holds (option_map (λ op. access_takes_memory op d) (text_at (codes "op") d)))
 
 -- whether it is a step that is read, or one up to what takes memory
@@ -114,7 +114,7 @@ machine_takes_memory d =
       | None ↦ false
       | Some m ↦
           starts_at (number_below (2 ^ 32)) (items_at (codes "nodes") m)
-          || (is_some (smalls_at (codes "nodes") m) && begins_at row_asks (items_at (codes "distance") m))
+          || (is_some (small_numbers_at (codes "nodes") m) && begins_at row_asks (items_at (codes "distance") m))
     ]
 
 -- whether a trace's limit is read, and its steps begin with one that is read, or one up to what takes memory

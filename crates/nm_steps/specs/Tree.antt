@@ -15,24 +15,24 @@ number_or_null (Some n) = number n
 
 -- the data of a tree, number by number; of a key that occurs twice, the last value
 abbrev mutual
-  pub shown : json.Json → Data
-  shown json.null = null
-  shown (json.boolean b) = boolean b
-  shown (json.number s) = number_or_null (number_of s)
-  shown (json.string s) = string s
-  shown (json.array js) = array (shown_items js)
-  shown (json.object ms) = object (shown_members ms no_members)
+  pub shown_data : json.Json → Data
+  shown_data json.null = null
+  shown_data (json.boolean b) = boolean b
+  shown_data (json.number s) = number_or_null (number_of s)
+  shown_data (json.string s) = string s
+  shown_data (json.array js) = array (shown_items js)
+  shown_data (json.object ms) = object (shown_members ms no_members)
 
   pub shown_items : json.Items → Items
   shown_items json.no_items = no_items
-  shown_items (json.item j js) = item (shown j) (shown_items js)
+  shown_items (json.item j js) = item (shown_data j) (shown_items js)
 
   pub shown_members : json.Members → Members → Members
   shown_members json.no_members found = found
-  shown_members (json.member k j ms) found = shown_members ms (put k (shown j) found)
+  shown_members (json.member k j ms) found = shown_members ms (put k (shown_data j) found)
 
 abbrev pub view : Value Global → Data
-view v = shown (value_view v)
+view v = shown_data (value_view v)
 
 -- the items of a list of values, each seen as its data
 abbrev pub items_seen : {V : Type 0} → (V → Data) → List V → Items

@@ -7,7 +7,7 @@ ghost use Rattle.nm_steps.specs.Calls as calls;
 ghost use Rattle.nm_steps.specs.Form.{small_at, place_at};
 ghost use Rattle.nm_steps.specs.Form as form;
 ghost use Rattle.nm_steps.specs.Views.{call_of, shown_during};
-ghost use Rattle.nm_steps.specs.Gives.{Gives};
+ghost use Rattle.nm_steps.specs.Gives.{GivesStep};
 ghost use Rattle.nm_steps.specs.Memory.{takes_memory, access_takes_memory, batch_starts, begins, begins_at, flight_asks, move_takes_memory, names_run, query_takes_memory, write_has_pairs};
 ghost use Rattle.nm_steps.specs.declared.step_error.StepError.TheVariants.{Bad, Memory};
 
@@ -28,7 +28,7 @@ use std::alloc::Allocator;
 fn read_access<A: Allocator + Copy + Send + Sync, V: JsonValue>(
     value: &V,
 ) -> Result<Access<A>, StepError>
-    ensures access { Gives access_shown result (form.read_access (V.as_data value.now)) }
+    ensures access { GivesStep access_shown result (form.read_access (V.as_data value.now)) }
     ensures bad { IfErr result (λ e. e ≡ Bad) }
 {
     Ok(Access::Read {
@@ -44,7 +44,7 @@ fn write_access<A: Allocator + Copy + Send + Sync, V: JsonValue>(
     alloc: A,
     value: &V,
 ) -> Result<Access<A>, StepError>
-    ensures access { Gives access_shown result (form.write_access (V.as_data value.now)) }
+    ensures access { GivesStep access_shown result (form.write_access (V.as_data value.now)) }
     ensures asked { result ≡ Err Memory → write_has_pairs (V.as_data value.now) ≡ true }
 {
     Ok(Access::Write {
@@ -61,7 +61,7 @@ fn access_named<A: Allocator + Copy + Send + Sync, V: JsonValue>(
     op: &str,
     value: &V,
 ) -> Result<Access<A>, StepError>
-    ensures access { Gives access_shown result (form.access_named op.now (V.as_data value.now)) }
+    ensures access { GivesStep access_shown result (form.access_named op.now (V.as_data value.now)) }
     ensures asked { result ≡ Err Memory → access_takes_memory op.now (V.as_data value.now) ≡ true }
 {
     match op {
@@ -78,8 +78,8 @@ fn in_flight<A: Allocator + Copy + Send + Sync, V: JsonValue>(
     value: &V,
     runs: usize,
 ) -> Result<InFlight<A>, StepError>
-    ensures flight { Gives (λ d. (d.run, access_shown d.access)) result
-        (form.in_flight runs (V.as_data value.now)) }
+    ensures flight { GivesStep (λ d. (d.run, access_shown d.access)) result
+        (form.during_of runs (V.as_data value.now)) }
     ensures asked { result ≡ Err Memory →
         option_map (λ op. access_takes_memory op (V.as_data value.now))
         (form.text_at (codes "op") (V.as_data value.now))
@@ -117,8 +117,8 @@ fn flights_of<A: Allocator + Copy + Send + Sync, V: JsonValue>(
     values: &[V],
     runs: usize,
 ) -> Result<Vec<InFlight<A>, A>, StepError>
-    ensures flights { Gives (λ v. shown_during v.items) result
-        (form.each (form.in_flight runs) (items_seen V.as_data values.now)) }
+    ensures flights { GivesStep (λ v. shown_during v.items) result
+        (form.each (form.during_of runs) (items_seen V.as_data values.now)) }
     ensures asked { result ≡ Err Memory →
         begins (flight_asks runs) (items_seen V.as_data values.now) ≡ true }
 {
@@ -136,7 +136,7 @@ fn flights_at<A: Allocator + Copy + Send + Sync, V: JsonValue>(
     value: &V,
     runs: usize,
 ) -> Result<Vec<InFlight<A>, A>, StepError>
-    ensures flights { Gives (λ v. shown_during v.items) result
+    ensures flights { GivesStep (λ v. shown_during v.items) result
         (form.during_at runs (V.as_data value.now)) }
     ensures asked { result ≡ Err Memory →
         begins_at (flight_asks runs) (form.items_at (codes "during") (V.as_data value.now)) ≡ true }
@@ -152,7 +152,7 @@ fn flights_at<A: Allocator + Copy + Send + Sync, V: JsonValue>(
 
 #[tactic(auto, unfolding(crate::specs::Form::spawn_of))]
 fn spawn<A: Allocator + Copy + Send + Sync, V: JsonValue>(value: &V) -> Result<Call<A>, StepError>
-    ensures call { Gives call_of result (form.spawn_of (V.as_data value.now)) }
+    ensures call { GivesStep call_of result (form.spawn_of (V.as_data value.now)) }
     ensures bad { IfErr result (λ e. e ≡ Bad) }
 {
     Ok(Call::Spawn(NewProcess {
@@ -166,7 +166,7 @@ fn spawn<A: Allocator + Copy + Send + Sync, V: JsonValue>(value: &V) -> Result<C
 
 #[tactic(auto, unfolding(crate::specs::Form::map_of))]
 fn map<A: Allocator + Copy + Send + Sync, V: JsonValue>(value: &V) -> Result<Call<A>, StepError>
-    ensures call { Gives call_of result (form.map_of (V.as_data value.now)) }
+    ensures call { GivesStep call_of result (form.map_of (V.as_data value.now)) }
     ensures bad { IfErr result (λ e. e ≡ Bad) }
 {
     Ok(Call::Map(NewArea {
@@ -179,7 +179,7 @@ fn map<A: Allocator + Copy + Send + Sync, V: JsonValue>(value: &V) -> Result<Cal
 
 #[tactic(auto, unfolding(crate::specs::Form::attach_of))]
 fn attach<A: Allocator + Copy + Send + Sync, V: JsonValue>(value: &V) -> Result<Call<A>, StepError>
-    ensures call { Gives call_of result (form.attach_of (V.as_data value.now)) }
+    ensures call { GivesStep call_of result (form.attach_of (V.as_data value.now)) }
     ensures bad { IfErr result (λ e. e ≡ Bad) }
 {
     Ok(Call::Attach(Attachment {
@@ -193,7 +193,7 @@ fn attach<A: Allocator + Copy + Send + Sync, V: JsonValue>(value: &V) -> Result<
 
 #[tactic(auto, unfolding(crate::specs::Form::unmap_of))]
 fn unmap<A: Allocator + Copy + Send + Sync, V: JsonValue>(value: &V) -> Result<Call<A>, StepError>
-    ensures call { Gives call_of result (form.unmap_of (V.as_data value.now)) }
+    ensures call { GivesStep call_of result (form.unmap_of (V.as_data value.now)) }
     ensures bad { IfErr result (λ e. e ≡ Bad) }
 {
     Ok(Call::Unmap {
@@ -204,7 +204,7 @@ fn unmap<A: Allocator + Copy + Send + Sync, V: JsonValue>(value: &V) -> Result<C
 }
 
 fn exit<A: Allocator + Copy + Send + Sync, V: JsonValue>(value: &V) -> Result<Call<A>, StepError>
-    ensures call { Gives call_of result
+    ensures call { GivesStep call_of result
         (option_map calls.Exit (small_at (codes "pid") (V.as_data value.now))) }
     ensures bad { IfErr result (λ e. e ≡ Bad) }
 {
@@ -214,7 +214,7 @@ fn exit<A: Allocator + Copy + Send + Sync, V: JsonValue>(value: &V) -> Result<Ca
 }
 
 fn pin<A: Allocator + Copy + Send + Sync, V: JsonValue>(value: &V) -> Result<Call<A>, StepError>
-    ensures call { Gives call_of result
+    ensures call { GivesStep call_of result
         (option_map (λ (pid, addr). calls.Pin pid addr) (place_at (V.as_data value.now))) }
     ensures bad { IfErr result (λ e. e ≡ Bad) }
 {
@@ -225,7 +225,7 @@ fn pin<A: Allocator + Copy + Send + Sync, V: JsonValue>(value: &V) -> Result<Cal
 }
 
 fn unpin<A: Allocator + Copy + Send + Sync, V: JsonValue>(value: &V) -> Result<Call<A>, StepError>
-    ensures call { Gives call_of result
+    ensures call { GivesStep call_of result
         (option_map (λ (pid, addr). calls.Unpin pid addr) (place_at (V.as_data value.now))) }
     ensures bad { IfErr result (λ e. e ≡ Bad) }
 {
@@ -246,7 +246,7 @@ fn access_step<A: Allocator + Copy + Send + Sync>(access: Access<A>) -> Call<A>
 }
 
 fn read<A: Allocator + Copy + Send + Sync, V: JsonValue>(value: &V) -> Result<Call<A>, StepError>
-    ensures call { Gives call_of result
+    ensures call { GivesStep call_of result
         (option_map form.access_step (form.read_access (V.as_data value.now))) }
     ensures bad { IfErr result (λ e. e ≡ Bad) }
 {
@@ -257,7 +257,7 @@ fn write<A: Allocator + Copy + Send + Sync, V: JsonValue>(
     alloc: A,
     value: &V,
 ) -> Result<Call<A>, StepError>
-    ensures call { Gives call_of result
+    ensures call { GivesStep call_of result
         (option_map form.access_step (form.write_access (V.as_data value.now))) }
     ensures asked { result ≡ Err Memory → write_has_pairs (V.as_data value.now) ≡ true }
 {
@@ -269,8 +269,8 @@ fn paired<A: Allocator + Copy + Send + Sync>(
     pages: Vec<u64, A>,
     nodes: Vec<u32, A>,
 ) -> Result<Batch<A>, StepError>
-    ensures batch { Gives (λ batch. (batch.pages.items, batch.nodes.items)) result
-        (form.paired pages.items nodes.items) }
+    ensures batch { GivesStep (λ batch. (batch.pages.items, batch.nodes.items)) result
+        (form.pages_with_nodes pages.items nodes.items) }
     ensures bad { IfErr result (λ e. e ≡ Bad) }
 {
     if pages.len() > MAX_BATCH || pages.len() != nodes.len() {
@@ -285,7 +285,7 @@ fn batch_of<A: Allocator + Copy + Send + Sync, V: JsonValue>(
     alloc: A,
     value: &V,
 ) -> Result<Batch<A>, StepError>
-    ensures batch { Gives (λ batch. (batch.pages.items, batch.nodes.items)) result
+    ensures batch { GivesStep (λ batch. (batch.pages.items, batch.nodes.items)) result
         (form.batch_of (V.as_data value.now)) }
     ensures asked { result ≡ Err Memory → batch_starts (V.as_data value.now) ≡ true }
 {
@@ -301,7 +301,7 @@ fn move_pages<A: Allocator + Copy + Send + Sync, V: JsonValue>(
     limit: usize,
 ) -> Result<Call<A>, StepError>
     requires { 0 < limit }
-    ensures call { Gives call_of result (form.move_pages_of limit (V.as_data value.now)) }
+    ensures call { GivesStep call_of result (form.move_pages_of limit (V.as_data value.now)) }
     ensures asked { result ≡ Err Memory → move_takes_memory (V.as_data value.now) ≡ true }
 {
     let caller = small(value, "caller")?;
@@ -323,7 +323,7 @@ fn move_pages<A: Allocator + Copy + Send + Sync, V: JsonValue>(
 fn migrate_pages<A: Allocator + Copy + Send + Sync, V: JsonValue>(
     value: &V,
 ) -> Result<Call<A>, StepError>
-    ensures call { Gives call_of result (form.migrate_pages_of (V.as_data value.now)) }
+    ensures call { GivesStep call_of result (form.migrate_pages_of (V.as_data value.now)) }
     ensures bad { IfErr result (λ e. e ≡ Bad) }
 {
     Ok(Call::MigratePages(MigrateRequest {
@@ -336,7 +336,7 @@ fn migrate_pages<A: Allocator + Copy + Send + Sync, V: JsonValue>(
 
 #[tactic(auto, unfolding(crate::specs::Form::mbind_of))]
 fn mbind<A: Allocator + Copy + Send + Sync, V: JsonValue>(value: &V) -> Result<Call<A>, StepError>
-    ensures call { Gives call_of result (form.mbind_of (V.as_data value.now)) }
+    ensures call { GivesStep call_of result (form.mbind_of (V.as_data value.now)) }
     ensures bad { IfErr result (λ e. e ≡ Bad) }
 {
     Ok(Call::Mbind(MbindRequest {
@@ -350,7 +350,7 @@ fn mbind<A: Allocator + Copy + Send + Sync, V: JsonValue>(value: &V) -> Result<C
 }
 
 fn offline<A: Allocator + Copy + Send + Sync, V: JsonValue>(value: &V) -> Result<Call<A>, StepError>
-    ensures call { Gives call_of result
+    ensures call { GivesStep call_of result
         (option_map calls.Offline (small_at (codes "node") (V.as_data value.now))) }
     ensures bad { IfErr result (λ e. e ≡ Bad) }
 {
@@ -360,7 +360,7 @@ fn offline<A: Allocator + Copy + Send + Sync, V: JsonValue>(value: &V) -> Result
 }
 
 fn online<A: Allocator + Copy + Send + Sync, V: JsonValue>(value: &V) -> Result<Call<A>, StepError>
-    ensures call { Gives call_of result
+    ensures call { GivesStep call_of result
         (option_map calls.Online (small_at (codes "node") (V.as_data value.now))) }
     ensures bad { IfErr result (λ e. e ≡ Bad) }
 {
@@ -376,7 +376,7 @@ fn question<A: Allocator + Copy + Send + Sync>(
     pages: Vec<u64, A>,
     flags: u32,
 ) -> Result<Call<A>, StepError>
-    ensures call { Gives call_of result (form.question caller pid pages.items flags) }
+    ensures call { GivesStep call_of result (form.question caller pid pages.items flags) }
     ensures bad { IfErr result (λ e. e ≡ Bad) }
 {
     if pages.len() > MAX_BATCH {
@@ -395,7 +395,7 @@ fn query<A: Allocator + Copy + Send + Sync, V: JsonValue>(
     alloc: A,
     value: &V,
 ) -> Result<Call<A>, StepError>
-    ensures call { Gives call_of result (form.query_of (V.as_data value.now)) }
+    ensures call { GivesStep call_of result (form.query_of (V.as_data value.now)) }
     ensures asked { result ≡ Err Memory → query_takes_memory (V.as_data value.now) ≡ true }
 {
     let caller = small(value, "caller")?;
@@ -406,7 +406,7 @@ fn query<A: Allocator + Copy + Send + Sync, V: JsonValue>(
 }
 
 fn free<A: Allocator + Copy + Send + Sync, V: JsonValue>(value: &V) -> Result<Call<A>, StepError>
-    ensures call { Gives call_of result
+    ensures call { GivesStep call_of result
         (option_map calls.FreeList (small_at (codes "node") (V.as_data value.now))) }
     ensures bad { IfErr result (λ e. e ≡ Bad) }
 {
@@ -416,7 +416,7 @@ fn free<A: Allocator + Copy + Send + Sync, V: JsonValue>(value: &V) -> Result<Ca
 }
 
 fn pagemap<A: Allocator + Copy + Send + Sync, V: JsonValue>(value: &V) -> Result<Call<A>, StepError>
-    ensures call { Gives call_of result
+    ensures call { GivesStep call_of result
         (option_map calls.Pagemap (small_at (codes "pid") (V.as_data value.now))) }
     ensures bad { IfErr result (λ e. e ≡ Bad) }
 {
@@ -426,7 +426,7 @@ fn pagemap<A: Allocator + Copy + Send + Sync, V: JsonValue>(value: &V) -> Result
 }
 
 fn vmstat<A: Allocator + Copy + Send + Sync, V: JsonValue>(value: &V) -> Result<Call<A>, StepError>
-    ensures call { Gives call_of result (Some calls.Vmstat) }
+    ensures call { GivesStep call_of result (Some calls.Vmstat) }
     ensures bad { IfErr result (λ e. e ≡ Bad) }
 {
     Ok(Call::Vmstat)
@@ -435,7 +435,7 @@ fn vmstat<A: Allocator + Copy + Send + Sync, V: JsonValue>(value: &V) -> Result<
 fn numa_maps<A: Allocator + Copy + Send + Sync, V: JsonValue>(
     value: &V,
 ) -> Result<Call<A>, StepError>
-    ensures call { Gives call_of result
+    ensures call { GivesStep call_of result
         (option_map calls.NumaMaps (small_at (codes "pid") (V.as_data value.now))) }
     ensures bad { IfErr result (λ e. e ≡ Bad) }
 {
@@ -452,7 +452,7 @@ fn named<A: Allocator + Copy + Send + Sync, V: JsonValue>(
     limit: usize,
 ) -> Result<Call<A>, StepError>
     requires { 0 < limit }
-    ensures call { Gives call_of result (form.named limit op.now (V.as_data value.now)) }
+    ensures call { GivesStep call_of result (form.step_named limit op.now (V.as_data value.now)) }
     ensures asked { result ≡ Err Memory → takes_memory op.now (V.as_data value.now) ≡ true }
 {
     match op {
@@ -487,7 +487,7 @@ pub fn step_of<A: Allocator + Copy + Send + Sync, V: JsonValue>(
     limit: usize,
 ) -> Result<Call<A>, StepError>
     requires { 0 < limit }
-    ensures call { Gives call_of result (form.step_of limit (V.as_data value.now)) }
+    ensures call { GivesStep call_of result (form.step_of limit (V.as_data value.now)) }
     ensures asked { result ≡ Err Memory →
         option_map (λ op. takes_memory op (V.as_data value.now))
         (form.text_at (codes "op") (V.as_data value.now))

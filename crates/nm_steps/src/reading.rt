@@ -11,7 +11,7 @@ ghost use Rattle.serde_json.specs.View as owned;
 ghost use Rattle.nm_steps.specs.Form as form;
 ghost use Rattle.nm_steps.specs.Faults as faults;
 ghost use Rattle.nm_steps.specs.Faults.{Gives};
-ghost use Rattle.nm_steps.specs.Plans.{plan_in};
+ghost use Rattle.nm_steps.specs.Plans.{contents_of};
 ghost use Rattle.nm_steps.specs.declared.trace_error.TraceError.TheVariants.{NotJson, BadMachine, HostMemory};
 ghost use Rattle.nm_steps.specs.declared.step_error.StepError.TheVariants.{Bad, Memory};
 ghost use Rattle.nm_steps.specs.Gives as of_step;
@@ -34,7 +34,7 @@ use std::str::from_utf8;
 
 /// A distance: below 256.
 fn distance_value<V: JsonValue>(value: &V) -> Result<u8, StepError>
-    ensures value { of_step.Gives (λ n. n) result (form.number_below (2 ^ 8) (V.as_data value.now)) }
+    ensures value { of_step.GivesStep (λ n. n) result (form.number_below (2 ^ 8) (V.as_data value.now)) }
     ensures bad { IfErr result (λ e. e ≡ Bad) }
 {
     let number = value.as_u64().ok_or(StepError::Bad)?;
@@ -46,7 +46,7 @@ fn distances_of<A: Allocator + Copy, V: JsonValue>(
     alloc: A,
     values: &[V],
 ) -> Result<Vec<u8, A>, StepError>
-    ensures row { of_step.Gives (λ v. v.items) result
+    ensures row { of_step.GivesStep (λ v. v.items) result
         (form.each (form.number_below (2 ^ 8)) (items_seen V.as_data values.now)) }
     ensures asked { result ≡ Err Memory → 0 < length values.now }
     ensures first { result ≡ Err Memory →
@@ -62,7 +62,7 @@ fn distances_of<A: Allocator + Copy, V: JsonValue>(
 
 /// A row of distances.
 fn row_of<A: Allocator + Copy, V: JsonValue>(alloc: A, value: &V) -> Result<Vec<u8, A>, StepError>
-    ensures row { of_step.Gives (λ v. v.items) result (form.row_of (V.as_data value.now)) }
+    ensures row { of_step.GivesStep (λ v. v.items) result (form.row_of (V.as_data value.now)) }
     ensures asked { result ≡ Err Memory → has_items (as_array (V.as_data value.now)) ≡ true }
     ensures first { result ≡ Err Memory →
         starts_at (form.number_below (2 ^ 8)) (as_array (V.as_data value.now)) ≡ true }
@@ -75,7 +75,7 @@ fn rows_of<A: Allocator + Copy, V: JsonValue>(
     alloc: A,
     values: &[V],
 ) -> Result<Vec<Vec<u8, A>, A>, StepError>
-    ensures rows { of_step.Gives (λ v. map (λ row. row.items) v.items) result
+    ensures rows { of_step.GivesStep (λ v. map (λ row. row.items) v.items) result
         (form.each form.row_of (items_seen V.as_data values.now)) }
     ensures asked { result ≡ Err Memory → 0 < length values.now }
     ensures first { result ≡ Err Memory →
@@ -95,7 +95,7 @@ fn machine_of<A: Allocator + Copy, V: JsonValue>(
     alloc: A,
     value: &V,
 ) -> Result<Geometry<A>, StepError>
-    ensures machine { of_step.Gives (λ g. g) result (form.machine_of (V.as_data value.now)) }
+    ensures machine { of_step.GivesStep (λ g. g) result (form.machine_of (V.as_data value.now)) }
     ensures asked { result ≡ Err Memory → machine_takes_memory (V.as_data value.now) ≡ true }
 {
     let machine = value.get("machine").ok_or(StepError::Bad)?;
@@ -111,7 +111,7 @@ fn machine_of<A: Allocator + Copy, V: JsonValue>(
 #[tactic(auto, unfolding(crate::specs::Form::limit_of))]
 fn limit_of<V: JsonValue>(value: &V) -> Result<usize, StepError>
     // In any case
-    ensures limit { of_step.Gives (λ n. n) result (form.limit_of (V.as_data value.now)) }
+    ensures limit { of_step.GivesStep (λ n. n) result (form.limit_of (V.as_data value.now)) }
 
     // On a fault
     ensures bad { IfErr result (λ e. e ≡ Bad) }
@@ -230,7 +230,7 @@ fn trace_on<A: Allocator + Copy + Send + Sync, V: JsonValue>(
     geometry: Geometry<A>,
     value: &V,
 ) -> Result<Trace<A>, TraceError>
-    ensures trace { Gives plan_in result (faults.plan_on geometry (V.as_data value.now)) }
+    ensures trace { Gives contents_of result (faults.plan_on geometry (V.as_data value.now)) }
     ensures asked { result ≡ Err (HostMemory 0) → steps_take_memory (V.as_data value.now) ≡ true }
 {
     let run_limit = run_limit_of(value)?;
@@ -249,7 +249,7 @@ fn trace_of<A: Allocator + Copy + Send + Sync, V: JsonValue>(
     alloc: A,
     value: &V,
 ) -> Result<Trace<A>, TraceError>
-    ensures trace { Gives plan_in result (faults.plan_of (V.as_data value.now)) }
+    ensures trace { Gives contents_of result (faults.plan_of (V.as_data value.now)) }
     ensures asked { result ≡ Err (HostMemory 0) → machine_takes_memory (V.as_data value.now) ≡ true }
 {
     let geometry = geometry_of(alloc, value)?;
@@ -289,7 +289,7 @@ pub fn read_trace<A: Allocator + Copy + Send + Sync>(
     heap: Global,
     bytes: &[u8],
 ) -> Result<Trace<A>, TraceError>
-    ensures trace { Gives plan_in result (faults.trace_of bytes.now) }
+    ensures trace { Gives contents_of result (faults.trace_of bytes.now) }
     ensures asked { result ≡ Err (HostMemory 0) → IsSomeText bytes.now }
 {
     let mut scratch = Scratch::new(heap);
@@ -303,7 +303,7 @@ impl<A: Allocator + Copy + Send + Sync> Trace<A> {
     ///
     /// `HostMemory(0)` if `alloc` is out of memory.
     pub fn from_value(alloc: A, value: &serde_json::Value) -> Result<Trace<A>, TraceError>
-        ensures trace { Gives plan_in result (faults.plan_of (owned.view value.now)) }
+        ensures trace { Gives contents_of result (faults.plan_of (owned.view value.now)) }
         ensures asked { result ≡ Err (HostMemory 0) →
             machine_takes_memory (owned.view value.now) ≡ true }
     {

@@ -13,7 +13,7 @@ ghost use Rattle.serde_json.specs.Data.{no_members, unsigned};
 ghost use Rattle.serde_json.specs.Find.{get, as_number, as_u64, as_bool, as_str, as_array};
 ghost use Rattle.serde_json.specs.Read.{number_of, number_from, of_json, of_items, of_members, read};
 ghost use Rattle.nm_steps.specs.Tree.{view, items_seen};
-ghost use Rattle.nm_steps.specs.Gives.{Gives};
+ghost use Rattle.nm_steps.specs.Gives.{GivesStep};
 ghost use Rattle.nm_steps.specs.Memory.{NeedsMemory};
 
 use crate::json_value::JsonValue;
@@ -30,7 +30,7 @@ const SHORT_DIGITS: usize = 19;
 
 /// The tree of all that a reader reads. `Bad` if that is not one value.
 fn next_tree<'a>(heap: Global, reader: &mut Reader<'a>) -> Result<Value<'a>, StepError>
-    ensures value { Gives value_view result
+    ensures value { GivesStep value_view result
         (option_and_then (λ p. grammar.if_last p.0 p.1) (grammar.value 127 reader.old)) }
     ensures asked { result ≡ Err Memory → IsTrue (opens reader.old) }
 {
@@ -54,7 +54,7 @@ pub(crate) fn read<'a>(
     text: &'a str,
     scratch: &'a mut Scratch,
 ) -> Result<Value<'a>, StepError>
-    ensures value { Gives view result (read text.now) }
+    ensures value { GivesStep view result (read text.now) }
     ensures asked { result ≡ Err Memory → NeedsMemory (room scratch.old) text.now }
 {
     let mut reader = Reader::new(text, scratch)?;

@@ -6,7 +6,7 @@ use Rattle.nm_steps.specs.Calls.{Call}
 use Rattle.nm_trace.specs.declared.playing.Summary.{Summary}
 use Rattle.nm_steps.specs.declared.trace_error.TraceError.{TraceError}
 use Rattle.nm_steps.specs.declared.trace_error.TraceError.TheVariants.{NotJson, BadMachine, BadStep, ReadFault, WriteFault, HostMemory}
-use Rattle.nm_steps.specs.Faults.{Fails, Gives, Plan, trace_of, trace_limit}
+use Rattle.nm_steps.specs.Faults.{Fails, Gives, TraceContents, trace_of, trace_limit}
 use Rattle.nm_trace.specs.Headline.{Runs}
 use Rattle.nm_trace.specs.Played.{ComesTo, Plays}
 use Rattle.nm_trace.specs.Telling.{GivesTrace, IsTraceOf}
@@ -14,13 +14,13 @@ use Rattle.nm_streams.proofs.Known.{appends_none}
 use Rattle.nm_trace.proofs.InParts.{report_front}
 
 -- a run from bytes
-abbrev pub RunsFrom : {P : Type 0} → (Plan → P → Type 0) → List ℕ → Option (List ℕ) → Option (List ℕ) → Result P TraceError → Type 0
+abbrev pub RunsFrom : {P : Type 0} → (TraceContents → P → Type 0) → List ℕ → Option (List ℕ) → Option (List ℕ) → Result P TraceError → Type 0
 RunsFrom Ends bytes old new result =
-    (trace : Result Plan TraceError) × IsTraceOf bytes trace × Runs Ends trace old new result × ComesTo trace old new result
+    (trace : Result TraceContents TraceError) × IsTraceOf bytes trace × Runs Ends trace old new result × ComesTo trace old new result
 
 -- ---- no trace
 
-pub no_trace : {P : Type 0} (Ends : Plan → P → Type 0) (bytes : List ℕ) (old : Option (List ℕ)) (e : TraceError) (result : Result P TraceError)
+pub no_trace : {P : Type 0} (Ends : TraceContents → P → Type 0) (bytes : List ℕ) (old : Option (List ℕ)) (e : TraceError) (result : Result P TraceError)
     → Fails e (trace_of bytes) → ((k : ℕ) → e ≡ HostMemory k → 0 < length bytes) → result ≡ Err e → RunsFrom Ends bytes old old result
 no_trace Ends bytes old NotJson result h some is = (Err NotJson, sym h, (is, appends_none old), tt)
 no_trace Ends bytes old BadMachine result h some is = (Err BadMachine, sym h, (is, appends_none old), tt)
@@ -30,17 +30,17 @@ no_trace Ends bytes old WriteFault result h some is = absurd h
 no_trace Ends bytes old (HostMemory k) result h some is = (Err (HostMemory k), (h, some k refl), (is, appends_none old), tt)
 
 -- the host has no memory for the machine
-pub no_memory : {P : Type 0} (Ends : Plan → P → Type 0) (bytes : List ℕ) (old : Option (List ℕ)) → 0 < length bytes → RunsFrom Ends bytes old old (Err (HostMemory 0))
+pub no_memory : {P : Type 0} (Ends : TraceContents → P → Type 0) (bytes : List ℕ) (old : Option (List ℕ)) → 0 < length bytes → RunsFrom Ends bytes old old (Err (HostMemory 0))
 no_memory Ends bytes old some = (Err (HostMemory 0), (refl, some), (refl, appends_none old), tt)
 
 -- what reading fails with is the trace's fault
-pub unread_fails : {X : Type 0} (view : X → Plan) (found : Result Plan TraceError) (r : Result X TraceError) (e : TraceError) → r ≡ Err e → Gives view r found → Fails e found
+pub unread_fails : {X : Type 0} (view : X → TraceContents) (found : Result TraceContents TraceError) (r : Result X TraceError) (e : TraceError) → r ≡ Err e → Gives view r found → Fails e found
 unread_fails view found r e is gives = subst (λ (x : Result _ TraceError). Gives view x found) is gives
 
 -- ---- a trace that is played
 
 -- a play that is cut short
-short : {P : Type 0} (Ends : Plan → P → Type 0) (plan : Plan) (t : SystemState) (old new : Option (List ℕ)) (e : TraceError)
+short : {P : Type 0} (Ends : TraceContents → P → Type 0) (plan : TraceContents) (t : SystemState) (old new : Option (List ℕ)) (e : TraceError)
     → Plays (system_with plan.layout plan.run_limit) plan.calls t old new (Err e) → Runs Ends (Ok plan) old new (Err e)
 short Ends plan t old new NotJson p = absurd p
 short Ends plan t old new BadMachine p = absurd p
@@ -56,7 +56,7 @@ short Ends plan t old new WriteFault p =
     )
 short Ends plan t old new (HostMemory k) p = (slice_get_within plan.calls k p.0.0 p.0.1, p.1)
 
-pub cut_short : {P : Type 0} (Ends : Plan → P → Type 0) (bytes : List ℕ) (plan : Plan) (s t : SystemState) (calls : List Call) (old new : Option (List ℕ))
+pub cut_short : {P : Type 0} (Ends : TraceContents → P → Type 0) (bytes : List ℕ) (plan : TraceContents) (s t : SystemState) (calls : List Call) (old new : Option (List ℕ))
     (played : Result Summary TraceError) (e : TraceError) (result : Result P TraceError)
     → trace_of bytes ≡ Ok plan → s ≡ system_with plan.layout plan.run_limit → calls ≡ plan.calls → Plays s calls t old new played → played ≡ Err e
     → result ≡ Err e → RunsFrom Ends bytes old new result
@@ -73,7 +73,7 @@ cut_short Ends bytes plan s t calls old new played e result trace start same p f
 -- ---- what a run returns
 
 -- an error that is handed on
-same_fault : {P Q : Type 0} (Ends : Plan → P → Type 0) (Also : Plan → Q → Type 0) (plan : Plan) (old new : Option (List ℕ)) (e : TraceError)
+same_fault : {P Q : Type 0} (Ends : TraceContents → P → Type 0) (Also : TraceContents → Q → Type 0) (plan : TraceContents) (old new : Option (List ℕ)) (e : TraceError)
     → Runs Ends (Ok plan) old new (Err e) → Runs Also (Ok plan) old new (Err e)
 same_fault Ends Also plan old new NotJson h = h
 same_fault Ends Also plan old new BadMachine h = h
@@ -86,22 +86,22 @@ same_fault Ends Also plan old new (HostMemory k) h = h
 one_error : {P : Type 0} (r : Result P TraceError) (d e : TraceError) → r ≡ Err d → r ≡ Err e → d ≡ e
 one_error r d e one other = let is : Err d ≡ Err e = sym one ∙ other in cc
 
-pub handed_on : {P Q : Type 0} (Ends : Plan → P → Type 0) (Also : Plan → Q → Type 0) (trace : Result Plan TraceError) (old new : Option (List ℕ)) (e : TraceError)
+pub handed_on : {P Q : Type 0} (Ends : TraceContents → P → Type 0) (Also : TraceContents → Q → Type 0) (trace : Result TraceContents TraceError) (old new : Option (List ℕ)) (e : TraceError)
     (r : Result P TraceError) (s : Result Q TraceError) → r ≡ Err e → s ≡ Err e → Runs Ends trace old new r → Runs Also trace old new s
 handed_on Ends Also (Err d) old new e r s is it h = (it ∙ ap Err (one_error r e d is h.0), h.1)
 handed_on Ends Also (Ok plan) old new e r s is it h =
     subst (Runs Also (Ok plan) old new) (sym it) (same_fault Ends Also plan old new e (subst (Runs Ends (Ok plan) old new) is h))
 
 -- another result of a run that played its trace to the end
-pub ended : {P Q : Type 0} (Ends : Plan → P → Type 0) (Also : Plan → Q → Type 0) (trace : Result Plan TraceError) (old new : Option (List ℕ)) (p : P) (q : Q)
-    (r : Result P TraceError) → r ≡ Ok p → ((plan : Plan) → Ends plan p → Also plan q) → Runs Ends trace old new r → Runs Also trace old new (Ok q)
+pub ended : {P Q : Type 0} (Ends : TraceContents → P → Type 0) (Also : TraceContents → Q → Type 0) (trace : Result TraceContents TraceError) (old new : Option (List ℕ)) (p : P) (q : Q)
+    (r : Result P TraceError) → r ≡ Ok p → ((plan : TraceContents) → Ends plan p → Also plan q) → Runs Ends trace old new r → Runs Also trace old new (Ok q)
 ended Ends Also (Err d) old new p q r is more h = let bad : Ok p ≡ Err d = sym is ∙ h.0 in absurd (cc)
 ended Ends Also (Ok plan) old new p q r is more h = more plan (subst (Runs Ends (Ok plan) old new) is h)
 
 -- ---- the bytes that were read
 
 -- the trace of all of them
-pub gives_all : (remaining : Option (List ℕ)) (before now : Bool) (gave : ℕ → Type 0) (items bytes : List ℕ) (trace : Result Plan TraceError)
+pub gives_all : (remaining : Option (List ℕ)) (before now : Bool) (gave : ℕ → Type 0) (items bytes : List ℕ) (trace : Result TraceContents TraceError)
     → IfSome remaining (λ xs. items ≡ xs) → length items ≤ trace_limit → gave (length items) → now ≡ before → bytes ≡ items
     → IsTraceOf bytes trace → GivesTrace remaining before now gave trace
 gives_all remaining before now gave items bytes (Ok plan) left few given kept is h = (kept, (items, left, given, few, h ∙ ap trace_of is))

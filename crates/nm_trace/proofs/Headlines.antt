@@ -12,7 +12,7 @@ use Rattle.nm_calls.specs.definitions.Outcome.{outcome}
 use Rattle.nm_calls.specs.definitions.Systems.{SystemState, system_with}
 use Rattle.nm_calls.proofs.CallLaws.BytesStay.{calls_keep_memory}
 use Rattle.nm_calls.proofs.CallLaws.StaysSound.{calls_stay_sound}
-use Rattle.nm_steps.specs.Faults.{Plan}
+use Rattle.nm_steps.specs.Faults.{TraceContents}
 use Rattle.nm_trace.specs.Headline.{KeepMemory, IsPlayed, StatesAreSound}
 use Rattle.nm_trace.specs.Played.{Plays}
 use Rattle.nm_trace.specs.Report.{report_from, state_after}
@@ -39,7 +39,7 @@ keep_memory s calls h k call q at here quiet =
     let before = state_after s (take k calls) in
     ap (λ (t : SystemState). mem t.state q at) (after_next s calls k call here) ∙ calls_keep_memory before call q at (all_sound s (take k calls) h) quiet
 
-pub played : (plan : Plan) (s t : SystemState) (calls : List Call) (old new : Option (List ℕ)) (result : Result Summary TraceError) (summary : Summary)
+pub played : (plan : TraceContents) (s t : SystemState) (calls : List Call) (old new : Option (List ℕ)) (result : Result Summary TraceError) (summary : Summary)
     → s ≡ system_with plan.layout plan.run_limit → calls ≡ plan.calls → result ≡ Ok summary → Plays s calls t old new result → IsPlayed plan summary.steps t old new
 played plan s t calls old new result summary start same done p =
     let q = subst (λ (r : Result Summary TraceError). Plays s calls t old new r) done p in

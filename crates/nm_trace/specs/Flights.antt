@@ -3,7 +3,7 @@ use Rattle.std.specs.Prelude.{◌≡◌, [], ◌∷◌, ◌++◌, codes, false}
 use Rattle.nm_types.specs.declared.errno.Errno.TheVariants.{Enomem}
 use Rattle.nm_model.specs.definitions.Touch.{Read, Write, Bytes, Done, Held, Refused}
 use Rattle.nm_steps.specs.Calls.{Spawn, MapPages, WriteBytes, MovePages, FreeList, Pagemap}
-use Rattle.nm_steps.specs.Faults.{Plan}
+use Rattle.nm_steps.specs.Faults.{TraceContents}
 use Rattle.nm_trace.specs.Report.{access_line, access_lines}
 use Rattle.nm_trace.specs.Played.{report_of}
 
@@ -23,7 +23,7 @@ pub record AccessLineRows : Type 0 where
 -- process 1 has five pages, and has written four, which fill node 0. The first moves to node 1. Meanwhile it is read,
 -- which is held; the second, which stays, is read; and the fifth is written: its frame is the one after that which the
 -- move took
-abbrev pub read_while_it_moves : Plan
+abbrev pub read_while_it_moves : TraceContents
 read_while_it_moves = record {
   layout = record { sizes = 4 ∷ 4 ∷ []; distances = (10 ∷ 20 ∷ []) ∷ (20 ∷ 10 ∷ []) ∷ [] };
   run_limit = 16384;

@@ -8,7 +8,7 @@ use Rattle.nm_steps.specs.Calls.{Call}
 use Rattle.nm_calls.specs.laws.Calls.{writes_or_maps, byte_after}
 use Rattle.nm_calls.specs.definitions.Outcome.{runs_of}
 use Rattle.nm_calls.specs.definitions.Systems.{SystemState, system_with}
-use Rattle.nm_steps.specs.Faults.{Plan}
+use Rattle.nm_steps.specs.Faults.{TraceContents}
 use Rattle.nm_trace.specs.declared.playing.Summary.{Summary}
 use Rattle.nm_trace.specs.Played.{report_of}
 use Rattle.nm_trace.specs.Report.{state_after}
@@ -28,7 +28,7 @@ abbrev pub StatesAreSound : Type 0
 StatesAreSound = (layout : Layout) (limit : ℕ) (calls : List Call) → IsSound (state_after (system_with layout limit) calls).state
 
 -- a trace was played to its end on a new machine
-pub record IsPlayed (plan : Plan) (steps : ℕ) (system : SystemState) (old new : Option (List ℕ)) : Type 0 where
+pub record IsPlayed (plan : TraceContents) (steps : ℕ) (system : SystemState) (old new : Option (List ℕ)) : Type 0 where
   -- each of its steps was made
   pub whole : steps ≡ length plan.calls
   -- the report on them was written
@@ -41,11 +41,11 @@ pub record IsPlayed (plan : Plan) (steps : ℕ) (system : SystemState) (old new 
   pub memory : KeepMemory (system_with plan.layout plan.run_limit) plan.calls
 
 -- the same, whatever system is left of it
-abbrev pub PlaysWhole : Option (List ℕ) → Option (List ℕ) → Plan → Summary → Type 0
+abbrev pub PlaysWhole : Option (List ℕ) → Option (List ℕ) → TraceContents → Summary → Type 0
 PlaysWhole old new plan summary = (system : SystemState) × IsPlayed plan summary.steps system old new
 
 -- the report on the steps of a trace before step k
-abbrev pub report_before : Plan → ℕ → List ℕ
+abbrev pub report_before : TraceContents → ℕ → List ℕ
 report_before plan k = report_of (record plan { calls = take k plan.calls })
 
 -- the written bytes, if known, grow by a front of a text
@@ -55,7 +55,7 @@ AppendsFront old new text = (front : List ℕ) × (rest : List ℕ) × (front ++
 -- what a run does with the trace that it was given: where there is none, it returns why, and writes nothing; of one that is played
 -- to its end and what it returns, `Ends` holds; where the writer fails, a front of the report was written; where the host has no
 -- memory for step k, the lines of the steps before it
-abbrev pub Runs : {P : Type 0} → (Plan → P → Type 0) → Result Plan TraceError → Option (List ℕ) → Option (List ℕ)
+abbrev pub Runs : {P : Type 0} → (TraceContents → P → Type 0) → Result TraceContents TraceError → Option (List ℕ) → Option (List ℕ)
     → Result P TraceError → Type 0
 Runs Ends (Err e) old new result = (result ≡ Err e) × Appends old new []
 Runs Ends (Ok plan) old new (Ok played) = Ends plan played

@@ -1,11 +1,11 @@
 -- A worked report.
 use Rattle.std.specs.Prelude.{◌≡◌, [], ◌∷◌, ◌++◌, codes, false}
 use Rattle.nm_steps.specs.Calls.{Spawn, MapPages, ReadBytes, WriteBytes, MovePages, FreeList, Pagemap}
-use Rattle.nm_steps.specs.Faults.{Plan}
+use Rattle.nm_steps.specs.Faults.{TraceContents}
 use Rattle.nm_trace.specs.Played.{report_of}
 
 -- three pages of a process, written on node 0, moved to node 1 and read there
-abbrev pub three_pages : Plan
+abbrev pub three_pages : TraceContents
 three_pages = record {
   layout = record { sizes = 4 ∷ 4 ∷ []; distances = (10 ∷ 20 ∷ []) ∷ (20 ∷ 10 ∷ []) ∷ [] };
   run_limit = 16384;

@@ -8,7 +8,7 @@ use Rattle.nm_calls.specs.definitions.Memory.{MayAllocate}
 use Rattle.nm_trace.specs.declared.playing.Summary.{Summary}
 use Rattle.nm_steps.specs.declared.trace_error.TraceError.{TraceError}
 use Rattle.nm_steps.specs.declared.trace_error.TraceError.TheVariants.{WriteFault, HostMemory}
-use Rattle.nm_steps.specs.Faults.{Plan}
+use Rattle.nm_steps.specs.Faults.{TraceContents}
 use Rattle.nm_calls.specs.definitions.Outcome.{outcome}
 use Rattle.nm_streams.specs.declared.block.Block.{Block}
 use Rattle.nm_streams.specs.Waiting.{BreaksOffSoon, Puts}
@@ -50,14 +50,14 @@ Plays s calls t old new (Err (HostMemory k)) = StopsAt s calls k t × Appends ol
 Plays s calls t old new (Err e) = ⊥
 
 -- the report on a trace: on its steps, from a new machine on
-abbrev pub report_of : Plan → List ℕ
+abbrev pub report_of : TraceContents → List ℕ
 report_of plan = report_from 0 (system_with plan.layout plan.run_limit) plan.calls
 
 -- a play of a trace on a new machine, whatever state it leaves
-abbrev pub PlaysNew : Plan → Option (List ℕ) → Option (List ℕ) → Result Summary TraceError → Type 0
+abbrev pub PlaysNew : TraceContents → Option (List ℕ) → Option (List ℕ) → Result Summary TraceError → Type 0
 PlaysNew plan old new result = (t : SystemState) × Plays (system_with plan.layout plan.run_limit) plan.calls t old new result
 
 -- how far a trace is played that is not played to its end
-abbrev pub ComesTo : {P : Type 0} → Result Plan TraceError → Option (List ℕ) → Option (List ℕ) → Result P TraceError → Type 0
+abbrev pub ComesTo : {P : Type 0} → Result TraceContents TraceError → Option (List ℕ) → Option (List ℕ) → Result P TraceError → Type 0
 ComesTo (Ok plan) old new (Err e) = PlaysNew plan old new (Err e)
 ComesTo trace old new result = Unit {0}

@@ -10,7 +10,7 @@ use Rattle.nm_calls.specs.definitions.Systems.{SystemState, system_with}
 use Rattle.nm_steps.specs.declared.trace_error.TraceError.{TraceError}
 use Rattle.nm_steps.specs.declared.trace_error.TraceError.TheVariants.{NotJson, BadMachine, BadStep, ReadFault, WriteFault, HostMemory}
 use Rattle.nm_steps.specs.Form as form
-use Rattle.nm_steps.specs.Faults.{Plan, ◌>>=◌, value_of}
+use Rattle.nm_steps.specs.Faults.{TraceContents, ◌>>=◌, value_of}
 use Rattle.nm_trace.specs.Played.{StopsIn, report_of}
 use Rattle.nm_trace.specs.Report.{text_of, report_from, state_after}
 
@@ -98,5 +98,5 @@ SessionsReport = (s : SessionState) (calls : List Call) → IsFed s calls
 -- a session that is given the steps of a trace returns the report on it
 abbrev pub SessionsAreTraces : Type 0
 SessionsAreTraces =
-    (plan : Plan) → let s : SessionState = record { system = system_with plan.layout plan.run_limit; steps = 0 } in
+    (plan : TraceContents) → let s : SessionState = record { system = system_with plan.layout plan.run_limit; steps = 0 } in
     all_lines s plan.calls ≡ report_of plan

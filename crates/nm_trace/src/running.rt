@@ -2,7 +2,7 @@
 
 ghost use Rattle.std.specs.Prelude.{◌≡◌, ◌⊎◌, ◌≤◌, ◌||◌, length, IfOk, OnOk, IfErr, IfSome, Err, Result};
 ghost use Rattle.std.specs.Io.KnownBytes.{IsAtEnd};
-ghost use Rattle.nm_steps.specs.Faults.{Plan, trace_limit};
+ghost use Rattle.nm_steps.specs.Faults.{TraceContents, trace_limit};
 ghost use Rattle.nm_trace.specs.Headline.{IsPlayed, PlaysWhole, Runs};
 ghost use Rattle.nm_trace.specs.Played.{ComesTo};
 ghost use Rattle.nm_trace.specs.Telling.{GivesTrace, IsTraceOf, is_write_fault};
@@ -58,7 +58,7 @@ fn run_bytes<A: Allocator + Copy + Send + Sync, C: RunCrew<A>, W: TellingWriter>
     writer: &mut W,
 ) -> Result<Played<A>, TraceError>
     // The trace
-    ensures runs { (trace : Result Plan TraceError) × IsTraceOf bytes.now trace
+    ensures runs { (trace : Result TraceContents TraceError) × IsTraceOf bytes.now trace
         × Runs (λ plan p. IsPlayed plan p.summary.steps p.system (W.contents writer.old) (W.contents writer.new))
         trace (W.contents writer.old) (W.contents writer.new) result
         × ComesTo trace (W.contents writer.old) (W.contents writer.new) result }
@@ -93,7 +93,7 @@ pub fn run_on<A: Allocator + Copy + Send + Sync, C: RunCrew<A>, R: TellingReader
     writer: &mut W,
 ) -> Result<Played<A>, TraceError>
     // The reader gives a trace, which is played to the writer
-    ensures runs { (trace : Result Plan TraceError)
+    ensures runs { (trace : Result TraceContents TraceError)
         × GivesTrace (R.remaining reader.old) (R.has_failed reader.old) (R.has_failed reader.new) (R.gave reader.old reader.new) trace
         × Runs (λ plan p. IsPlayed plan p.summary.steps p.system (W.contents writer.old) (W.contents writer.new))
         trace (W.contents writer.old) (W.contents writer.new) result
@@ -123,7 +123,7 @@ pub fn run_trace<
     W: TellingWriter,
 >(crew: &C, alloc: A, heap: Global, reader: &mut R, writer: &mut W) -> Result<Summary, TraceError>
     // The reader gives a trace, which is played to the writer
-    ensures runs { (trace : Result Plan TraceError)
+    ensures runs { (trace : Result TraceContents TraceError)
         × GivesTrace (R.remaining reader.old) (R.has_failed reader.old) (R.has_failed reader.new) (R.gave reader.old reader.new) trace
         × Runs (PlaysWhole (W.contents writer.old) (W.contents writer.new)) trace (W.contents writer.old) (W.contents writer.new) result }
 

@@ -4,7 +4,7 @@
 
 ghost use Rattle.std.specs.Prelude.{◌<◌, length};
 ghost use Rattle.nm_steps.specs.Faults.{Gives, trace_of};
-ghost use Rattle.nm_steps.specs.Plans.{plan_in};
+ghost use Rattle.nm_steps.specs.Plans.{contents_of};
 
 mod making;
 mod moving;
@@ -22,7 +22,7 @@ use values::{play_new, read_value};
 
 /// The trace in these bytes, or if there are none, one that is made here.
 fn trace_to_play(heap: Global, bytes: &[u8]) -> Result<Trace<Global>, TraceError>
-    ensures given { 0 < length bytes.now → Gives plan_in result (trace_of bytes.now) }
+    ensures given { 0 < length bytes.now → Gives contents_of result (trace_of bytes.now) }
 {
     if !bytes.is_empty() {
         return read_value(heap, bytes);

@@ -5,7 +5,7 @@ ghost use Rattle.std.specs.Prelude.{◌≡◌, ◌⊎◌, Err};
 ghost use Rattle.nm_steps.specs.Faults.{Gives, trace_of};
 ghost use Rattle.nm_steps.specs.Memory.{IsSomeText};
 ghost use Rattle.nm_steps.specs.declared.trace_error.TraceError.TheVariants.{HostMemory};
-ghost use Rattle.nm_steps.specs.Plans.{plan_in};
+ghost use Rattle.nm_steps.specs.Plans.{contents_of};
 ghost use Rattle.nm_trace.specs.Played.{PlaysNew};
 
 use nm_calls::System;
@@ -21,7 +21,7 @@ use std::str::from_utf8;
 /// The trace in these bytes, by way of a value, or their first fault: by contract what `read_trace` returns.
 #[tactic(auto, unfolding(nm_steps::specs::Faults::trace_of))]
 pub fn read_value(heap: Global, bytes: &[u8]) -> Result<Trace<Global>, TraceError>
-    ensures trace { Gives plan_in result (trace_of bytes.now) }
+    ensures trace { Gives contents_of result (trace_of bytes.now) }
     ensures asked { result ≡ Err (HostMemory 0) → IsSomeText bytes.now }
 {
     let Ok(text) = from_utf8(bytes) else {
@@ -45,7 +45,7 @@ pub fn play_new<W: TellingWriter>(
     trace: &Trace<Global>,
     out: &mut W,
 ) -> Result<Summary, TraceError>
-    ensures plays { PlaysNew (plan_in trace.now) (W.contents out.old) (W.contents out.new) result
+    ensures plays { PlaysNew (contents_of trace.now) (W.contents out.old) (W.contents out.new) result
         ⊎ (result ≡ Err (HostMemory 0)) × (out.new ≡ out.old) }
 {
     // (the kit's borrow checker looks for what a crew works on among the types of this function)

@@ -8,7 +8,7 @@ use Rattle.clap.specs.declared.error.kind.ErrorKind.{ErrorKind as ParseKind}
 use Rattle.clap.specs.declared.error.kind.ErrorKind.TheVariants as parse
 use Rattle.nm_steps.specs.declared.trace_error.TraceError.{TraceError}
 use Rattle.nm_steps.specs.declared.trace_error.TraceError.TheVariants.{NotJson, BadMachine, BadStep, ReadFault, WriteFault, HostMemory}
-use Rattle.nm_steps.specs.Faults.{Plan}
+use Rattle.nm_steps.specs.Faults.{TraceContents}
 use Rattle.nm_trace.specs.Headline.{PlaysWhole, Runs}
 use Rattle.nm_trace.specs.Telling.{GivesTrace, is_write_fault}
 use Rattle.nm_trace.specs.declared.playing.Summary.{Summary}
@@ -77,7 +77,7 @@ pub record RunsTrace {R W E : Type 0} (remaining : R → Option (List ℕ)) (rea
   pub accepted : refusals ≡ []
   pub result : Result Summary TraceError
   pub ends : status ≡ status_after result
-  pub runs : (trace : Result Plan TraceError) × GivesTrace (remaining r) (read_failed r) (read_failed s) (gave r s) trace
+  pub runs : (trace : Result TraceContents TraceError) × GivesTrace (remaining r) (read_failed r) (read_failed s) (gave r s) trace
       × Runs (PlaysWhole (contents w) (contents v)) trace (contents w) (contents v) result
   pub writes : write_failed v ≡ (is_write_fault result || write_failed w)
   pub quiet : status ≡ 0 → f ≡ e

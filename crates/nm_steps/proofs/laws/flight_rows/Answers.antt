@@ -1,10 +1,10 @@
 use Rattle.std.proofs.Common.{refl}
 use Rattle.hex.specs.Hex.{decode_pairs}
-use Rattle.nm_steps.specs.Form.{access_named, in_flight, read_access, write_access}
+use Rattle.nm_steps.specs.Form.{access_named, during_of, read_access, write_access}
 use Rattle.nm_steps.proofs.laws.flight_rows.Goals as goal
 
 pub returns : goal.returns
-unfolding access_named in_flight read_access write_access decode_pairs
+unfolding access_named during_of read_access write_access decode_pairs
 returns c = record {
   read = refl;
   write = refl;

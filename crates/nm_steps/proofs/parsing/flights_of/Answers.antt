@@ -2,7 +2,7 @@ use Rattle.std.proofs.Common.{arith}
 use Rattle.std.proofs.lemmas.List.{map-append}
 use Rattle.nm_model.specs.views.Asked.{access_shown}
 use Rattle.nm_steps.specs.Views.{shown_during}
-use Rattle.nm_steps.specs.Form.{in_flight}
+use Rattle.nm_steps.specs.Form.{during_of}
 use Rattle.nm_steps.specs.Memory.{flight_asks}
 use Rattle.nm_steps.proofs.Each.{goes_on, ends, is_done, begins_by}
 use Rattle.nm_steps.proofs.Memory.{handed_on, fails_on, is_asked_in, is_read}
@@ -12,7 +12,7 @@ pub loop-value-preserved : goal.loop-value-preserved
 loop-value-preserved g c =
     let flight = c.in_ok-flight.flight in record {
       read = rw (c.in_ok-put.ensures.put, map-append)
-          (goes_on (in_flight c.args.runs) (shown_during c.loop-value.flights.items) g.V.JsonValue.as_data c.args.values.now c.loop-value.value-index c.value-item.result _ c.loop-value-test.true c.value-item.is (flight.run, access_shown flight.access) c.in_ok-flight.ensures.flight c.loop-value.invariant.read);
+          (goes_on (during_of c.args.runs) (shown_during c.loop-value.flights.items) g.V.JsonValue.as_data c.args.values.now c.loop-value.value-index c.value-item.result _ c.loop-value-test.true c.value-item.is (flight.run, access_shown flight.access) c.in_ok-flight.ensures.flight c.loop-value.invariant.read);
       first = λ more. begins_by (flight_asks c.args.runs) g.V.JsonValue.as_data c.args.values.now c.loop-value.value-index c.value-item.result c.loop-value-test.true c.value-item.is (is_read _ _ _ c.in_ok-flight.ensures.flight) c.loop-value.invariant.first;
     }
 
@@ -29,8 +29,8 @@ returns-in_err-flight-clause-asked g c = λ is.
 pub returns-in_err-flight-clause-flights : goal.returns-in_err-flight-clause-flights
 returns-in_err-flight-clause-flights g c =
     fails_on _ c.from_residual.result _ _ c.from_residual.ensures
-    (ends (in_flight c.args.runs) (shown_during c.loop-value.flights.items) g.V.JsonValue.as_data c.args.values.now c.loop-value.value-index c.value-item.result _ c.loop-value-test.true c.value-item.is _ c.in_err-flight.ensures.flight c.loop-value.invariant.read)
+    (ends (during_of c.args.runs) (shown_during c.loop-value.flights.items) g.V.JsonValue.as_data c.args.values.now c.loop-value.value-index c.value-item.result _ c.loop-value-test.true c.value-item.is _ c.in_err-flight.ensures.flight c.loop-value.invariant.read)
 
 pub returns-clause-flights : goal.returns-clause-flights
 returns-clause-flights g c =
-    is_done (in_flight c.args.runs) (shown_during c.loop-value.flights.items) g.V.JsonValue.as_data c.args.values.now c.loop-value.value-index _ (omega (arith, c.loop-value-test.false)) c.loop-value.invariant.read
+    is_done (during_of c.args.runs) (shown_during c.loop-value.flights.items) g.V.JsonValue.as_data c.args.values.now c.loop-value.value-index _ (omega (arith, c.loop-value-test.false)) c.loop-value.invariant.read

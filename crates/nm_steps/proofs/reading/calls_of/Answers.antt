@@ -7,7 +7,7 @@ use Rattle.nm_steps.specs.declared.trace_error.TraceError.{TraceError}
 use Rattle.nm_steps.specs.declared.trace_error.TraceError.TheVariants.{BadStep}
 use Rattle.nm_steps.specs.Faults.{first_bad}
 use Rattle.nm_steps.specs.Form.{step_of}
-use Rattle.nm_steps.specs.Gives.{Fails}
+use Rattle.nm_steps.specs.Gives.{FailsStep}
 use Rattle.nm_steps.specs.Tree.{items_seen}
 use Rattle.nm_steps.specs.Views.{call_of}
 use Rattle.nm_steps.specs.Memory.{step_asks}
@@ -35,7 +35,7 @@ pub returns-in-Err-Bad-clause-calls : goal.returns-in-Err-Bad-clause-calls
 returns-in-Err-Bad-clause-calls g c =
     let value = c.index-values-k.result in
     let bad : step_of c.args.limit (g.V.JsonValue.as_data value) ≡ None =
-    subst (λ e. Fails e (step_of c.args.limit (g.V.JsonValue.as_data value))) c.in-Err-Bad.field-0-is c.in-Err-Bad.ensures.call in
+    subst (λ e. FailsStep e (step_of c.args.limit (g.V.JsonValue.as_data value))) c.in-Err-Bad.field-0-is c.in-Err-Bad.ensures.call in
     let none = ends (step_of c.args.limit) (map call_of c.loop-k.calls.items) g.V.JsonValue.as_data c.args.values.now c.loop-k.k value _ c.loop-k-test.true c.index-values-k.is Bad bad c.loop-k.invariant.read in
     let here = is_here c.args.limit g.V.JsonValue.as_data c.args.values.now c.loop-k.k value c.loop-k-test.true c.index-values-k.is bad _ c.loop-k.invariant.place in
     let fault : ℕ → Result (List Call) TraceError = λ n. Err (BadStep n) in
