@@ -23,12 +23,12 @@ use Rattle.nm_calls.specs.declared.call_error.CallError.{CallError}
 use Rattle.nm_calls.specs.declared.call_error.CallError.TheVariants.{Refused, HostMemory}
 use Rattle.nm_calls.specs.declared.answer.Moved.{Moved}
 use Rattle.nm_calls.specs.definitions.Answers.{Answer, Refusal, Done, Statuses, Failed}
-use Rattle.nm_calls.specs.definitions.Permission.{owner_of, moves_all, query_refusal, allowed_at}
+use Rattle.nm_calls.specs.definitions.Permission.{owner_of, has_move_all, query_refusal, allowed_at}
 use Rattle.nm_calls.specs.definitions.Batch.{move_refusal}
 use Rattle.nm_calls.specs.definitions.Migrate.{migrate_refusal, migration}
 use Rattle.nm_calls.specs.views.Errors.{out_of_memory, of_machine}
 use Rattle.nm_calls.specs.definitions.Systems.{SystemState, in_state}
-use Rattle.nm_calls.specs.definitions.Outcome.{Outcome, refusal_in, refused, refused_at_once, start, sets_policy, runs_asked, runs_of, accesses_asked, ended, outcome, states_from, trail, after_runs}
+use Rattle.nm_calls.specs.definitions.Outcome.{Outcome, refusal_in, refusal_of, refused_at_once, start, sets_policy, runs_asked, runs_of, accesses_asked, end_of_call, outcome, states_from, trail, after_runs}
 use Rattle.nm_calls.specs.definitions.Does.{HostLeaves, Does, Moves}
 use Rattle.nm_calls.proofs.Trails.{runs_unless, state_unless}
 
@@ -38,10 +38,10 @@ LeavesSome old call runs policy_set new =
     ((runs ≡ 0) × (policy_set ≡ false) × (new ≡ old))
     ⊎ ((runs < length (runs_of old call)) × (policy_set ≡ sets_policy call) × (new ≡ after_runs old call runs))
 
-pub answers : (y : SystemState) (call : Call) (o : Outcome) → refused y.state call ≡ None → ended y call (runs_from 0 (start y call) (runs_asked y call) (accesses_asked call)) ≡ o → outcome y call ≡ o
+pub answers : (y : SystemState) (call : Call) (o : Outcome) → refusal_of y.state call ≡ None → end_of_call y call (runs_from 0 (start y call) (runs_asked y call) (accesses_asked call)) ≡ o → outcome y call ≡ o
 answers y call o none is = rw none is
 
-pub refuses : (y : SystemState) (call : Call) (e : Errno) → refused y.state call ≡ Some e → outcome y call ≡ record { answer = Refusal e; system = y }
+pub refuses : (y : SystemState) (call : Call) (e : Errno) → refusal_of y.state call ≡ Some e → outcome y call ≡ record { answer = Refusal e; system = y }
 refuses y call e is = rw is refl
 
 -- a write whose touch is not refused is not refused
@@ -56,7 +56,7 @@ write_goes s pid addr bytes h =
 pub unchanged : (y : SystemState) (call : Call) (runs : ℕ) (policy_set : Bool) (new : SystemState) → refused_at_once y.state call ≡ None → runs ≡ 0 → policy_set ≡ false → new ≡ y → HostLeaves y call runs policy_set new
 unchanged y call runs policy_set new at_once none unset same = (at_once, inl (none, unset, same))
 
-some_left : (y : SystemState) (call : Call) (rs : List Stretch) (runs : ℕ) (s : State) → refused y.state call ≡ None → runs_asked y call ≡ rs → start y call ≡ y.state → sets_policy call ≡ false → runs ≤ length rs - 1 → s ≡ slice_index_or (states_from 0 y.state rs (accesses_asked call)) runs y.state → LeavesSome y call runs false (in_state y s)
+some_left : (y : SystemState) (call : Call) (rs : List Stretch) (runs : ℕ) (s : State) → refusal_of y.state call ≡ None → runs_asked y call ≡ rs → start y call ≡ y.state → sets_policy call ≡ false → runs ≤ length rs - 1 → s ≡ slice_index_or (states_from 0 y.state rs (accesses_asked call)) runs y.state → LeavesSome y call runs false (in_state y s)
 some_left y call [] runs s none asked from unset few is =
     let zero_is : runs ≡ 0 = omega (arith, few) in
     inl (zero_is, refl, ap (in_state y) (is ∙ ap (λ n. slice_index_or (states_from 0 y.state [] (accesses_asked call)) n y.state) zero_is))
@@ -68,7 +68,7 @@ some_left y call (r ∷ rs) runs s none asked from unset few is =
     ∙ ap (λ s. slice_index_or (states_from 0 s (runs_asked y call) during) runs y.state) from ∙ ap (λ rs. slice_index_or (states_from 0 y.state rs during) runs y.state) asked) in
     inr (omega (arith, n, few), sym unset, ap (in_state y) (is ∙ there))
 
-pub host_leaves : (y : SystemState) (call : Call) (runs : ℕ) (policy_set : Bool) (s : State) → refused y.state call ≡ None → refused_at_once y.state call ≡ None → start y call ≡ y.state → sets_policy call ≡ false → policy_set ≡ false → runs ≤ length (runs_asked y call) - 1 → s ≡ slice_index_or (states_from 0 y.state (runs_asked y call) (accesses_asked call)) runs y.state → HostLeaves y call runs policy_set (in_state y s)
+pub host_leaves : (y : SystemState) (call : Call) (runs : ℕ) (policy_set : Bool) (s : State) → refusal_of y.state call ≡ None → refused_at_once y.state call ≡ None → start y call ≡ y.state → sets_policy call ≡ false → policy_set ≡ false → runs ≤ length (runs_asked y call) - 1 → s ≡ slice_index_or (states_from 0 y.state (runs_asked y call) (accesses_asked call)) runs y.state → HostLeaves y call runs policy_set (in_state y s)
 host_leaves y call runs policy_set s none at_once from unset given few is = (at_once, subst (λ b. LeavesSome y call runs b (in_state y s)) (sym given) (some_left y call (runs_asked y call) runs s none refl from unset few is))
 
 -- the error that a question mark hands on
@@ -94,7 +94,7 @@ no_lack r e runs policy_set is lack = let told : r ≡ Err (Refused e) = err_is 
 
 module _ {T : Type 0} (view : T → Answer) (y : SystemState) (call : Call) (r : Result T CallError) where
   -- a call that is refused
-  pub refuses_by : (e : Errno) → refused y.state call ≡ Some e → IsErr r × IsErrAnd r (λ x. x ≡ Refused e) → Does view r y y call
+  pub refuses_by : (e : Errno) → refusal_of y.state call ≡ Some e → IsErr r × IsErrAnd r (λ x. x ≡ Refused e) → Does view r y y call
   refuses_by e h is = subst (λ r. Does view r y y call) (sym (err_is r (Refused e) is)) (refuses y call e h)
 
   -- the host has no memory before the first run
@@ -102,7 +102,7 @@ module _ {T : Type 0} (view : T → Answer) (y : SystemState) (call : Call) (r :
   out_at_once none is = subst (λ r. Does view r y y call) (sym (err_is r (out_of_memory 0) is)) (none, inl (refl, refl, refl))
 
 -- a call that only tells something, and is refused or without memory
-pub tells_error : {S T : Type 0} (view : T → Answer) (y : SystemState) (call : Call) (r : Result T CallError) (e : MachineError) (Holds : S → Type 0) → refused_at_once y.state call ≡ refused y.state call → Tells (Err e) (refused y.state call) Holds → AsksLast {T = S} (Err e) (refused y.state call)
+pub tells_error : {S T : Type 0} (view : T → Answer) (y : SystemState) (call : Call) (r : Result T CallError) (e : MachineError) (Holds : S → Type 0) → refused_at_once y.state call ≡ refusal_of y.state call → Tells (Err e) (refusal_of y.state call) Holds → AsksLast {T = S} (Err e) (refusal_of y.state call)
     → IsErr r × IsErrAnd r (λ x. x ≡ of_machine e) → Does view r y y call
 tells_error view y call r (machine.Refused e) Holds same told last is = refuses_by view y call r e told is
 tells_error view y call r machine.HostMemory Holds same told last is = out_at_once view y call r (same ∙ last) is
@@ -132,8 +132,8 @@ module _ (s : State) (caller pid : ℕ) (nodes : List ℕ) (flags : ℕ) where
 
 -- a call that moves a batch
 pub moves_does : {A : Type 0} (y : SystemState) (caller pid : ℕ) (pages nodes : List ℕ) (flags : ℕ) (during : List (ℕ × Access)) (r : Result (Moved A) CallError) (new : State) → move_refusal y.state caller pid nodes flags ≡ None
-    → Moves r y.state new y.run_limit (requests_of (owner_of caller pid) (moves_all flags) pages nodes) during → Does (λ moved. Statuses moved.failed moved.statuses.items (map answer_shown moved.answers.items)) r y (in_state y new) (MovePages caller pid pages nodes flags during)
-unfolding refused refused_at_once start sets_policy runs_asked accesses_asked ended
+    → Moves r y.state new y.run_limit (requests_of (owner_of caller pid) (has_move_all flags) pages nodes) during → Does (λ moved. Statuses moved.failed moved.statuses.items (map answer_shown moved.answers.items)) r y (in_state y new) (MovePages caller pid pages nodes flags during)
+unfolding refusal_of refused_at_once start sets_policy runs_asked accesses_asked end_of_call
 moves_does y caller pid pages nodes flags during (Ok moved) new none m =
     answers y (MovePages caller pid pages nodes flags during) (record { answer = Statuses moved.failed moved.statuses.items (map answer_shown moved.answers.items); system = in_state y new }) none (rw (m.0, m.1, m.2, m.3) refl)
 moves_does y caller pid pages nodes flags during (Err (Refused e)) new none m = absurd m
@@ -143,7 +143,7 @@ moves_does y caller pid pages nodes flags during (Err (HostMemory runs policy_se
 -- a call that moves the pages of nodes
 pub migrates_does : {A : Type 0} (y : SystemState) (caller pid : ℕ) (from to : List ℕ) (r : Result (Moved A) CallError) (new : State) → migrate_refusal y.state caller pid from to ≡ None → Moves r y.state new y.run_limit (migration y.state caller pid from to) []
     → Does (λ (moved : Moved A). Failed moved.failed) r y (in_state y new) (MigratePages caller pid from to)
-unfolding refused refused_at_once start sets_policy runs_asked accesses_asked ended
+unfolding refusal_of refused_at_once start sets_policy runs_asked accesses_asked end_of_call
 migrates_does y caller pid from to (Ok moved) new none m = answers y (MigratePages caller pid from to) (record { answer = Failed moved.failed; system = in_state y new }) none (rw (m.1, m.3) refl)
 migrates_does y caller pid from to (Err (Refused e)) new none m = absurd m
 migrates_does y caller pid from to (Err (HostMemory runs policy_set)) new none m = host_leaves y (MigratePages caller pid from to) runs policy_set new none none refl refl m.0 m.1 m.2

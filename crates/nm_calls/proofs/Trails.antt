@@ -7,7 +7,7 @@ use Rattle.nm_model.specs.definitions.Cut.{Stretch}
 use Rattle.nm_model.specs.definitions.Touch.{Access}
 use Rattle.nm_model.specs.definitions.Run.{run}
 use Rattle.nm_model.specs.definitions.Run.{accesses_of, runs_from}
-use Rattle.nm_calls.specs.definitions.Outcome.{states_from, runs_of, accesses_asked, started}
+use Rattle.nm_calls.specs.definitions.Outcome.{states_from, runs_of, accesses_asked, state_before_runs}
 use Rattle.nm_calls.specs.laws.Calls.{TrailIsAfterRuns}
 
 -- these runs, or none if there is a refusal
@@ -26,7 +26,7 @@ states_are k s (r ∷ rs) during zero d h = refl
 states_are k s (r ∷ rs) during (suc n) d h = states_are (k + 1) (run s r.target r.wanted (accesses_of k during)).state rs during n d (omega (arith, h))
 
 pub trail_is_after_runs : TrailIsAfterRuns
-trail_is_after_runs y call n d h = states_are 0 (started y call) (runs_of y call) (accesses_asked call) n d h
+trail_is_after_runs y call n d h = states_are 0 (state_before_runs y call) (runs_of y call) (accesses_asked call) n d h
 
 -- before the first run it is the state as it was
 pub first_state : (s : State) (rs : List Stretch) (during : List (ℕ × Access)) → s ≡ slice_index_or (states_from 0 s rs during) 0 s

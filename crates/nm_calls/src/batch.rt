@@ -13,7 +13,7 @@ ghost use Rattle.nm_model.specs.definitions.Run.{HasOneAll};
 ghost use Rattle.nm_calls.specs.definitions.Does.{Moves, MovesRuns};
 ghost use Rattle.nm_steps.specs.Views.{shown_during};
 ghost use Rattle.std.specs.Map.{keys_of};
-ghost use Rattle.nm_calls.specs.definitions.Batch.{in_order, left_shown, AreByRun};
+ghost use Rattle.nm_calls.specs.definitions.Batch.{answers_in_order, left_shown, AreByRun};
 ghost use Rattle.nm_model.specs.views.Asked.{access_shown};
 ghost use Rattle.nm_memory.specs.views.Accesses.{answer_shown};
 
@@ -169,7 +169,7 @@ pub(crate) fn in_order<A: Allocator + Copy + Send + Sync>(
     requires empty { answers.items ≡ [] }
     requires room { length during.now ≤ vec_capacity answers }
     ensures { map answer_shown result.items
-        ≡ in_order (keys_of (shown_during during.now)) (map left_shown told.items) }
+        ≡ answers_in_order (keys_of (shown_during during.now)) (map left_shown told.items) }
 {
     for asked in during {
         if let Some(left) = told.get_mut(asked.run) {

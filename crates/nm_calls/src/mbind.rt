@@ -9,7 +9,7 @@ ghost use Rattle.nm_model.specs.definitions.Effect.{set_range_policy};
 ghost use Rattle.nm_calls.specs.declared.call_error.CallError.TheVariants.{HostMemory};
 ghost use Rattle.nm_calls.specs.definitions.Permission.{info_at};
 ghost use Rattle.nm_calls.specs.definitions.Permission.{usable};
-ghost use Rattle.nm_calls.specs.definitions.Mbind.{preferred, policy_of, policy_asked, is_misfit, is_bad_set, moves, is_stray, mode_refusal, range_of, range_refusal, home_of, is_strict, listed, mbind_runs, mbind_refusal, binding};
+ghost use Rattle.nm_calls.specs.definitions.Mbind.{preferred_policy, policy_of, policy_asked, is_misfit, is_bad_set, has_move, is_stray, mode_refusal, range_of, binding_refusal, home_of, is_strict, pages_to_bind, mbind_runs, mbind_refusal, binding};
 ghost use Rattle.nm_calls.specs.views.Runs.{nodes_named, Binds};
 
 use crate::call_error::CallError;
@@ -48,7 +48,7 @@ pub(crate) struct Binding {
 
 /// The lowest node is preferred, or the nearest if there is none.
 fn preferred(nodes: NodeMask) -> Policy
-    ensures { result ≡ preferred nodes }
+    ensures { result ≡ preferred_policy nodes }
 {
     match nodes.nth(0) {
         Some(node) => Policy::Preferred(node),
@@ -174,7 +174,7 @@ fn asked_of<A: Allocator + Copy + Send + Sync>(
 
 /// Whether flags ask for moves.
 fn wants_moves(flags: MoveFlags) -> bool
-    ensures { result ≡ moves flags }
+    ensures { result ≡ has_move flags }
 {
     flags.moves() || flags.moves_all()
 }
@@ -188,7 +188,7 @@ fn binding_of<A: Allocator + Copy + Send + Sync>(
     flags: MoveFlags,
 ) -> Result<Binding, Errno>
     ensures exact { Checks result
-        (range_refusal machine.now request.now.caller request.now.addr request.now.len policy flags) }
+        (binding_refusal machine.now request.now.caller request.now.addr request.now.len policy flags) }
     ensures range { IfOk result
         (λ b. b ≡ range_of request.now.caller request.now.addr request.now.len policy) }
     ensures few { IfOk result (λ b. b.end - b.first ≤ 2 ^ 52) }
@@ -245,9 +245,9 @@ fn listed<A: Allocator + Copy + Send + Sync>(
     binding: &Binding,
     flags: MoveFlags,
 ) -> Result<Vec<Located, A>, AllocError>
-    ensures list { IfOk result (λ pages. pages.items ≡ listed machine.now binding.now flags) }
+    ensures list { IfOk result (λ pages. pages.items ≡ pages_to_bind machine.now binding.now flags) }
     ensures few { IfOk result (λ pages. length pages.items ≤ binding.now.end - binding.now.first) }
-    ensures asked { OnErr result (moves flags ≡ true) }
+    ensures asked { OnErr result (has_move flags ≡ true) }
 {
     if wants_moves(flags) {
         return astray(alloc, machine, *binding);
@@ -289,7 +289,7 @@ pub(crate) fn bind<A: Allocator + Copy + Send + Sync, C: RunCrew<A>>(
         (mbind_runs limit set binding.now asked.flags) asked.flags }
     ensures asked { (runs : ℕ) (policy_set : Bool) →
         result ≡ Err (HostMemory runs policy_set) →
-        (moves asked.flags ≡ true)
+        (has_move asked.flags ≡ true)
         ⊎ HasSplit machine.old.areas binding.now.pid binding.now.first
         ⊎ HasSplit machine.old.areas binding.now.pid binding.now.end }
 {

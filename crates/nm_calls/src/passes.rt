@@ -14,7 +14,7 @@ ghost use Rattle.nm_model.specs.definitions.Cut.{cut_within};
 ghost use Rattle.nm_model.specs.definitions.Status.{code};
 ghost use Rattle.nm_model.specs.definitions.Run.{HasOneAll};
 ghost use Rattle.nm_model.specs.definitions.Touch.{has_free};
-ghost use Rattle.nm_calls.specs.definitions.Passes.{passes, without_frame};
+ghost use Rattle.nm_calls.specs.definitions.Passes.{passes, short_of_frames};
 ghost use Rattle.nm_calls.specs.laws.Full.{StandsOn, AreStanding, WouldMove};
 ghost use Rattle.nm_calls.specs.views.Runs.{Batches, RunsGive, MakesRuns, later, IsCounted, IsLeft};
 
@@ -74,7 +74,7 @@ fn put_without_frame<A: Allocator + Copy>(
     requires paired { length wanted.now ≡ length statuses.now }
     requires empty { left.old.items ≡ [] }
     requires room { length wanted.now ≤ vec_capacity left.old }
-    ensures { left.new.items ≡ without_frame wanted.now statuses.now }
+    ensures { left.new.items ≡ short_of_frames wanted.now statuses.now }
 {
     for (k, page) in wanted.iter().enumerate() {
         if is_short(&statuses[k]) {
@@ -120,7 +120,7 @@ fn make_pass<A: Allocator + Copy + Send + Sync, C: RunCrew<A>>(
     requires alike { HasOneAll wanted.now }
     ensures { Batches result machine.old machine.new limit (all_to node wanted.now)
         (λ pass ran. (pass.runs ≡ length (cut_within limit (all_to node wanted.now)))
-        × (pass.left.items ≡ without_frame wanted.now ran.statuses)) }
+        × (pass.left.items ≡ short_of_frames wanted.now ran.statuses)) }
 {
     let runs = runs_to(alloc, node, wanted, limit)?;
     let mut left = Vec::with_capacity(alloc, wanted.len())?;
@@ -242,7 +242,7 @@ fn next_pass<A: Allocator + Copy + Send + Sync, C: RunCrew<A>>(
     // In any case
     ensures runs { Batches result machine.old machine.new limit (all_to node left.wanted.items)
         (λ next ran. (next.runs ≡ length (cut_within limit (all_to node left.wanted.items)))
-        × (next.left.wanted.items ≡ without_frame left.wanted.items ran.statuses)) }
+        × (next.left.wanted.items ≡ short_of_frames left.wanted.items ran.statuses)) }
     // On success
     ensures left { IfOk result (λ next. IsLeft machine.new next.left) }
     ensures tried { IfOk result (λ next. next.left.tried ≡ true) }

@@ -2,7 +2,7 @@
 
 ghost use Rattle.std.specs.Prelude.{◌≡◌, IfOk, Some};
 ghost use Rattle.nm_runs.specs.Targets.{Checks};
-ghost use Rattle.nm_calls.specs.definitions.Permission.{flags_refusal, moves_all, owner_of, allowed_at, query_refusal, right_refusal};
+ghost use Rattle.nm_calls.specs.definitions.Permission.{flags_refusal, has_move_all, owner_of, allowed_at, query_refusal, right_refusal};
 ghost use Rattle.nm_calls.specs.definitions.Permission.{names_missing_node, usable};
 
 use nm_engine::Machine;
@@ -24,7 +24,7 @@ pub(crate) struct Permit {
 /// if they do so without privilege.
 fn asks_all(flags: u32, privileged: bool) -> Result<bool, Errno>
     ensures exact { Checks result (flags_refusal privileged flags) }
-    ensures all { IfOk result (λ all. all ≡ moves_all flags) }
+    ensures all { IfOk result (λ all. all ≡ has_move_all flags) }
 {
     let known = MoveFlags::from_bits(flags).ok_or(Errno::Einval)?;
     if known.is_strict() {
@@ -103,7 +103,7 @@ pub(crate) fn permit_of<A: Allocator + Copy + Send + Sync>(
 
     // On success
     ensures pid { IfOk result (λ permit. permit.pid ≡ owner_of caller pid) }
-    ensures all { IfOk result (λ permit. permit.all ≡ moves_all flags) }
+    ensures all { IfOk result (λ permit. permit.all ≡ has_move_all flags) }
     ensures allowed { IfOk result
         (λ permit. allowed_at machine.now (owner_of caller pid) ≡ Some permit.allowed) }
 {

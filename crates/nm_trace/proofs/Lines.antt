@@ -11,7 +11,7 @@ use Rattle.nm_memory.specs.views.Accesses.{answer_shown}
 use Rattle.nm_memory.specs.declared.answers.AccessAnswer.{AccessAnswer as Given}
 use Rattle.nm_steps.specs.declared.call.InFlight.{InFlight}
 use Rattle.nm_steps.specs.Views.{shown_during}
-use Rattle.nm_calls.specs.definitions.Outcome.{shown}
+use Rattle.nm_calls.specs.definitions.Outcome.{access_answer}
 use Rattle.nm_steps.specs.Form.{access_step}
 use Rattle.nm_trace.specs.Report.{word_of, answer_text, line_of, access_line, access_lines}
 
@@ -75,10 +75,10 @@ grouped p a b c d e f =
 
 -- the pieces of the line of an access, one after another
 pub access_line_is : (k j : ℕ) (access : Access) (answer : AccessAnswer)
-    → ((decimal k ++ codes "." ++ decimal j ++ codes " " ++ word_of (access_step access) ++ codes " ") ++ answer_text (shown answer)) ++ codes "\n" ≡ access_line k j access answer
+    → ((decimal k ++ codes "." ++ decimal j ++ codes " " ++ word_of (access_step access) ++ codes " ") ++ answer_text (access_answer answer)) ++ codes "\n" ≡ access_line k j access answer
 unfolding access_line line_of
 access_line_is k j access answer =
-    grouped (decimal k ++ codes ".") (decimal j) (codes " ") (word_of (access_step access)) (codes " ") (answer_text (shown answer)) (codes "\n")
+    grouped (decimal k ++ codes ".") (decimal j) (codes " ") (word_of (access_step access)) (codes " ") (answer_text (access_answer answer)) (codes "\n")
 
 -- no lines, where no access is left
 pub no_access : (k j : ℕ) (answers : List AccessAnswer) → access_lines k j [] answers ≡ []

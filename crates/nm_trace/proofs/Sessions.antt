@@ -8,7 +8,7 @@ use Rattle.nm_types.specs.State.{State}
 use Rattle.nm_model.specs.definitions.Run.{RunResult}
 use Rattle.nm_model.specs.definitions.Run.{runs_from}
 use Rattle.nm_steps.specs.Calls.{Call, Spawn, MapPages, Attach, Unmap, Exit, Pin, Unpin, ReadBytes, WriteBytes, MovePages, MigratePages, Query, FreeList, Pagemap, Vmstat, NumaMaps, Mbind, Offline, Online}
-use Rattle.nm_calls.specs.definitions.Outcome.{Outcome, outcome, ended, emptied, unless, refused, start, runs_asked, accesses_asked}
+use Rattle.nm_calls.specs.definitions.Outcome.{Outcome, outcome, end_of_call, offline_outcome, unless, refusal_of, start, runs_asked, accesses_asked}
 use Rattle.nm_calls.specs.definitions.Systems.{SystemState}
 use Rattle.nm_steps.specs.declared.trace_error.TraceError.{TraceError}
 use Rattle.nm_steps.specs.declared.trace_error.TraceError.TheVariants.{NotJson, BadStep, HostMemory}
@@ -22,12 +22,12 @@ use Rattle.nm_trace.specs.Session.{SessionState, asked, next, next_lines, StopsS
 
 -- ---- no call changes the limit on runs
 
-emptied_limit : (y : SystemState) (node : ℕ) (s : State) (stays : Bool) → (emptied y node s stays).system.run_limit ≡ y.run_limit
+emptied_limit : (y : SystemState) (node : ℕ) (s : State) (stays : Bool) → (offline_outcome y node s stays).system.run_limit ≡ y.run_limit
 emptied_limit y node s true = refl
 emptied_limit y node s false = refl
 
-ended_limit : (y : SystemState) (call : Call) (made : RunResult) → (ended y call made).system.run_limit ≡ y.run_limit
-unfolding ended
+ended_limit : (y : SystemState) (call : Call) (made : RunResult) → (end_of_call y call made).system.run_limit ≡ y.run_limit
+unfolding end_of_call
 ended_limit y (Spawn pid uid home allowed privileged) made = refl
 ended_limit y (MapPages pid addr pages shared) made = refl
 ended_limit y (Attach pid addr segment offset pages) made = refl
@@ -55,7 +55,7 @@ unless_limit None y r h = h
 pub outcome_limit : (y : SystemState) (call : Call) → (outcome y call).system.run_limit ≡ y.run_limit
 outcome_limit y call =
     let made = runs_from 0 (start y call) (runs_asked y call) (accesses_asked call) in
-    unless_limit (refused y.state call) y (ended y call made) (ended_limit y call made)
+    unless_limit (refusal_of y.state call) y (end_of_call y call made) (ended_limit y call made)
 
 stops_limit : (y : SystemState) (call : Call) (t : SystemState) → StopsIn y call t → t.run_limit ≡ y.run_limit
 stops_limit y call t stops =

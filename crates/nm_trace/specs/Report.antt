@@ -11,7 +11,7 @@ use Rattle.nm_calls.specs.definitions.Systems.{SystemState}
 use Rattle.nm_steps.specs.Calls.{Call, Spawn, MapPages, Attach, Unmap, Exit, Pin, Unpin, ReadBytes, WriteBytes, MovePages, MigratePages, Query, FreeList, Pagemap, Vmstat, NumaMaps, Mbind, Offline, Online}
 use Rattle.nm_steps.specs.Form.{access_step}
 use Rattle.nm_calls.specs.definitions.Answers.{Answer, Refusal, Done, Held, NewSegment, TheBytes, Statuses, Failed, Frames, Entries, TheTotals, Lines}
-use Rattle.nm_calls.specs.definitions.Outcome.{accesses_asked, outcome, shown}
+use Rattle.nm_calls.specs.definitions.Outcome.{accesses_asked, outcome, access_answer}
 
 -- the word for a call
 abbrev pub word_of : Call → List ℕ
@@ -64,7 +64,7 @@ line_of k call answer = decimal k ++ codes " " ++ word_of call ++ codes " " ++ a
 
 -- the line of access j of step k: that of a step j that makes the access, after the number of step k and a dot
 unfoldable pub access_line : ℕ → ℕ → Access → AccessAnswer → List ℕ
-access_line k j access answer = decimal k ++ codes "." ++ line_of j (access_step access) (shown answer)
+access_line k j access answer = decimal k ++ codes "." ++ line_of j (access_step access) (access_answer answer)
 
 -- the lines of the accesses of step k, each with the answer at its index, numbered from j on; if each access names a
 -- run that is made, there are as many answers as accesses

@@ -7,7 +7,7 @@ ghost use Rattle.std.specs.Option.{unwrap_or, option_map};
 ghost use Rattle.hex.specs.Hex.{encode_lower};
 ghost use Rattle.nm_calls.specs.definitions.Answers.{Refusal};
 ghost use Rattle.nm_calls.specs.definitions.Maps.{lines_shown};
-ghost use Rattle.nm_calls.specs.definitions.Outcome.{accesses_asked, shown};
+ghost use Rattle.nm_calls.specs.definitions.Outcome.{accesses_asked, access_answer};
 ghost use Rattle.nm_steps.specs.Form.{access_step};
 ghost use Rattle.nm_steps.specs.Views.{call_of, shown_during};
 ghost use Rattle.nm_calls.specs.views.Answers.{answer_of};
@@ -295,7 +295,7 @@ fn push_access_answer<W: TellingWriter, A: Allocator + Copy>(
     answer: &AccessAnswer<A>,
 )
     ensures { Puts W.contents W.has_failed writer.old block.old writer.new block.new
-        (answer_text (shown (answer_shown answer.now))) }
+        (answer_text (access_answer (answer_shown answer.now))) }
 {
     match answer {
         AccessAnswer::Bytes(bytes) => push_bytes(block, writer, bytes.as_slice()),

@@ -5,7 +5,7 @@ use Rattle.std.proofs.lemmas.Bool.{cases_lt, eqb-true}
 use Rattle.std.proofs.lemmas.List.{get_or-set_same, get_or-set_other, get_or_past, set_past, drop-drop}
 use Rattle.std.proofs.lemmas.List.Sums.{sum_by-cons}
 use Rattle.nm_model.specs.definitions.Touch.{AccessAnswer}
-use Rattle.nm_calls.specs.definitions.Batch.{list_at, in_order, by_place}
+use Rattle.nm_calls.specs.definitions.Batch.{list_at, answers_in_order, by_place}
 use Rattle.nm_calls.specs.laws.Calls.{AnswersGoByPlace}
 use Rattle.nm_calls.proofs.Accesses.Loops.{differ}
 
@@ -41,10 +41,10 @@ module _ (answers : List (List AccessAnswer)) where
       let n : told ≡ count_by (λ r. r == k) (run ∷ before) = let m = one_more k run before false h in omega (arith, m) in
       get_or-set_other left run k (drop 1 (list_at left run)) [] (differ k run h) ∙ is k ∙ ap (λ n. drop n (list_at answers k)) n
 
-  goes : (runs before : List ℕ) (left : List (List AccessAnswer)) → IsLeft before left → in_order runs left ≡ by_place before runs answers
+  goes : (runs before : List ℕ) (left : List (List AccessAnswer)) → IsLeft before left → answers_in_order runs left ≡ by_place before runs answers
   goes [] before left is = refl
   goes (run ∷ runs) before left is =
-      ap (λ l. take 1 l ++ in_order runs (slice_set left run (drop 1 (list_at left run)))) (is run)
+      ap (λ l. take 1 l ++ answers_in_order runs (slice_set left run (drop 1 (list_at left run)))) (is run)
       ∙ ap (λ l. take 1 (drop (count_by (λ r. r == run) before) (list_at answers run)) ++ l)
       (goes runs (run ∷ before) (slice_set left run (drop 1 (list_at left run))) (λ k. next_left before left run k (run == k) refl is))
 

@@ -15,9 +15,9 @@ use Rattle.nm_model.specs.definitions.Run.{accesses_of, runs_from}
 use Rattle.nm_steps.specs.Calls.{Call, MovePages}
 use Rattle.nm_calls.specs.definitions.Answers.{Answer, Statuses}
 use Rattle.std.specs.Map.{keys_of}
-use Rattle.nm_calls.specs.definitions.Batch.{list_at, in_order}
+use Rattle.nm_calls.specs.definitions.Batch.{list_at, answers_in_order}
 use Rattle.nm_calls.specs.definitions.Systems.{SystemState}
-use Rattle.nm_calls.specs.definitions.Outcome.{refused, start, runs_asked, accesses_asked, ended, unless}
+use Rattle.nm_calls.specs.definitions.Outcome.{refusal_of, start, runs_asked, accesses_asked, end_of_call, unless}
 use Rattle.nm_calls.specs.laws.Calls.{EachAccessIsAnswered}
 use Rattle.nm_calls.proofs.Accesses.Loops.{first_asked, differ}
 use Rattle.nm_calls.proofs.Accesses.ByPlace.{one_more, shorter}
@@ -77,7 +77,7 @@ still_enough left run runs k false h enough lt =
 all_few : (n m : ℕ) (runs : List ℕ) → n ≡ m → AllByRecursion (λ r. r < n) runs → AllByRecursion (λ r. r < m) runs
 all_few n m runs same few = subst (λ n. AllByRecursion (λ r. r < n) runs) same few
 
-all_told : (runs : List ℕ) (left : List (List AccessAnswer)) → IsEnough left runs → AllByRecursion (λ r. r < length left) runs → length (in_order runs left) ≡ length runs
+all_told : (runs : List ℕ) (left : List (List AccessAnswer)) → IsEnough left runs → AllByRecursion (λ r. r < length left) runs → length (answers_in_order runs left) ≡ length runs
 all_told [] left enough few = refl
 all_told (run ∷ runs) left enough few =
     let front = list_at left run in
@@ -88,7 +88,7 @@ all_told (run ∷ runs) left enough few =
     let rest = all_told runs next
     (λ k lt. still_enough left run runs k (run == k) refl enough (omega (arith, lt, size)))
     (all_few (length left) (length next) runs (sym size) few.1) in
-    length-append (take 1 front) (in_order runs next) ∙ omega (arith, length-take 1 front, many, more, rest)
+    length-append (take 1 front) (answers_in_order runs next) ∙ omega (arith, length-take 1 front, many, more, rest)
 
 plus_zero : (k : ℕ) → 0 + k ≡ k
 plus_zero k = omega arith
@@ -103,9 +103,9 @@ module _ (y : SystemState) (caller pid : ℕ) (pages nodes : List ℕ) (flags : 
 
   answered : (o : Option Errno) (failed : ℕ) (statuses : List ℤ) (answers : List AccessAnswer)
       → AllByRecursion (λ run. run < length (runs_unless o (runs_asked y asks))) (keys_of during)
-      → (unless o y (ended y asks (runs_from 0 (start y asks) (runs_asked y asks) (accesses_asked asks)))).answer ≡ Statuses failed statuses answers
+      → (unless o y (end_of_call y asks (runs_from 0 (start y asks) (runs_asked y asks) (accesses_asked asks)))).answer ≡ Statuses failed statuses answers
       → length answers ≡ length during
-  unfolding ended start runs_asked accesses_asked listed
+  unfolding end_of_call start runs_asked accesses_asked listed
   answered (Some e) failed statuses answers few is = cc
   answered None failed statuses answers few is =
       let runs = runs_asked y asks in
@@ -119,4 +119,4 @@ module _ (y : SystemState) (caller pid : ℕ) (pages nodes : List ℕ) (flags : 
 
 pub each_access_is_answered : EachAccessIsAnswered
 each_access_is_answered y caller pid pages nodes flags during failed statuses answers few is =
-    answered y caller pid pages nodes flags during (refused y.state (MovePages caller pid pages nodes flags during)) failed statuses answers few is
+    answered y caller pid pages nodes flags during (refusal_of y.state (MovePages caller pid pages nodes flags during)) failed statuses answers few is

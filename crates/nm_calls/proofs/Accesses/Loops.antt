@@ -7,7 +7,7 @@ use Rattle.std.proofs.lemmas.List.{get_or-set_same, get_or-set_other, set_past, 
 use Rattle.nm_types.proofs.Cases.{true_false}
 use Rattle.nm_model.specs.definitions.Touch.{Access, AccessAnswer}
 use Rattle.nm_model.specs.definitions.Run.{accesses_of}
-use Rattle.nm_calls.specs.definitions.Batch.{list_at, in_order}
+use Rattle.nm_calls.specs.definitions.Batch.{list_at, answers_in_order}
 
 -- one access before others
 pub first_asked : (k run : ℕ) (a : Access) (rest : List (ℕ × Access)) (b : Bool) → (run == k) ≡ b → accesses_of k ((run, a) ∷ rest) ≡ cond b (a ∷ accesses_of k rest) (accesses_of k rest)
@@ -52,30 +52,30 @@ append_none (x ∷ xs) = ap (λ l. x ∷ l) (append_none xs)
 
 -- the answers that were given, and those of the other accesses by what is left, are all of them
 module _ (told : List AccessAnswer) (left : List (List AccessAnswer)) (run : ℕ) (runs : List ℕ) (all : List AccessAnswer) where
-  next_told : told ++ in_order (run ∷ runs) left ≡ all → (told ++ take 1 (list_at left run)) ++ in_order runs (slice_set left run (drop 1 (list_at left run))) ≡ all
-  next_told is = append_assoc told (take 1 (list_at left run)) (in_order runs (slice_set left run (drop 1 (list_at left run)))) ∙ is
+  next_told : told ++ answers_in_order (run ∷ runs) left ≡ all → (told ++ take 1 (list_at left run)) ++ answers_in_order runs (slice_set left run (drop 1 (list_at left run))) ≡ all
+  next_told is = append_assoc told (take 1 (list_at left run)) (answers_in_order runs (slice_set left run (drop 1 (list_at left run)))) ∙ is
 
   -- an access of a run that was not made
-  pub unmade_told : length left ≤ run → told ++ in_order (run ∷ runs) left ≡ all → told ++ in_order runs left ≡ all
+  pub unmade_told : length left ≤ run → told ++ answers_in_order (run ∷ runs) left ≡ all → told ++ answers_in_order runs left ≡ all
   unmade_told past is =
       let none : list_at left run ≡ [] = get_or_past left run [] past in
-      sym (ap (λ l. (told ++ take 1 l) ++ in_order runs (slice_set left run (drop 1 l))) none
-      ∙ ap (λ l. l ++ in_order runs (slice_set left run [])) (append_none told)
-      ∙ ap (λ ls. told ++ in_order runs ls) (set_past left run [] past)) ∙ next_told is
+      sym (ap (λ l. (told ++ take 1 l) ++ answers_in_order runs (slice_set left run (drop 1 l))) none
+      ∙ ap (λ l. l ++ answers_in_order runs (slice_set left run [])) (append_none told)
+      ∙ ap (λ ls. told ++ answers_in_order runs ls) (set_past left run [] past)) ∙ next_told is
 
   -- an access of a run whose answers are all given
-  pub none_told : (left' : List (List AccessAnswer)) → list_at left run ≡ [] → left' ≡ slice_set left run [] → told ++ in_order (run ∷ runs) left ≡ all → told ++ in_order runs left' ≡ all
+  pub none_told : (left' : List (List AccessAnswer)) → list_at left run ≡ [] → left' ≡ slice_set left run [] → told ++ answers_in_order (run ∷ runs) left ≡ all → told ++ answers_in_order runs left' ≡ all
   none_told left' none is' is =
-      ap (λ ls. told ++ in_order runs ls) is'
-      ∙ sym (ap (λ l. (told ++ take 1 l) ++ in_order runs (slice_set left run (drop 1 l))) none
-      ∙ ap (λ l. l ++ in_order runs (slice_set left run [])) (append_none told)) ∙ next_told is
+      ap (λ ls. told ++ answers_in_order runs ls) is'
+      ∙ sym (ap (λ l. (told ++ take 1 l) ++ answers_in_order runs (slice_set left run (drop 1 l))) none
+      ∙ ap (λ l. l ++ answers_in_order runs (slice_set left run [])) (append_none told)) ∙ next_told is
 
   -- the next answer of its run
   pub one_told : (told' : List AccessAnswer) (left' : List (List AccessAnswer)) (x : AccessAnswer) (xs : List AccessAnswer) → list_at left run ≡ x ∷ xs → told' ≡ told ++ x ∷ [] → left' ≡ slice_set left run xs
-      → told ++ in_order (run ∷ runs) left ≡ all → told' ++ in_order runs left' ≡ all
+      → told ++ answers_in_order (run ∷ runs) left ≡ all → told' ++ answers_in_order runs left' ≡ all
   one_told told' left' x xs some told_is left_is is =
-      ap (λ l. l ++ in_order runs left') told_is ∙ ap (λ ls. (told ++ x ∷ []) ++ in_order runs ls) left_is
-      ∙ sym (ap (λ l. (told ++ take 1 l) ++ in_order runs (slice_set left run (drop 1 l))) some) ∙ next_told is
+      ap (λ l. l ++ answers_in_order runs left') told_is ∙ ap (λ ls. (told ++ x ∷ []) ++ answers_in_order runs ls) left_is
+      ∙ sym (ap (λ l. (told ++ take 1 l) ++ answers_in_order runs (slice_set left run (drop 1 l))) some) ∙ next_told is
 
 -- lists as they are seen
 module _ {X Y : Type 0} (shown : X → List Y) (xs : List X) where

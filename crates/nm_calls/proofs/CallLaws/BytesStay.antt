@@ -21,10 +21,10 @@ use Rattle.nm_laws.proofs.Seen.Rewritten.{runs_write}
 use Rattle.nm_laws.proofs.Soundness.Policed.{policy_keeps}
 use Rattle.nm_laws.proofs.Soundness.Touched.{reading_keeps}
 use Rattle.nm_steps.specs.Calls.{Call, Spawn, MapPages, Attach, Unmap, Exit, Pin, Unpin, ReadBytes, WriteBytes, MovePages, MigratePages, Query, FreeList, Pagemap, Vmstat, NumaMaps, Mbind, Offline, Online}
-use Rattle.nm_calls.specs.definitions.Mbind.{binding, policed}
+use Rattle.nm_calls.specs.definitions.Mbind.{binding, with_binding}
 use Rattle.nm_calls.specs.definitions.Offline.{still_on}
 use Rattle.nm_calls.specs.definitions.Systems.{SystemState}
-use Rattle.nm_calls.specs.definitions.Outcome.{refused, start, runs_asked, accesses_asked, emptied, ended, unless}
+use Rattle.nm_calls.specs.definitions.Outcome.{refusal_of, start, runs_asked, accesses_asked, offline_outcome, end_of_call, unless}
 use Rattle.nm_calls.specs.laws.Calls.{writes_or_maps, CallsKeepMemory, TrailKeepsMemory, WithoutAccessesNone}
 use Rattle.nm_calls.proofs.Trails.{trail_is_after_runs, runs_unless, state_unless}
 
@@ -61,7 +61,7 @@ module _ (y : SystemState) (q at : ℕ) where
   runs_kept (MigratePages caller pid old new) runs h k = quiet y.state runs refl
   runs_kept (Query caller pid pages flags) runs h k = quiet y.state runs refl
   runs_kept (Mbind caller addr len mode nodes flags) runs h k =
-      quiet (policed y.state caller addr len mode nodes) runs (policy_keeps y.state [] caller (addr / 4096) (addr / 4096 + page_count len) (binding y.state caller addr len mode nodes).policy q at h)
+      quiet (with_binding y.state caller addr len mode nodes) runs (policy_keeps y.state [] caller (addr / 4096) (addr / 4096 + page_count len) (binding y.state caller addr len mode nodes).policy q at h)
   runs_kept (Offline node) runs h k = quiet y.state runs refl
   runs_kept (Online node) runs h k = quiet y.state runs refl
   runs_kept (FreeList node) runs h k = quiet y.state runs refl
@@ -73,7 +73,7 @@ module _ (y : SystemState) (q at : ℕ) where
   made_of : Call → RunResult
   made_of call = runs_from 0 (start y call) (runs_asked y call) (accesses_asked call)
 
-  emptied_kept : (node : ℕ) (s : State) (stays : Bool) → mem (emptied y node s stays).system.state q at ≡ mem s q at
+  emptied_kept : (node : ℕ) (s : State) (stays : Bool) → mem (offline_outcome y node s stays).system.state q at ≡ mem s q at
   emptied_kept node s true = refl
   emptied_kept node s false = refl
 
@@ -83,8 +83,8 @@ module _ (y : SystemState) (q at : ℕ) where
   pins_kept s f (Some (Sees page)) = refl
 
   -- what comes after the runs changes no byte
-  ended_kept : (call : Call) → IsSound y.state → writes_or_maps call ≡ false → mem (ended y call (made_of call)).system.state q at ≡ mem (made_of call).state q at
-  unfolding made_of start runs_asked accesses_asked ended
+  ended_kept : (call : Call) → IsSound y.state → writes_or_maps call ≡ false → mem (end_of_call y call (made_of call)).system.state q at ≡ mem (made_of call).state q at
+  unfolding made_of start runs_asked accesses_asked end_of_call
   ended_kept (Spawn pid uid home allowed privileged) h k = refl
   ended_kept (MapPages pid addr pages shared) h k = cc
   ended_kept (Attach pid addr segment offset pages) h k = cc
@@ -105,7 +105,7 @@ module _ (y : SystemState) (q at : ℕ) where
   ended_kept Vmstat h k = refl
   ended_kept (NumaMaps pid) h k = refl
 
-  call_kept : (call : Call) (o : Option Errno) → IsSound y.state → writes_or_maps call ≡ false → mem (unless o y (ended y call (made_of call))).system.state q at ≡ runs_written y.state.areas q at (mem y.state q at) (accesses_asked call) 0 (runs_from 0 (start y call) (runs_unless o (runs_asked y call)) (accesses_asked call)).answers
+  call_kept : (call : Call) (o : Option Errno) → IsSound y.state → writes_or_maps call ≡ false → mem (unless o y (end_of_call y call (made_of call))).system.state q at ≡ runs_written y.state.areas q at (mem y.state q at) (accesses_asked call) 0 (runs_from 0 (start y call) (runs_unless o (runs_asked y call)) (accesses_asked call)).answers
   unfolding Writes made_of
   call_kept call (Some e) h k = refl
   call_kept call None h k = ended_kept call h k ∙ runs_kept call (runs_asked y call) h k
@@ -117,11 +117,11 @@ module _ (y : SystemState) (q at : ℕ) where
 
 pub calls_keep_memory : CallsKeepMemory
 unfolding made_of
-calls_keep_memory y call q at h k = call_kept y q at call (refused y.state call) h k
+calls_keep_memory y call q at h k = call_kept y q at call (refusal_of y.state call) h k
 
 pub trail_keeps_memory : TrailKeepsMemory
 trail_keeps_memory y call n d q at h k few =
-    ap (λ s. mem s q at) (trail_is_after_runs y call n d few) ∙ way_kept y q at call n (refused y.state call) (runs_asked y call) h k
+    ap (λ s. mem s q at) (trail_is_after_runs y call n d few) ∙ way_kept y q at call n (refusal_of y.state call) (runs_asked y call) h k
 
 pub without_accesses : WithoutAccessesNone
 without_accesses y call runs q at none =

@@ -9,7 +9,7 @@ use Rattle.nm_model.specs.definitions.Run.{runs_from}
 use Rattle.nm_steps.specs.Calls.{Call, Spawn, MapPages, Attach, Unmap, Exit, Pin, Unpin, ReadBytes, WriteBytes, MovePages, MigratePages, Query, FreeList, Pagemap, Vmstat, NumaMaps, Mbind, Offline, Online}
 use Rattle.nm_calls.specs.definitions.Answers.{Answer, Refusal, Done, Held, Failed, NewSegment, TheBytes, Statuses, Frames, Entries, TheTotals, Lines}
 use Rattle.nm_calls.specs.definitions.Systems.{SystemState}
-use Rattle.nm_calls.specs.definitions.Outcome.{refusal_in, shown, refused, start, runs_asked, accesses_asked, ended, unless, emptied}
+use Rattle.nm_calls.specs.definitions.Outcome.{refusal_in, access_answer, refusal_of, start, runs_asked, accesses_asked, end_of_call, unless, offline_outcome}
 use Rattle.std.specs.Prelude.{◌⊎◌, ◌&&◌, if◌then◌else◌}
 use Rattle.nm_types.specs.declared.errno.Errno.TheVariants.{Eio, Ebusy}
 use Rattle.nm_calls.specs.definitions.Mbind.{binding, has_stray, tells_late}
@@ -35,7 +35,7 @@ some_none : (e : Errno) → Some e ≡ None → ⊥
 some_none e h = true≢false (ap (λ (o : Option Errno). elim o [ Some d ↦ true | None ↦ false ]) h)
 
 -- the answer to an access that is not refused is no refusal
-access_answers : (a : engine.AccessAnswer) → refusal_in a ≡ None → is_refusal (shown a) ≡ false
+access_answers : (a : engine.AccessAnswer) → refusal_in a ≡ None → is_refusal (access_answer a) ≡ false
 access_answers (engine.Bytes bytes) h = refl
 access_answers engine.Done h = refl
 access_answers engine.Held h = refl
@@ -67,13 +67,13 @@ late_error true true e h = ap error_of h
 late_error true false e h = absurd (no_error (Failed 0) e refl h)
 late_error false strays e h = absurd (no_error (Failed 0) e refl h)
 
-busy_error : (y : SystemState) (node : ℕ) (s : State) (stays : Bool) (e : Errno) → (emptied y node s stays).answer ≡ Refusal e → Some Ebusy ≡ Some e
+busy_error : (y : SystemState) (node : ℕ) (s : State) (stays : Bool) (e : Errno) → (offline_outcome y node s stays).answer ≡ Refusal e → Some Ebusy ≡ Some e
 busy_error y node s true e h = ap error_of h
 busy_error y node s false e h = absurd (no_error Done e refl h)
 
 -- the answer of a call that is not refused at first is no refusal, but for the late one
-call_answers : (y : SystemState) (call : Call) (made : RunResult) (e : Errno) → refused y.state call ≡ None → (ended y call made).answer ≡ Refusal e → late_refusal call ≡ Some e
-unfolding ended refused
+call_answers : (y : SystemState) (call : Call) (made : RunResult) (e : Errno) → refusal_of y.state call ≡ None → (end_of_call y call made).answer ≡ Refusal e → late_refusal call ≡ Some e
+unfolding end_of_call refusal_of
 call_answers y (Spawn pid uid home allowed privileged) made e h is = absurd (no_error Done e refl is)
 call_answers y (MapPages pid addr pages shared) made e h is = absurd (no_error (NewSegment y.state.next_segment) e refl is)
 call_answers y (Attach pid addr segment offset pages) made e h is = absurd (no_error Done e refl is)
@@ -81,8 +81,8 @@ call_answers y (Unmap pid addr pages) made e h is = absurd (no_error Done e refl
 call_answers y (Exit pid) made e h is = absurd (no_error Done e refl is)
 call_answers y (Pin pid addr) made e h is = absurd (no_error Done e refl is)
 call_answers y (Unpin pid addr) made e h is = absurd (no_error Done e refl is)
-call_answers y (ReadBytes pid addr len) made e h is = absurd (no_error (shown (read y.state pid addr len).answer) e (access_answers (read y.state pid addr len).answer h) is)
-call_answers y (WriteBytes pid addr bytes) made e h is = absurd (no_error (shown (write y.state pid addr bytes).answer) e (access_answers (write y.state pid addr bytes).answer h) is)
+call_answers y (ReadBytes pid addr len) made e h is = absurd (no_error (access_answer (read y.state pid addr len).answer) e (access_answers (read y.state pid addr len).answer h) is)
+call_answers y (WriteBytes pid addr bytes) made e h is = absurd (no_error (access_answer (write y.state pid addr bytes).answer) e (access_answers (write y.state pid addr bytes).answer h) is)
 call_answers y (MovePages caller pid pages nodes flags during) made e h is = absurd (no_error _ e refl is)
 call_answers y (MigratePages caller pid old new) made e h is = absurd (no_error _ e refl is)
 call_answers y (Query caller pid pages flags) made e h is = absurd (no_error _ e refl is)
@@ -95,9 +95,9 @@ call_answers y (Pagemap pid) made e h is = absurd (no_error _ e refl is)
 call_answers y Vmstat made e h is = absurd (no_error _ e refl is)
 call_answers y (NumaMaps pid) made e h is = absurd (no_error _ e refl is)
 
-by_refusal : (y : SystemState) (call : Call) (made : RunResult) (o : Option Errno) (e : Errno) → refused y.state call ≡ o → (unless o y (ended y call made)).answer ≡ Refusal e → ((unless o y (ended y call made)).system ≡ y) ⊎ (late_refusal call ≡ Some e)
+by_refusal : (y : SystemState) (call : Call) (made : RunResult) (o : Option Errno) (e : Errno) → refusal_of y.state call ≡ o → (unless o y (end_of_call y call made)).answer ≡ Refusal e → ((unless o y (end_of_call y call made)).system ≡ y) ⊎ (late_refusal call ≡ Some e)
 by_refusal y call made (Some d) e r h = inl refl
 by_refusal y call made None e r h = inr (call_answers y call made e r h)
 
 pub refusals_change_nothing : RefusalsChangeNothing
-refusals_change_nothing y call e h = by_refusal y call (runs_from 0 (start y call) (runs_asked y call) (accesses_asked call)) (refused y.state call) e refl h
+refusals_change_nothing y call e h = by_refusal y call (runs_from 0 (start y call) (runs_asked y call) (accesses_asked call)) (refusal_of y.state call) e refl h

@@ -32,7 +32,7 @@ use Rattle.nm_steps.specs.Calls.{Call, Spawn, MapPages, Attach, Unmap, Exit, Pin
 use Rattle.nm_calls.specs.definitions.Mbind.{binding}
 use Rattle.nm_calls.specs.definitions.Offline.{still_on}
 use Rattle.nm_calls.specs.definitions.Systems.{SystemState}
-use Rattle.nm_calls.specs.definitions.Outcome.{refused, start, runs_asked, accesses_asked, emptied, ended, unless}
+use Rattle.nm_calls.specs.definitions.Outcome.{refusal_of, start, runs_asked, accesses_asked, offline_outcome, end_of_call, unless}
 use Rattle.nm_calls.specs.laws.Calls.{CallsStaySound}
 
 -- ---- a node more, or one less
@@ -96,12 +96,12 @@ module _ (y : SystemState) (h : IsSound y.state) where
   unfolding made_of
   made_sound call = runs_sound 0 (start y call) (runs_asked y call) (accesses_asked call) (start_sound call)
 
-  emptied_sound : (node : ℕ) (s : State) (stays : Bool) → IsSound s → IsSound (emptied y node s stays).system.state
+  emptied_sound : (node : ℕ) (s : State) (stays : Bool) → IsSound s → IsSound (offline_outcome y node s stays).system.state
   emptied_sound node s true k = k
   emptied_sound node s false k = removed_sound s node k
 
-  ended_sound : (call : Call) → refused y.state call ≡ None → IsSound (ended y call (made_of call)).system.state
-  unfolding refused ended
+  ended_sound : (call : Call) → refusal_of y.state call ≡ None → IsSound (end_of_call y call (made_of call)).system.state
+  unfolding refusal_of end_of_call
   ended_sound (Spawn pid uid home allowed privileged) k = spawn_sound y.state pid uid home allowed privileged h k
   ended_sound (MapPages pid addr pages shared) k = map_sound y.state pid addr pages shared h k
   ended_sound (Attach pid addr segment offset pages) k = attach_sound y.state pid addr segment offset pages h k
@@ -123,10 +123,10 @@ module _ (y : SystemState) (h : IsSound y.state) where
   ended_sound Vmstat k = h
   ended_sound (NumaMaps pid) k = h
 
-  call_sound : (call : Call) (o : Option Errno) → refused y.state call ≡ o → IsSound (unless o y (ended y call (made_of call))).system.state
+  call_sound : (call : Call) (o : Option Errno) → refusal_of y.state call ≡ o → IsSound (unless o y (end_of_call y call (made_of call))).system.state
   call_sound call (Some e) k = h
   call_sound call None k = ended_sound call k
 
 pub calls_stay_sound : CallsStaySound
 unfolding made_of
-calls_stay_sound y call h = call_sound y h call (refused y.state call) refl
+calls_stay_sound y call h = call_sound y h call (refusal_of y.state call) refl

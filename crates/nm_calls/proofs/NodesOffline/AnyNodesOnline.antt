@@ -11,7 +11,7 @@ use Rattle.nm_model.specs.definitions.Cut.{Stretch, all_to}
 use Rattle.nm_model.specs.definitions.Run.{Decision, moved_page, decision, one_request, Progress, each_request, with_free, with_all_free, frames_left, failures, with_counts, RunResult, run}
 use Rattle.nm_model.specs.definitions.Run.{runs_from}
 use Rattle.nm_model.specs.definitions.Cut.{cut_within}
-use Rattle.nm_calls.specs.definitions.Passes.{without_frame, passes}
+use Rattle.nm_calls.specs.definitions.Passes.{short_of_frames, passes}
 use Rattle.nm_calls.specs.definitions.Offline.{with_online, RunsIgnoreOnline}
 
 abbrev decision_with : List ℕ → Decision → Decision
@@ -86,7 +86,7 @@ runs_same k online s (r ∷ rs) =
 
 -- what follows a pass
 abbrev then_passes : ℕ → List Stretch → List ℕ → List Wanted → RunResult → List Stretch
-then_passes limit runs nodes wanted made = runs ++ passes limit made.state nodes (without_frame wanted made.statuses)
+then_passes limit runs nodes wanted made = runs ++ passes limit made.state nodes (short_of_frames wanted made.statuses)
 
 passes_same : (limit : ℕ) (s : State) (online : List ℕ) (nodes : List ℕ) (wanted : List Wanted) → passes limit (with_online online s) nodes wanted ≡ passes limit s nodes wanted
 passes_same limit s online [] wanted = refl
@@ -94,7 +94,7 @@ passes_same limit s online (node ∷ nodes) wanted =
     let runs = cut_within limit (all_to node wanted) in
     let made = runs_from 0 s runs [] in
     ap (then_passes limit runs nodes wanted) (runs_same 0 online s runs)
-    ∙ ap (λ ts. runs ++ ts) (passes_same limit made.state online nodes (without_frame wanted made.statuses))
+    ∙ ap (λ ts. runs ++ ts) (passes_same limit made.state online nodes (short_of_frames wanted made.statuses))
 
 pub runs_ignore_online : RunsIgnoreOnline
 runs_ignore_online =

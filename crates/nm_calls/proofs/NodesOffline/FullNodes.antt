@@ -26,7 +26,7 @@ use Rattle.nm_model.specs.definitions.Cut.{pieces_in, pieces, pieces_within, cut
 use Rattle.nm_model.specs.definitions.Run.{Decision, moved_page, decision, one_request, Progress, each_request, with_free, with_all_free, frames_left, failures, total_after, with_counts, RunResult, run}
 use Rattle.nm_model.specs.definitions.Run.{runs_from}
 use Rattle.nm_laws.proofs.InFlight.Elsewhere.{IsElsewhere, status_elsewhere}
-use Rattle.nm_calls.specs.definitions.Passes.{without_frame}
+use Rattle.nm_calls.specs.definitions.Passes.{short_of_frames}
 use Rattle.nm_calls.specs.laws.Full.{StandsOn, WouldMove, pass, rounded_up, FullNodeTakesNone, LeftWouldMove, MovesElsewhere, RunsGoByLength, NextPassTakesNone}
 use Rattle.nm_calls.proofs.Batches.StatusCounts.{each_layout, run_length}
 
@@ -131,7 +131,7 @@ with_rest b w z ws zs =
 
 -- all that a run leaves waits after its requests
 abbrev LeftWaits : ℕ → List Wanted → Progress → Type 0
-LeftWaits target ws p = AllByRecursion (Waits p.state target) (without_frame ws p.statuses)
+LeftWaits target ws p = AllByRecursion (Waits p.state target) (short_of_frames ws p.statuses)
 
 waits_taking : (s : State) (target : ℕ) (w : Wanted) (ws : List Wanted) (page : Page) (from : ℕ) (frames : List ℕ) → status_or_move s target w ≡ Move page from → free_list s target ≡ frames → ((t : State) → LeftWaits target ws (each_request t target ws))
     → LeftWaits target (w ∷ ws) (then_each target ws (moved_page s target page from frames))
@@ -162,11 +162,11 @@ ended_waits : (s : State) (frames : List ℕ) (m n target : ℕ) (w : Wanted) �
 ended_waits s frames m n target w others h =
     ((h.0.0, h.0.1, class_counted (with_all_free s frames) m n target w ∙ class_freed s frames target w ∙ h.0.2), all_elsewhere s frames target others ∙ h.1)
 
-run_waits : (s : State) (target : ℕ) (ws : List Wanted) → AllByRecursion (Waits (run s target ws []).state target) (without_frame ws (run s target ws []).statuses)
+run_waits : (s : State) (target : ℕ) (ws : List Wanted) → AllByRecursion (Waits (run s target ws []).state target) (short_of_frames ws (run s target ws []).statuses)
 run_waits s target ws =
     let moves = each_request s target ws in
     let others = subst (λ g. AllByRecursion (λ f. (node_of g f == target) ≡ false) (frames_left moves.taken)) (sym (each_layout s target ws)) (each_leaves s target ws) in
-    all_still (Waits moves.state target) (Waits (run s target ws []).state target) (without_frame ws moves.statuses)
+    all_still (Waits moves.state target) (Waits (run s target ws []).state target) (short_of_frames ws moves.statuses)
     (λ w. ended_waits moves.state (frames_left moves.taken) (length moves.taken) (failures moves.statuses) target w others) (each_waits s target ws)
 
 -- what waits waits on after a run for the same node
@@ -188,7 +188,7 @@ runs_wait_on k s target (ws ∷ wss) w h =
     runs_wait_on (k + 1) (run s target ws []).state target wss w (waits_on s target ws w h)
 
 -- what is left of two parts is left of one or the other
-all_parted : (P : Wanted → Type 0) (xs : List Wanted) (zs : List ℤ) (ys : List Wanted) (us : List ℤ) → length xs ≡ length zs → AllByRecursion P (without_frame xs zs) → AllByRecursion P (without_frame ys us) → AllByRecursion P (without_frame (xs ++ ys) (zs ++ us))
+all_parted : (P : Wanted → Type 0) (xs : List Wanted) (zs : List ℤ) (ys : List Wanted) (us : List ℤ) → length xs ≡ length zs → AllByRecursion P (short_of_frames xs zs) → AllByRecursion P (short_of_frames ys us) → AllByRecursion P (short_of_frames (xs ++ ys) (zs ++ us))
 all_parted P [] [] ys us same h k = k
 all_parted P [] (z ∷ zs) ys us same h k = let e : ⊥ = omega (arith, same) in absurd e
 all_parted P (x ∷ xs) [] ys us same h k = let e : ⊥ = omega (arith, same) in absurd e
@@ -202,13 +202,13 @@ all_parted P (x ∷ xs) (z ∷ zs) ys us same h k =
 abbrev flat : List (List Wanted) → List Wanted
 flat wss = flat_map (λ ws. ws) wss
 
-runs_wait : (k : ℕ) (s : State) (target : ℕ) (wss : List (List Wanted)) → AllByRecursion (Waits (runs_from k s (to_node target wss) []).state target) (without_frame (flat wss) (runs_from k s (to_node target wss) []).statuses)
+runs_wait : (k : ℕ) (s : State) (target : ℕ) (wss : List (List Wanted)) → AllByRecursion (Waits (runs_from k s (to_node target wss) []).state target) (short_of_frames (flat wss) (runs_from k s (to_node target wss) []).statuses)
 runs_wait k s target [] = tt
 runs_wait k s target (ws ∷ wss) =
     let now = run s target ws [] in
     let rest = runs_from (k + 1) now.state (to_node target wss) [] in
     all_parted (Waits rest.state target) ws now.statuses (flat wss) rest.statuses (sym (run_length s target ws []))
-    (all_still (Waits now.state target) (Waits rest.state target) (without_frame ws now.statuses) (runs_wait_on (k + 1) now.state target wss) (run_waits s target ws))
+    (all_still (Waits now.state target) (Waits rest.state target) (short_of_frames ws now.statuses) (runs_wait_on (k + 1) now.state target wss) (run_waits s target ws))
     (runs_wait (k + 1) now.state target wss)
 
 -- a batch for one node is one stretch, which is cut into pieces
@@ -235,17 +235,17 @@ pieces_flat limit (w ∷ ws) (suc n) some enough =
     let rest : length (drop limit (w ∷ ws)) ≤ n = omega (arith, len, some, enough) in
     ap (λ vs. take limit (w ∷ ws) ++ vs) (pieces_flat limit (drop limit (w ∷ ws)) n some rest) ∙ take-append-drop limit (w ∷ ws)
 
-pass_waits : (limit : ℕ) (s : State) (node : ℕ) (ws : List Wanted) → 0 < limit → AllByRecursion (Waits (pass limit s node ws).state node) (without_frame ws (pass limit s node ws).statuses)
+pass_waits : (limit : ℕ) (s : State) (node : ℕ) (ws : List Wanted) → 0 < limit → AllByRecursion (Waits (pass limit s node ws).state node) (short_of_frames ws (pass limit s node ws).statuses)
 pass_waits limit s node ws some =
     let made = runs_from 0 s (to_node node (pieces limit ws)) [] in
     let enough : length ws ≤ length ws = omega arith in
-    subst (λ rs. AllByRecursion (Waits (runs_from 0 s rs []).state node) (without_frame ws (runs_from 0 s rs []).statuses)) (sym (pass_runs limit node ws))
-    (subst (λ vs. AllByRecursion (Waits made.state node) (without_frame vs made.statuses)) (pieces_flat limit ws (length ws) some enough) (runs_wait 0 s node (pieces limit ws)))
+    subst (λ rs. AllByRecursion (Waits (runs_from 0 s rs []).state node) (short_of_frames ws (runs_from 0 s rs []).statuses)) (sym (pass_runs limit node ws))
+    (subst (λ vs. AllByRecursion (Waits made.state node) (short_of_frames vs made.statuses)) (pieces_flat limit ws (length ws) some enough) (runs_wait 0 s node (pieces limit ws)))
 
 pub left_would_move : LeftWouldMove
 left_would_move limit s node ws some =
     let made = pass limit s node ws in
-    all_still (Waits made.state node) (WouldMove made.state node) (without_frame ws made.statuses) (λ w h. h.0) (pass_waits limit s node ws some)
+    all_still (Waits made.state node) (WouldMove made.state node) (short_of_frames ws made.statuses) (λ w h. h.0) (pass_waits limit s node ws some)
 
 -- a page that would move to one node would move to another, by the tests of both
 moves_by_tests : (node next : ℕ) (p : Page) (frame : ℕ) (here there kept pinned : Bool)
@@ -281,7 +281,7 @@ all_elsewhere_move s node next (w ∷ ws) h away = (moves_elsewhere s node next 
 abbrev no_frame : List Wanted → List ℤ
 no_frame ws = map {B = ℤ} (λ w. code Enomem) ws
 
-all_left : (ws : List Wanted) → without_frame ws (no_frame ws) ≡ ws
+all_left : (ws : List Wanted) → short_of_frames ws (no_frame ws) ≡ ws
 all_left [] = refl
 all_left (w ∷ ws) = ap (λ l. w ∷ l) (all_left ws)
 
@@ -371,12 +371,12 @@ full_node_takes_none limit s node wanted some has none h =
     let fail : Fail s (length wanted) wanted (pass limit s node wanted) =
     subst (λ rs. Fail s (length wanted) wanted (runs_from 0 s rs [])) (sym (pass_runs limit node wanted))
     (pieces_fail s node wanted (pieces limit wanted) (pieces_flat limit wanted (length wanted) some enough) has none h) in
-    (fail.0, ap (without_frame wanted) fail.1 ∙ all_left wanted)
+    (fail.0, ap (short_of_frames wanted) fail.1 ∙ all_left wanted)
 
 pub next_pass_takes_none : NextPassTakesNone
 next_pass_takes_none limit s node next wanted some has none away =
     let first = pass limit s node wanted in
-    let ws = without_frame wanted first.statuses in
+    let ws = short_of_frames wanted first.statuses in
     full_node_takes_none limit first.state next ws some has none
     (all_elsewhere_move first.state node next ws (left_would_move limit s node wanted some) away)
 

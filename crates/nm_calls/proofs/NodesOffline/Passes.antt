@@ -17,7 +17,7 @@ use Rattle.std.proofs.Math.Seq.{drop-cons}
 use Rattle.nm_model.specs.definitions.Run.{run, moves_all, HasOneAll}
 use Rattle.nm_model.specs.definitions.Run.{runs_from}
 use Rattle.nm_calls.specs.definitions.Outcome.{states_of}
-use Rattle.nm_calls.specs.definitions.Passes.{passes, without_frame}
+use Rattle.nm_calls.specs.definitions.Passes.{passes, short_of_frames}
 use Rattle.nm_calls.specs.declared.call_error.CallError.{CallError}
 use Rattle.nm_calls.specs.declared.call_error.CallError.TheVariants.{Refused, HostMemory}
 use Rattle.nm_calls.specs.definitions.Does.{LacksMemory}
@@ -95,7 +95,7 @@ passes_none limit s [] = refl
 passes_none limit s (node ∷ nodes) = passes_none limit s nodes
 
 -- what found no free frame is among what was wanted
-pub fewer_left : (ws : List Wanted) (zs : List ℤ) → length (without_frame ws zs) ≤ length ws
+pub fewer_left : (ws : List Wanted) (zs : List ℤ) → length (short_of_frames ws zs) ≤ length ws
 fewer_left [] zs = omega arith
 fewer_left (w ∷ ws) [] = omega arith
 fewer_left (w ∷ ws) (z ∷ zs) =
@@ -105,7 +105,7 @@ fewer_left (w ∷ ws) (z ∷ zs) =
       | false ↦ omega (arith, rest)
     ]
 
-all_left : (P : Wanted → Type 0) (ws : List Wanted) (zs : List ℤ) → AllByRecursion P ws → AllByRecursion P (without_frame ws zs)
+all_left : (P : Wanted → Type 0) (ws : List Wanted) (zs : List ℤ) → AllByRecursion P ws → AllByRecursion P (short_of_frames ws zs)
 all_left P [] zs h = tt
 all_left P (w ∷ ws) [] h = tt
 all_left P (w ∷ ws) (z ∷ zs) h =
@@ -115,7 +115,7 @@ all_left P (w ∷ ws) (z ∷ zs) h =
       | false ↦ rest
     ]
 
-pub alike_left : (ws : List Wanted) (zs : List ℤ) → HasOneAll ws → HasOneAll (without_frame ws zs)
+pub alike_left : (ws : List Wanted) (zs : List ℤ) → HasOneAll ws → HasOneAll (short_of_frames ws zs)
 alike_left ws zs h = (h.0, all_left (λ w. moves_all w ≡ h.0) ws zs h.1)
 
 runs_few : (rs : List Stretch) → AllByRecursion (λ r. 0 < size_of r) rs → length rs ≤ length (all_requests rs)
@@ -163,7 +163,7 @@ runs_layout k s (r ∷ rs) = runs_layout (k + 1) (run s r.target r.wanted []).st
 
 -- one more request
 left_upto : (ws : List Wanted) (zs : List ℤ) (k : ℕ) (w : Wanted) (d : ℤ) → k < length ws → length ws ≡ length zs → w ≡ slice_index_or ws k w
-    → without_frame (take (suc k) ws) (take (suc k) zs) ≡ without_frame (take k ws) (take k zs) ++ cond (int_eq (slice_index_or zs k d) (code Enomem)) (w ∷ []) []
+    → short_of_frames (take (suc k) ws) (take (suc k) zs) ≡ short_of_frames (take k ws) (take k zs) ++ cond (int_eq (slice_index_or zs k d) (code Enomem)) (w ∷ []) []
 left_upto [] zs k w d lt same iw = absurd (omega (arith, lt))
 left_upto (v ∷ ws) [] k w d lt same iw = absurd (omega (arith, same))
 left_upto (v ∷ ws) (y ∷ zs) zero w d lt same iw = rw iw (one (int_eq y (code Enomem)))
@@ -177,18 +177,18 @@ left_upto (v ∷ ws) (y ∷ zs) (suc k) w d lt same iw =
     short : Wanted × ℤ → Bool
     short e = int_eq e.1 (code Enomem)
 
-    grouped : (b : Bool) → without_frame (take (suc k) ws) (take (suc k) zs) ≡ without_frame (take k ws) (take k zs) ++ cond (int_eq (slice_index_or zs k d) (code Enomem)) (w ∷ []) []
+    grouped : (b : Bool) → short_of_frames (take (suc k) ws) (take (suc k) zs) ≡ short_of_frames (take k ws) (take k zs) ++ cond (int_eq (slice_index_or zs k d) (code Enomem)) (w ∷ []) []
         → map {B = Wanted} (λ (e : Wanted × ℤ). e.0) (cond b ((v, y) ∷ filter short (zip (take (suc k) ws) (take (suc k) zs))) (filter short (zip (take (suc k) ws) (take (suc k) zs))))
         ≡ map {B = Wanted} (λ (e : Wanted × ℤ). e.0) (cond b ((v, y) ∷ filter short (zip (take k ws) (take k zs))) (filter short (zip (take k ws) (take k zs)))) ++ cond (int_eq (slice_index_or zs k d) (code Enomem)) (w ∷ []) []
     grouped true h = ap (λ l. v ∷ l) h
     grouped false h = h
 
 pub one_more_left : (ws : List Wanted) (zs : List ℤ) (k : ℕ) (w : Wanted) (d : ℤ) (b : Bool) → k < length ws → length ws ≡ length zs → w ≡ slice_index_or ws k w → b ≡ int_eq (slice_index_or zs k d) (code Enomem)
-    → without_frame (take (k + 1) ws) (take (k + 1) zs) ≡ without_frame (take k ws) (take k zs) ++ cond b (w ∷ []) []
+    → short_of_frames (take (k + 1) ws) (take (k + 1) zs) ≡ short_of_frames (take k ws) (take k zs) ++ cond b (w ∷ []) []
 one_more_left ws zs k w d b lt same iw ib =
     let e : k + 1 ≡ suc k = omega arith in
-    ap (λ n. without_frame (take n ws) (take n zs)) e ∙ left_upto ws zs k w d lt same iw
-    ∙ ap (λ b. without_frame (take k ws) (take k zs) ++ cond b (w ∷ []) []) (sym ib)
+    ap (λ n. short_of_frames (take n ws) (take n zs)) e ∙ left_upto ws zs k w d lt same iw
+    ∙ ap (λ b. short_of_frames (take k ws) (take k zs) ++ cond b (w ∷ []) []) (sym ib)
 
 -- runs give a status for each of their requests
 runs_statuses : (k : ℕ) (s : State) (rs : List Stretch) → length (runs_from k s rs []).statuses ≡ length (all_requests rs)
@@ -230,7 +230,7 @@ something_is n m e h = ⊎_elim (λ (none : n < 1). let zero_is : n ≡ 0 = omeg
 -- the first of the passes that are left
 pub passes_at : (limit : ℕ) (s : State) (nodes : List ℕ) (k : ℕ) (node : ℕ) (ws : List Wanted) → k < length nodes → node ≡ slice_index_or nodes k node
     → passes limit s (drop k nodes) ws
-    ≡ cut_within limit (all_to node ws) ++ passes limit (runs_from 0 s (cut_within limit (all_to node ws)) []).state (drop (k + 1) nodes) (without_frame ws (runs_from 0 s (cut_within limit (all_to node ws)) []).statuses)
+    ≡ cut_within limit (all_to node ws) ++ passes limit (runs_from 0 s (cut_within limit (all_to node ws)) []).state (drop (k + 1) nodes) (short_of_frames ws (runs_from 0 s (cut_within limit (all_to node ws)) []).statuses)
 passes_at limit s nodes k node ws lt is =
     let n : suc k ≡ k + 1 = omega arith in
     let next : drop k nodes ≡ node ∷ drop (k + 1) nodes = drop-cons nodes k node lt ∙ ap (λ r. r ∷ drop (suc k) nodes) (sym is) ∙ ap (λ n. node ∷ drop n nodes) n in

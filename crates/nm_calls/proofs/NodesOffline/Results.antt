@@ -25,7 +25,7 @@ use Rattle.nm_calls.specs.definitions.Migrate.{is_on}
 use Rattle.nm_calls.specs.definitions.Passes.{passes}
 use Rattle.nm_calls.specs.definitions.Systems.{SystemState, in_state}
 use Rattle.nm_calls.specs.definitions.Offline.{offline_refusal, offline_runs, refuges, still_on}
-use Rattle.nm_calls.specs.definitions.Outcome.{refused, refused_at_once, start, sets_policy, runs_asked, accesses_asked, runs_of, ended, emptied, outcome, states_of, trail}
+use Rattle.nm_calls.specs.definitions.Outcome.{refusal_of, refused_at_once, start, sets_policy, runs_asked, accesses_asked, runs_of, end_of_call, offline_outcome, outcome, states_of, trail}
 use Rattle.nm_calls.specs.definitions.Does.{Does}
 use Rattle.nm_calls.specs.views.Runs.{Stops, Empties}
 use Rattle.nm_calls.proofs.Outcomes.{LeavesSome, answers}
@@ -77,7 +77,7 @@ module _ (y : SystemState) (node : ℕ) where
   runs = offline_runs y.run_limit y.state node
 
   at_once_none : offline_refusal y.state node ≡ None → refused_at_once y.state asks ≡ None
-  unfolding refused refused_at_once
+  unfolding refusal_of refused_at_once
   at_once_none h = h
 
   unset : sets_policy asks ≡ false
@@ -85,18 +85,18 @@ module _ (y : SystemState) (node : ℕ) where
   unset = refl
 
   runs_are : offline_refusal y.state node ≡ None → runs_of y asks ≡ runs
-  unfolding refused runs_asked
+  unfolding refusal_of runs_asked
   runs_are h = ap (λ o. runs_unless o runs) h
 
   trail_is : offline_refusal y.state node ≡ None → trail y asks ≡ states_of y.state runs
-  unfolding refused runs_asked start accesses_asked
+  unfolding refusal_of runs_asked start accesses_asked
   trail_is h = ap (λ o. states_of (state_unless o y.state y.state) (runs_unless o runs)) h ∙ refl
 
   -- where a page stays, or none does
   answered : (stays : Bool) → offline_refusal y.state node ≡ None → still_on y.state (runs_from 0 y.state runs []).state node ≡ stays
-      → outcome y asks ≡ emptied y node (runs_from 0 y.state runs []).state stays
-  unfolding refused runs_asked start ended accesses_asked
-  answered stays h is = answers y asks (emptied y node (runs_from 0 y.state runs []).state stays) h (ap (emptied y node (runs_from 0 y.state runs []).state) is)
+      → outcome y asks ≡ offline_outcome y node (runs_from 0 y.state runs []).state stays
+  unfolding refusal_of runs_asked start end_of_call accesses_asked
+  answered stays h is = answers y asks (offline_outcome y node (runs_from 0 y.state runs []).state stays) h (ap (offline_outcome y node (runs_from 0 y.state runs []).state) is)
 
   stopped_at : (k : ℕ) (policy_set : Bool) (new : State) → offline_refusal y.state node ≡ None
       → Stops false (HostMemory k policy_set) y.state new runs → LeavesSome y asks k policy_set (in_state y new)

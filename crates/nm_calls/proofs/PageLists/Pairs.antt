@@ -21,7 +21,7 @@ use Rattle.nm_model.specs.definitions.Run.{moves_all}
 use Rattle.nm_calls.specs.definitions.Permission.{owner_of, info_at}
 use Rattle.nm_calls.specs.definitions.Permission.{usable}
 use Rattle.nm_steps.specs.Calls.{MigratePages}
-use Rattle.nm_calls.specs.definitions.Outcome.{refused, runs_asked}
+use Rattle.nm_calls.specs.definitions.Outcome.{refusal_of, runs_asked}
 use Rattle.nm_calls.specs.laws.Migrations.{RunsGoToNodesOnline}
 use Rattle.nm_calls.proofs.Batches.Requests.{cut_targets}
 use Rattle.nm_calls.proofs.Policies.NamedNodes.{usable_online}
@@ -80,6 +80,6 @@ pub runs_go_online : RunsGoToNodesOnline
 unfolding runs_asked
 runs_go_online y caller pid old new some set =
     let s = y.state in
-    unless_all (λ r. is_in s.online r.target ≡ true) (refused s (MigratePages caller pid old new)) (cut_within y.run_limit (migration s caller pid old new))
+    unless_all (λ r. is_in s.online r.target ≡ true) (refusal_of s (MigratePages caller pid old new)) (cut_within y.run_limit (migration s caller pid old new))
     (cut_targets (λ n. is_in s.online n ≡ true) y.run_limit (migration s caller pid old new) some
     (asked_online s (owner_of caller pid) (info_at s caller) (info_at s (owner_of caller pid)) old new set))

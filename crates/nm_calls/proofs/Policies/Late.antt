@@ -8,12 +8,12 @@ use Rattle.nm_model.specs.definitions.Cut.{Stretch}
 use Rattle.nm_calls.specs.declared.call_error.CallError.{CallError}
 use Rattle.nm_calls.specs.declared.call_error.CallError.TheVariants.{Refused, HostMemory}
 use Rattle.nm_calls.specs.declared.mbind.Binding.{Binding}
-use Rattle.nm_calls.specs.definitions.Mbind.{has_stray, is_stray, is_strict, listed, moves, stray_pages, tells_late}
-use Rattle.nm_calls.specs.views.Runs.{Fails, Stops}
+use Rattle.nm_calls.specs.definitions.Mbind.{has_stray, is_stray, is_strict, pages_to_bind, has_move, stray_pages, tells_late}
+use Rattle.nm_calls.specs.views.Runs.{FailsBinding, Stops}
 
 -- an error after the moves is told exactly where a listed page strays then
-pub late_is : (s t : State) (b : Binding) (flags : ℕ) → (is_strict flags && list_any (is_stray t b.policy) (listed s b flags)) ≡ (tells_late flags && has_stray s t b)
-late_is s t b flags = elim (moves flags) as (λ m. (is_strict flags && list_any (is_stray t b.policy) (if m then stray_pages s b else [])) ≡ ((is_strict flags && m) && has_stray s t b)) [
+pub late_is : (s t : State) (b : Binding) (flags : ℕ) → (is_strict flags && list_any (is_stray t b.policy) (pages_to_bind s b flags)) ≡ (tells_late flags && has_stray s t b)
+late_is s t b flags = elim (has_move flags) as (λ m. (is_strict flags && list_any (is_stray t b.policy) (if m then stray_pages s b else [])) ≡ ((is_strict flags && m) && has_stray s t b)) [
   | true ↦ strict (is_strict flags) (has_stray s t b)
   | false ↦ lenient (is_strict flags) (has_stray s t b)
 ]
@@ -27,7 +27,7 @@ late_is s t b flags = elim (moves flags) as (λ m. (is_strict flags && list_any 
     lenient false y = refl
 
 -- a call stops where one of its runs does
-pub stops_fail : (e : CallError) (old set new : State) (b : Binding) (runs : List Stretch) (flags : ℕ) → Stops true e set new runs → Fails e old set new b runs flags
+pub stops_fail : (e : CallError) (old set new : State) (b : Binding) (runs : List Stretch) (flags : ℕ) → Stops true e set new runs → FailsBinding e old set new b runs flags
 stops_fail (Refused e) old set new b runs flags h = absurd h
 stops_fail (HostMemory k policy_set) old set new b runs flags h = inr h
 

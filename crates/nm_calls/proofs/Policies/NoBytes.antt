@@ -19,9 +19,9 @@ use Rattle.nm_calls.specs.declared.mbind.Binding.{Binding}
 use Rattle.nm_steps.specs.Calls.{Mbind}
 use Rattle.nm_calls.specs.definitions.Answers.{Failed}
 use Rattle.nm_calls.specs.definitions.Outcome.{outcome}
-use Rattle.nm_calls.specs.definitions.Mbind.{binding, each_to, has_stray, home_of, is_stray, listed, mbind_refusal, mbind_runs, moves, nodes_tried, runs_by, stray_pages, tells_late}
+use Rattle.nm_calls.specs.definitions.Mbind.{binding, each_to, has_stray, home_of, is_stray, pages_to_bind, mbind_refusal, mbind_runs, has_move, nodes_tried, runs_by, stray_pages, tells_late}
 use Rattle.nm_calls.specs.definitions.Migrate.{once}
-use Rattle.nm_calls.specs.definitions.Permission.{info_at, moves_all}
+use Rattle.nm_calls.specs.definitions.Permission.{info_at, has_move_all}
 use Rattle.nm_calls.specs.definitions.Systems.{SystemState}
 use Rattle.nm_calls.specs.views.Runs.{Binds, Stops}
 use Rattle.nm_types.specs.declared.located.Located.{Located}
@@ -54,19 +54,19 @@ no_moves limit s Local home pid all = passes_none limit s (nodes_tried s home Lo
 
 no_runs : (limit : ℕ) (s : State) (b : Binding) (flags : ℕ) → b.end ≤ b.first → mbind_runs limit s b flags ≡ []
 no_runs limit s b flags few =
-    let none : (if moves flags then stray_pages s b else []) ≡ [] = elim (moves flags) as (λ m. (if m then stray_pages s b else []) ≡ []) [
+    let none : (if has_move flags then stray_pages s b else []) ≡ [] = elim (has_move flags) as (λ m. (if m then stray_pages s b else []) ≡ []) [
       | true ↦ no_strays s b few
       | false ↦ refl
     ] in
-    ap (runs_by limit s b.policy (home_of (info_at s b.pid)) b.pid (moves_all flags)) none ∙ no_moves limit s b.policy (home_of (info_at s b.pid)) b.pid (moves_all flags)
+    ap (runs_by limit s b.policy (home_of (info_at s b.pid)) b.pid (has_move_all flags)) none ∙ no_moves limit s b.policy (home_of (info_at s b.pid)) b.pid (has_move_all flags)
 
 and_false : (b : Bool) → (b && false) ≡ false
 and_false true = refl
 and_false false = refl
 
 -- where a page is listed, the flags ask for moves
-pub listed_moves : (s : State) (b : Binding) (flags : ℕ) → 0 < length (listed s b flags) → moves flags ≡ true
-listed_moves s b flags some = elim (moves flags) as (λ m. 0 < length (if m then stray_pages s b else []) → m ≡ true) [
+pub listed_moves : (s : State) (b : Binding) (flags : ℕ) → 0 < length (pages_to_bind s b flags) → has_move flags ≡ true
+listed_moves s b flags some = elim (has_move flags) as (λ m. 0 < length (if m then stray_pages s b else []) → m ≡ true) [
   | true ↦ λ h. refl
   | false ↦ λ h. absurd (omega (arith, h))
 ] some

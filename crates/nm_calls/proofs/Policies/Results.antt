@@ -13,8 +13,8 @@ use Rattle.nm_calls.specs.declared.call_error.CallError.TheVariants.{Refused, Ho
 use Rattle.nm_steps.specs.Calls.{Call, Mbind}
 use Rattle.nm_calls.specs.definitions.Answers.{Refusal, Failed}
 use Rattle.nm_calls.specs.definitions.Systems.{SystemState, in_state}
-use Rattle.nm_calls.specs.definitions.Mbind.{mbind_refusal, binding, mbind_runs, policed, tells_late, has_stray}
-use Rattle.nm_calls.specs.definitions.Outcome.{refused, refused_at_once, start, sets_policy, runs_asked, accesses_asked, runs_of, ended, outcome, leaves, states_of, trail}
+use Rattle.nm_calls.specs.definitions.Mbind.{mbind_refusal, binding, mbind_runs, with_binding, tells_late, has_stray}
+use Rattle.nm_calls.specs.definitions.Outcome.{refusal_of, refused_at_once, start, sets_policy, runs_asked, accesses_asked, runs_of, end_of_call, outcome, leaves, states_of, trail}
 use Rattle.nm_calls.specs.definitions.Does.{Does}
 use Rattle.nm_calls.specs.views.Runs.{Stops, Binds}
 use Rattle.nm_calls.proofs.Trails.{states_are, runs_unless, state_unless}
@@ -30,17 +30,17 @@ module _ (y : SystemState) (caller addr len mode : ℕ) (nodes : List ℕ) (flag
   asks = Mbind caller addr len mode nodes flags
 
   abbrev first : State
-  first = policed y.state caller addr len mode nodes
+  first = with_binding y.state caller addr len mode nodes
 
   abbrev runs : List Stretch
   runs = mbind_runs y.run_limit first (binding y.state caller addr len mode nodes) flags
 
-  refused_none : mbind_refusal y.state caller addr len mode nodes flags ≡ None → refused y.state asks ≡ None
-  unfolding refused
+  refused_none : mbind_refusal y.state caller addr len mode nodes flags ≡ None → refusal_of y.state asks ≡ None
+  unfolding refusal_of
   refused_none h = h
 
   at_once_none : mbind_refusal y.state caller addr len mode nodes flags ≡ None → refused_at_once y.state asks ≡ None
-  unfolding refused refused_at_once
+  unfolding refusal_of refused_at_once
   at_once_none h = h
 
   sets : sets_policy asks ≡ true
@@ -48,18 +48,18 @@ module _ (y : SystemState) (caller addr len mode : ℕ) (nodes : List ℕ) (flag
   sets = refl
 
   runs_are : mbind_refusal y.state caller addr len mode nodes flags ≡ None → runs_of y asks ≡ runs
-  unfolding refused runs_asked
+  unfolding refusal_of runs_asked
   runs_are h = ap (λ o. runs_unless o runs) h
 
   trail_is : mbind_refusal y.state caller addr len mode nodes flags ≡ None → trail y asks ≡ states_of first runs
-  unfolding refused runs_asked start accesses_asked
+  unfolding refusal_of runs_asked start accesses_asked
   trail_is h = ap (λ o. states_of (state_unless o y.state first) (runs_unless o runs)) h
 
   -- where the pages stray, or do not
   answered : (late : Bool) (new : State) → mbind_refusal y.state caller addr len mode nodes flags ≡ None
       → (tells_late flags && has_stray y.state (runs_from 0 first runs []).state (binding y.state caller addr len mode nodes)) ≡ late → new ≡ (runs_from 0 first runs []).state
       → outcome y asks ≡ record { answer = late_answer late; system = in_state y new }
-  unfolding refused runs_asked start ended accesses_asked
+  unfolding refusal_of runs_asked start end_of_call accesses_asked
   answered late new h strays is =
       answers y asks (record { answer = late_answer late; system = in_state y new }) h
       (ap (λ b. leaves y (late_answer b) (runs_from 0 first runs []).state) strays ∙ ap (λ s. leaves y (late_answer late) s) (sym is))
@@ -90,6 +90,6 @@ err_is (Err x) e h = ap (λ (x : CallError). Err x) h.1
 -- a call that is refused
 pub refuses_mbind : {T : Type 0} (y : SystemState) (caller addr len mode : ℕ) (nodes : List ℕ) (flags : ℕ) (r : Result T CallError) (e : Errno)
     → mbind_refusal y.state caller addr len mode nodes flags ≡ Some e → IsErr r × IsErrAnd r (λ x. x ≡ Refused e) → Does (λ done. Failed 0) r y y (Mbind caller addr len mode nodes flags)
-unfolding refused
+unfolding refusal_of
 refuses_mbind y caller addr len mode nodes flags r e h is =
     subst (λ r. Does (λ done. Failed 0) r y y (Mbind caller addr len mode nodes flags)) (sym (err_is r e is)) (refuses y (Mbind caller addr len mode nodes flags) e h)

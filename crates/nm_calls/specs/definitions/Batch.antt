@@ -24,10 +24,10 @@ list_at lists k = slice_index_or lists k []
 
 -- the answers in the order of the accesses, from each run's answers in order: an access has the first answer of its run
 -- that no earlier access has. An access of a run that is not made has no answer
-abbrev pub in_order : List ℕ → List (List AccessAnswer) → List AccessAnswer
-in_order [] answers = []
-in_order (run ∷ runs) answers =
-    take 1 (list_at answers run) ++ in_order runs (slice_set answers run (drop 1 (list_at answers run)))
+abbrev pub answers_in_order : List ℕ → List (List AccessAnswer) → List AccessAnswer
+answers_in_order [] answers = []
+answers_in_order (run ∷ runs) answers =
+    take 1 (list_at answers run) ++ answers_in_order runs (slice_set answers run (drop 1 (list_at answers run)))
 
 -- the same by counting: an access has the answer of its run whose index is the number of earlier accesses that name the
 -- run

@@ -12,7 +12,7 @@ use Rattle.nm_calls.specs.declared.call_error.CallError.TheVariants.{Refused, Ho
 use Rattle.nm_calls.specs.declared.answer.Moved.{Moved}
 use Rattle.nm_steps.specs.Calls.{Call}
 use Rattle.nm_calls.specs.definitions.Answers.{Answer, Refusal}
-use Rattle.nm_calls.specs.definitions.Batch.{in_order}
+use Rattle.nm_calls.specs.definitions.Batch.{answers_in_order}
 use Rattle.nm_calls.specs.definitions.Systems.{SystemState}
 use Rattle.nm_calls.specs.definitions.Outcome.{refused_at_once, outcome, sets_policy, runs_of, after_runs, states_from}
 
@@ -40,7 +40,7 @@ DoesOrRefuses view (Err e) old new call = outcome old call ≡ record { answer =
 abbrev pub Reports : {A : Type 0} → Moved A → State → List ℕ → RunResult → Type 0
 Reports moved new numbers made =
     (moved.statuses.items ≡ made.statuses) × (moved.failed ≡ failures made.statuses)
-    × (map answer_shown moved.answers.items ≡ in_order numbers made.answers) × (new ≡ made.state)
+    × (map answer_shown moved.answers.items ≡ answers_in_order numbers made.answers) × (new ≡ made.state)
 
 -- the host runs out of memory for one of these runs, after those before it
 abbrev pub LacksMemory : CallError → State → State → List Stretch → List (ℕ × Access) → Type 0

@@ -25,20 +25,20 @@ use Rattle.nm_model.specs.definitions.Effect.{page_count, policy_refusal, set_po
 use Rattle.nm_model.specs.definitions.Effect.{first_error}
 use Rattle.nm_calls.specs.declared.mbind.Binding.{Binding}
 use Rattle.nm_calls.specs.definitions.Migrate.{once}
-use Rattle.nm_calls.specs.definitions.Permission.{moves_all, info_at, allowed_at}
+use Rattle.nm_calls.specs.definitions.Permission.{has_move_all, info_at, allowed_at}
 use Rattle.nm_calls.specs.definitions.Passes.{passes}
 use Rattle.nm_calls.specs.definitions.Permission.{names_missing_node, usable, is_none}
 
 -- the lowest node is preferred, or the nearest if there is none
-abbrev pub preferred : List ℕ → Policy
-preferred [] = Local
-preferred (n ∷ ns) = Preferred n
+abbrev pub preferred_policy : List ℕ → Policy
+preferred_policy [] = Local
+preferred_policy (n ∷ ns) = Preferred n
 
 -- the policy of a mode and a set of nodes. The modes of mbind(2) are MPOL_DEFAULT (0), MPOL_PREFERRED (1),
 -- MPOL_BIND (2), MPOL_INTERLEAVE (3) and MPOL_LOCAL (4)
 abbrev pub policy_of : ℕ → List ℕ → Policy
 policy_of mode nodes =
-    if mode == 1 then preferred nodes
+    if mode == 1 then preferred_policy nodes
     else (if mode == 2 then Bind nodes
     else (if mode == 3 then Interleave nodes
     else (if mode == 4 then Local else Default)))
@@ -48,8 +48,8 @@ abbrev pub is_strict : ℕ → Bool
 is_strict flags = flags % 2 == 1
 
 -- whether MPOL_MF_MOVE (2) or MPOL_MF_MOVE_ALL (4) is among the flags
-abbrev pub moves : ℕ → Bool
-moves flags = (flags / 2 % 2 == 1) || moves_all flags
+abbrev pub has_move : ℕ → Bool
+has_move flags = (flags / 2 % 2 == 1) || has_move_all flags
 
 -- no nodes for MPOL_BIND (2) or MPOL_INTERLEAVE (3), which need some; or nodes for MPOL_DEFAULT (0) or
 -- MPOL_LOCAL (4), which take none
@@ -91,20 +91,20 @@ abbrev pub mode_refusal : State → Option ProcessInfo → ℕ → List ℕ → 
 mode_refusal s None mode nodes flags = Some Esrch
 mode_refusal s (Some caller) mode nodes flags =
     let invalid = nat_le 8 flags || is_bad_set s caller.allowed mode nodes in
-    first_error ((invalid, Einval) ∷ (moves_all flags && not caller.privileged, Eperm) ∷ [])
+    first_error ((invalid, Einval) ∷ (has_move_all flags && not caller.privileged, Eperm) ∷ [])
 
 -- EINVAL: a bad address or length; EFAULT: a page without an area; EIO: MPOL_MF_STRICT without a flag to move, and a
 -- page that does not follow the policy
-abbrev pub range_refusal : State → ℕ → ℕ → ℕ → Policy → ℕ → Option Errno
-range_refusal s caller address len policy flags =
+abbrev pub binding_refusal : State → ℕ → ℕ → ℕ → Policy → ℕ → Option Errno
+binding_refusal s caller address len policy flags =
     let pages = stray_pages s (range_of caller address len policy) in
-    let strict = is_strict flags && not (moves flags) && not (length pages == 0) in
+    let strict = is_strict flags && not (has_move flags) && not (length pages == 0) in
     earlier (policy_refusal s caller address len) (first_error ((strict, Eio) ∷ []))
 
 -- the refusal of the arguments, or else that of the range
 abbrev pub mbind_refusal : State → ℕ → ℕ → ℕ → ℕ → List ℕ → ℕ → Option Errno
 mbind_refusal s caller address len mode nodes flags =
-    let range = range_refusal s caller address len (policy_asked s caller mode nodes) flags in
+    let range = binding_refusal s caller address len (policy_asked s caller mode nodes) flags in
     earlier (mode_refusal s (info_at s caller) mode nodes flags) range
 
 -- requests for pages, each at the page number where a process sees it
@@ -128,13 +128,13 @@ runs_by limit s (Interleave nodes) home pid all pages =
 runs_by limit s policy home pid all pages = passes limit s (nodes_tried s home policy) (requests_at pid all pages)
 
 -- the pages to move: none without a flag to move
-abbrev pub listed : State → Binding → ℕ → List Located
-listed s b flags = if moves flags then stray_pages s b else []
+abbrev pub pages_to_bind : State → Binding → ℕ → List Located
+pages_to_bind s b flags = if has_move flags then stray_pages s b else []
 
 -- the runs of a call
 abbrev pub mbind_runs : ℕ → State → Binding → ℕ → List Stretch
 mbind_runs limit s b flags =
-    runs_by limit s b.policy (home_of (info_at s b.pid)) b.pid (moves_all flags) (listed s b flags)
+    runs_by limit s b.policy (home_of (info_at s b.pid)) b.pid (has_move_all flags) (pages_to_bind s b flags)
 
 -- whether a listed page, where it is in this state, does not follow the policy
 abbrev pub is_stray : State → Policy → Located → Bool
@@ -151,8 +151,8 @@ NoStrayIsListedTwice = (s : State) (b : Binding) → IsDistinct same_page (map (
 
 -- whether the flags ask for moves, and for an error if a page does not follow after them
 abbrev pub tells_late : ℕ → Bool
-tells_late flags = is_strict flags && moves flags
+tells_late flags = is_strict flags && has_move flags
 
 -- the state before the first run, with the policy set
-abbrev pub policed : State → ℕ → ℕ → ℕ → ℕ → List ℕ → State
-policed s caller address len mode nodes = set_policy s caller address len (policy_asked s caller mode nodes)
+abbrev pub with_binding : State → ℕ → ℕ → ℕ → ℕ → List ℕ → State
+with_binding s caller address len mode nodes = set_policy s caller address len (policy_asked s caller mode nodes)

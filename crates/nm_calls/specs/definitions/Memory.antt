@@ -11,7 +11,7 @@ use Rattle.nm_model.specs.definitions.AreaRefusal.{overlaps}
 use Rattle.nm_model.specs.definitions.Areas.{page_count}
 use Rattle.nm_model.specs.definitions.PageTables.{entries_of}
 use Rattle.nm_model.specs.definitions.Seen.{sight_at}
-use Rattle.nm_calls.specs.definitions.Mbind.{moves}
+use Rattle.nm_calls.specs.definitions.Mbind.{has_move}
 use Rattle.nm_steps.specs.Calls.{Call, Unmap, Exit, Pin, Unpin, WriteBytes, MovePages, Query, FreeList, Pagemap, Vmstat, NumaMaps, Mbind, Offline, Online}
 
 -- what has to hold where a call asks for memory: there is something to unmap (an area, and a page that has a frame or an
@@ -28,7 +28,7 @@ MayAllocate s (WriteBytes pid addr bytes) = (page : Page) → sight_at s pid (ad
 MayAllocate s (MovePages caller pid pages nodes flags during) = 0 < length pages + length during
 MayAllocate s (Query caller pid pages flags) = 0 < length pages
 MayAllocate s (Mbind caller addr len mode nodes flags) =
-    (0 < len) × ((moves flags ≡ true) ⊎ (HasSplit s.areas caller (addr / 4096) ⊎ HasSplit s.areas caller (addr / 4096 + page_count len)))
+    (0 < len) × ((has_move flags ≡ true) ⊎ (HasSplit s.areas caller (addr / 4096) ⊎ HasSplit s.areas caller (addr / 4096 + page_count len)))
 MayAllocate s (Offline node) = is_in s.online node ≡ true
 MayAllocate s (Online node) = ⊥
 MayAllocate s (FreeList node) = 0 < length (free_list s node)

@@ -17,12 +17,12 @@ use Rattle.nm_steps.specs.Calls.{Call, Spawn, MapPages, Attach, Unmap, Exit, Pin
 use Rattle.nm_calls.specs.definitions.Answers.{Answer, Refusal, Done, Held, NewSegment, TheBytes, Statuses, Failed, Frames, Entries, TheTotals, Lines}
 use Rattle.nm_calls.specs.definitions.Entries.{pagemap}
 use Rattle.nm_calls.specs.definitions.Maps.{numa_maps}
-use Rattle.nm_calls.specs.definitions.Permission.{query_refusal, moves_all, owner_of}
+use Rattle.nm_calls.specs.definitions.Permission.{query_refusal, has_move_all, owner_of}
 use Rattle.nm_types.specs.declared.errno.Errno.TheVariants.{Eio, Ebusy}
 use Rattle.nm_calls.specs.definitions.Batch.{move_refusal}
-use Rattle.nm_calls.specs.definitions.Batch.{in_order}
+use Rattle.nm_calls.specs.definitions.Batch.{answers_in_order}
 use Rattle.nm_calls.specs.definitions.Migrate.{migrate_refusal, migration}
-use Rattle.nm_calls.specs.definitions.Mbind.{mbind_refusal, policed, binding, mbind_runs, has_stray, tells_late}
+use Rattle.nm_calls.specs.definitions.Mbind.{mbind_refusal, with_binding, binding, mbind_runs, has_stray, tells_late}
 use Rattle.nm_calls.specs.definitions.Offline.{offline_refusal, offline_runs, still_on}
 use Rattle.nm_calls.specs.definitions.Systems.{SystemState, in_state}
 
@@ -32,46 +32,46 @@ refusal_in (engine.Refused e) = Some e
 refusal_in answer = None
 
 -- the answer to an access
-abbrev pub shown : engine.AccessAnswer → Answer
-shown (engine.Bytes bytes) = TheBytes bytes
-shown engine.Done = Done
-shown engine.Held = Held
-shown (engine.Refused e) = Refusal e
+abbrev pub access_answer : engine.AccessAnswer → Answer
+access_answer (engine.Bytes bytes) = TheBytes bytes
+access_answer engine.Done = Done
+access_answer engine.Held = Held
+access_answer (engine.Refused e) = Refusal e
 
 -- where the pages at these addresses of a process are
 abbrev pub statuses_of : State → ℕ → List ℕ → List ℤ
 statuses_of s pid addresses = map (λ address. node_status s pid (address / 4096)) addresses
 
 -- the error with which a call is refused before it changes anything, if it is
-unfoldable pub refused : State → Call → Option Errno
-refused s (Spawn pid uid home allowed privileged) = spawn_refusal s pid home allowed
-refused s (MapPages pid addr pages shared) = map_refusal s pid addr pages
-refused s (Attach pid addr segment offset pages) = attach_refusal s pid addr segment offset pages
-refused s (Unmap pid addr pages) = unmap_refusal s pid addr pages
-refused s (Exit pid) = exit_refusal s pid
-refused s (Pin pid addr) = pin_refusal s pid addr
-refused s (Unpin pid addr) = unpin_refusal s pid addr
-refused s (ReadBytes pid addr len) = refusal_in (read s pid addr len).answer
-refused s (WriteBytes pid addr bytes) = refusal_in (write s pid addr bytes).answer
-refused s (MovePages caller pid pages nodes flags during) = move_refusal s caller pid nodes flags
-refused s (MigratePages caller pid old new) = migrate_refusal s caller pid old new
-refused s (Query caller pid pages flags) = query_refusal s caller pid flags
-refused s (Mbind caller addr len mode nodes flags) = mbind_refusal s caller addr len mode nodes flags
-refused s (Offline node) = offline_refusal s node
-refused s (Online node) = list_refusal s node
-refused s (FreeList node) = list_refusal s node
-refused s (Pagemap pid) = entries_refusal s pid
-refused s Vmstat = None
-refused s (NumaMaps pid) = entries_refusal s pid
+unfoldable pub refusal_of : State → Call → Option Errno
+refusal_of s (Spawn pid uid home allowed privileged) = spawn_refusal s pid home allowed
+refusal_of s (MapPages pid addr pages shared) = map_refusal s pid addr pages
+refusal_of s (Attach pid addr segment offset pages) = attach_refusal s pid addr segment offset pages
+refusal_of s (Unmap pid addr pages) = unmap_refusal s pid addr pages
+refusal_of s (Exit pid) = exit_refusal s pid
+refusal_of s (Pin pid addr) = pin_refusal s pid addr
+refusal_of s (Unpin pid addr) = unpin_refusal s pid addr
+refusal_of s (ReadBytes pid addr len) = refusal_in (read s pid addr len).answer
+refusal_of s (WriteBytes pid addr bytes) = refusal_in (write s pid addr bytes).answer
+refusal_of s (MovePages caller pid pages nodes flags during) = move_refusal s caller pid nodes flags
+refusal_of s (MigratePages caller pid old new) = migrate_refusal s caller pid old new
+refusal_of s (Query caller pid pages flags) = query_refusal s caller pid flags
+refusal_of s (Mbind caller addr len mode nodes flags) = mbind_refusal s caller addr len mode nodes flags
+refusal_of s (Offline node) = offline_refusal s node
+refusal_of s (Online node) = list_refusal s node
+refusal_of s (FreeList node) = list_refusal s node
+refusal_of s (Pagemap pid) = entries_refusal s pid
+refusal_of s Vmstat = None
+refusal_of s (NumaMaps pid) = entries_refusal s pid
 
 -- the refusals that a call checks before it allocates: all except the lack of a free frame for a read
 unfoldable pub refused_at_once : State → Call → Option Errno
 refused_at_once s (ReadBytes pid addr len) = site_refusal s pid addr len
-refused_at_once s call = refused s call
+refused_at_once s call = refusal_of s call
 
 -- the state before the first run of a call that is not refused, with the policy of mbind set
 unfoldable pub start : SystemState → Call → State
-start y (Mbind caller addr len mode nodes flags) = policed y.state caller addr len mode nodes
+start y (Mbind caller addr len mode nodes flags) = with_binding y.state caller addr len mode nodes
 start y call = y.state
 
 -- whether a call sets a policy
@@ -82,10 +82,10 @@ sets_policy call = false
 -- the runs that a call makes if it is not refused; none if it moves no pages
 unfoldable pub runs_asked : SystemState → Call → List Stretch
 runs_asked y (MovePages caller pid pages nodes flags during) =
-    cut_within y.run_limit (requests_of (owner_of caller pid) (moves_all flags) pages nodes)
+    cut_within y.run_limit (requests_of (owner_of caller pid) (has_move_all flags) pages nodes)
 runs_asked y (MigratePages caller pid old new) = cut_within y.run_limit (migration y.state caller pid old new)
 runs_asked y (Mbind caller addr len mode nodes flags) =
-    let set = policed y.state caller addr len mode nodes in
+    let set = with_binding y.state caller addr len mode nodes in
     mbind_runs y.run_limit set (binding y.state caller addr len mode nodes) flags
 runs_asked y (Offline node) = offline_runs y.run_limit y.state node
 runs_asked y call = []
@@ -105,38 +105,38 @@ abbrev pub leaves : SystemState → Answer → State → Outcome
 leaves y answer s = record { answer = answer; system = in_state y s }
 
 -- a node that a page stays on is still online; otherwise it is offline
-abbrev pub emptied : SystemState → ℕ → State → Bool → Outcome
-emptied y node s stays = if stays then leaves y (Refusal Ebusy) s else leaves y Done (set_online s node false)
+abbrev pub offline_outcome : SystemState → ℕ → State → Bool → Outcome
+offline_outcome y node s stays = if stays then leaves y (Refusal Ebusy) s else leaves y Done (set_online s node false)
 
 -- the answer after the runs of a call that is not refused before them, and the system then: mbind reports a page that
 -- does not follow its policy, and offline a page that stays, and the moves remain
-unfoldable pub ended : SystemState → Call → RunResult → Outcome
-ended y (Spawn pid uid home allowed privileged) made = leaves y Done (spawn y.state pid uid home allowed privileged)
-ended y (MapPages pid addr pages shared) made =
+unfoldable pub end_of_call : SystemState → Call → RunResult → Outcome
+end_of_call y (Spawn pid uid home allowed privileged) made = leaves y Done (spawn y.state pid uid home allowed privileged)
+end_of_call y (MapPages pid addr pages shared) made =
     leaves y (NewSegment y.state.next_segment) (map_new y.state pid addr pages shared)
-ended y (Attach pid addr segment offset pages) made = leaves y Done (attach y.state pid addr segment offset pages)
-ended y (Unmap pid addr pages) made = leaves y Done (unmap y.state pid addr pages)
-ended y (Exit pid) made = leaves y Done (exit y.state pid)
-ended y (Pin pid addr) made = leaves y Done (pin y.state pid addr)
-ended y (Unpin pid addr) made = leaves y Done (unpin y.state pid addr)
-ended y (ReadBytes pid addr len) made =
-    let access = read y.state pid addr len in leaves y (shown access.answer) access.state
-ended y (WriteBytes pid addr bytes) made =
-    let access = write y.state pid addr bytes in leaves y (shown access.answer) access.state
-ended y (MovePages caller pid pages nodes flags during) made =
-    leaves y (Statuses (failures made.statuses) made.statuses (in_order (keys_of during) made.answers)) made.state
-ended y (MigratePages caller pid old new) made = leaves y (Failed (failures made.statuses)) made.state
-ended y (Query caller pid pages flags) made =
+end_of_call y (Attach pid addr segment offset pages) made = leaves y Done (attach y.state pid addr segment offset pages)
+end_of_call y (Unmap pid addr pages) made = leaves y Done (unmap y.state pid addr pages)
+end_of_call y (Exit pid) made = leaves y Done (exit y.state pid)
+end_of_call y (Pin pid addr) made = leaves y Done (pin y.state pid addr)
+end_of_call y (Unpin pid addr) made = leaves y Done (unpin y.state pid addr)
+end_of_call y (ReadBytes pid addr len) made =
+    let access = read y.state pid addr len in leaves y (access_answer access.answer) access.state
+end_of_call y (WriteBytes pid addr bytes) made =
+    let access = write y.state pid addr bytes in leaves y (access_answer access.answer) access.state
+end_of_call y (MovePages caller pid pages nodes flags during) made =
+    leaves y (Statuses (failures made.statuses) made.statuses (answers_in_order (keys_of during) made.answers)) made.state
+end_of_call y (MigratePages caller pid old new) made = leaves y (Failed (failures made.statuses)) made.state
+end_of_call y (Query caller pid pages flags) made =
     leaves y (Statuses 0 (statuses_of y.state (owner_of caller pid) pages) []) y.state
-ended y (Mbind caller addr len mode nodes flags) made =
+end_of_call y (Mbind caller addr len mode nodes flags) made =
     let strays = has_stray y.state made.state (binding y.state caller addr len mode nodes) in
     leaves y (if tells_late flags && strays then Refusal Eio else Failed 0) made.state
-ended y (Offline node) made = emptied y node made.state (still_on y.state made.state node)
-ended y (Online node) made = leaves y Done (set_online y.state node true)
-ended y (FreeList node) made = leaves y (Frames (free_list y.state node)) y.state
-ended y (Pagemap pid) made = leaves y (Entries (pagemap y.state pid)) y.state
-ended y Vmstat made = leaves y (TheTotals y.state.moved y.state.failed) y.state
-ended y (NumaMaps pid) made = leaves y (Lines (numa_maps y.state pid)) y.state
+end_of_call y (Offline node) made = offline_outcome y node made.state (still_on y.state made.state node)
+end_of_call y (Online node) made = leaves y Done (set_online y.state node true)
+end_of_call y (FreeList node) made = leaves y (Frames (free_list y.state node)) y.state
+end_of_call y (Pagemap pid) made = leaves y (Entries (pagemap y.state pid)) y.state
+end_of_call y Vmstat made = leaves y (TheTotals y.state.moved y.state.failed) y.state
+end_of_call y (NumaMaps pid) made = leaves y (Lines (numa_maps y.state pid)) y.state
 
 -- the refusal, with the system as it was; or this outcome if there is no refusal
 abbrev pub unless : Option Errno → SystemState → Outcome → Outcome
@@ -147,11 +147,11 @@ unless None y o = o
 abbrev pub outcome : SystemState → Call → Outcome
 outcome y call =
     let made = runs_from 0 (start y call) (runs_asked y call) (accesses_asked call) in
-    unless (refused y.state call) y (ended y call made)
+    unless (refusal_of y.state call) y (end_of_call y call made)
 
 -- the runs of a call; none if it is refused
 abbrev pub runs_of : SystemState → Call → List Stretch
-runs_of y call = if is_some (refused y.state call) then [] else runs_asked y call
+runs_of y call = if is_some (refusal_of y.state call) then [] else runs_asked y call
 
 -- the states before, between and after runs numbered from k on, each with its accesses
 abbrev pub states_from : ℕ → State → List Stretch → List (ℕ × Access) → List State
@@ -164,12 +164,12 @@ abbrev pub states_of : State → List Stretch → List State
 states_of s rs = states_from 0 s rs []
 
 -- the state before the first run of a call, with the policy of mbind set; as it was if the call is refused
-abbrev pub started : SystemState → Call → State
-started y call = if is_some (refused y.state call) then y.state else start y call
+abbrev pub state_before_runs : SystemState → Call → State
+state_before_runs y call = if is_some (refusal_of y.state call) then y.state else start y call
 
 -- the trail of a call: the states from before its first run, with the policy set, to after its last
 abbrev pub trail : SystemState → Call → List State
-trail y call = states_from 0 (started y call) (runs_of y call) (accesses_asked call)
+trail y call = states_from 0 (state_before_runs y call) (runs_of y call) (accesses_asked call)
 
 -- the system after the first `runs` runs of a call
 abbrev pub after_runs : SystemState → Call → ℕ → SystemState

@@ -11,8 +11,8 @@ use Rattle.nm_model.specs.definitions.Cut.{cut_within}
 use Rattle.nm_model.specs.definitions.Run.{RunResult, batch}
 
 -- the requests that found no free frame
-abbrev pub without_frame : List Wanted → List ℤ → List Wanted
-without_frame wanted statuses = map (λ e. e.0) (filter (λ e. int_eq e.1 (code Enomem)) (zip wanted statuses))
+abbrev pub short_of_frames : List Wanted → List ℤ → List Wanted
+short_of_frames wanted statuses = map (λ e. e.0) (filter (λ e. int_eq e.1 (code Enomem)) (zip wanted statuses))
 
 -- the runs of passes over nodes: each pass is one batch to one node, and requests without a free frame go on to the
 -- next
@@ -20,4 +20,4 @@ abbrev pub passes : ℕ → State → List ℕ → List Wanted → List Stretch
 passes limit s [] wanted = []
 passes limit s (node ∷ nodes) wanted =
     let made : RunResult = batch limit s (all_to node wanted) [] in
-    cut_within limit (all_to node wanted) ++ passes limit made.state nodes (without_frame wanted made.statuses)
+    cut_within limit (all_to node wanted) ++ passes limit made.state nodes (short_of_frames wanted made.statuses)

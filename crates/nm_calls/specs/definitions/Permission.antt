@@ -15,8 +15,8 @@ use Rattle.nm_types.specs.Layout.{node_count}
 use Rattle.nm_types.specs.Nodes.{is_in}
 
 -- whether MPOL_MF_MOVE_ALL is among the flags; without it they act as MPOL_MF_MOVE
-abbrev pub moves_all : ℕ → Bool
-moves_all flags = flags / 4 % 2 == 1
+abbrev pub has_move_all : ℕ → Bool
+has_move_all flags = flags / 4 % 2 == 1
 
 -- pid 0 is the caller
 abbrev pub owner_of : ℕ → ℕ → ℕ
@@ -25,7 +25,7 @@ owner_of caller pid = if pid == 0 then caller else pid
 -- EINVAL: a flag other than MPOL_MF_MOVE (2) and MPOL_MF_MOVE_ALL (4); EPERM: MPOL_MF_MOVE_ALL without privilege
 abbrev pub flags_refusal : Bool → ℕ → Option Errno
 flags_refusal privileged flags =
-    first_error ((nat_le 8 flags || (flags % 2 == 1), Einval) ∷ (moves_all flags && not privileged, Eperm) ∷ [])
+    first_error ((nat_le 8 flags || (flags % 2 == 1), Einval) ∷ (has_move_all flags && not privileged, Eperm) ∷ [])
 
 -- ESRCH: no such process; EPERM: a process of another user, without privilege
 abbrev pub right_refusal : ProcessInfo → Option ProcessInfo → Option Errno

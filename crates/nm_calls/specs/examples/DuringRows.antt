@@ -13,14 +13,14 @@ use Rattle.nm_calls.specs.definitions.Outcome.{Outcome, outcome}
 use Rattle.nm_calls.specs.examples.MbindRows.{system_in, left_in}
 
 -- process 1 moves pages of its own, with accesses made meanwhile
-abbrev pub moving : State → List ℕ → List ℕ → List (ℕ × Access) → Outcome
-moving s pages nodes during = outcome (system_in s) (MovePages 1 0 pages nodes 2 during)
+abbrev pub move_with_accesses : State → List ℕ → List ℕ → List (ℕ × Access) → Outcome
+move_with_accesses s pages nodes during = outcome (system_in s) (MovePages 1 0 pages nodes 2 during)
 
 -- four pages fill node 0. One of them moves, and cannot be read meanwhile; the next one can; and a page written for the
 -- first time takes the frame after the one reserved for the move, not the one that becomes free
 abbrev pub FramesAreReserved : Type 0
 FramesAreReserved =
-    let o = moving four_of_five (A ∷ []) (1 ∷ []) ((0, Read 1 A 1) ∷ (0, Read 1 B 1) ∷ (0, Write 1 E (0x65 ∷ [])) ∷ []) in
+    let o = move_with_accesses four_of_five (A ∷ []) (1 ∷ []) ((0, Read 1 A 1) ∷ (0, Read 1 B 1) ∷ (0, Write 1 E (0x65 ∷ [])) ∷ []) in
     (o.answer ≡ Statuses 0 (pos 1 ∷ []) (Held ∷ Bytes (0x62 ∷ []) ∷ Done ∷ []))
     × (left_in o.system.state (A ∷ E ∷ [])
     ≡ record { free = (0 ∷ []) ∷ (6 ∷ 7 ∷ []) ∷ []; moved = 1; failed = 0; frames = Some 4 ∷ Some 5 ∷ [] })
@@ -29,7 +29,7 @@ FramesAreReserved =
 abbrev pub AccessFindsNoFrame : Type 0
 AccessFindsNoFrame =
     let accesses = (0, Read 1 C 1) ∷ (0, Read 1 A 1) ∷ (0, Write 1 E (0x65 ∷ [])) ∷ [] in
-    let o = moving (map_new six_pages 1 E 1 false) (A ∷ B ∷ C ∷ D ∷ []) (1 ∷ 1 ∷ 1 ∷ 1 ∷ []) accesses in
+    let o = move_with_accesses (map_new six_pages 1 E 1 false) (A ∷ B ∷ C ∷ D ∷ []) (1 ∷ 1 ∷ 1 ∷ 1 ∷ []) accesses in
     (o.answer ≡ Statuses 2 (pos 1 ∷ pos 1 ∷ code Enomem ∷ code Enomem ∷ []) (Bytes (0x63 ∷ []) ∷ Held ∷ Refused Enomem ∷ []))
     × (left_in o.system.state (A ∷ B ∷ E ∷ [])
     ≡ record { free = (0 ∷ 1 ∷ []) ∷ [] ∷ []; moved = 2; failed = 2; frames = Some 6 ∷ Some 7 ∷ None ∷ [] })
@@ -37,20 +37,20 @@ AccessFindsNoFrame =
 -- an access through an address that was never touched is held too, and takes no frame
 abbrev pub HeldAtEachAddress : Type 0
 HeldAtEachAddress =
-    let o = moving (attach shared_page 1 0x30000 0 0 1) (0x20000 ∷ []) (1 ∷ []) ((0, Read 1 0x30000 1) ∷ []) in
+    let o = move_with_accesses (attach shared_page 1 0x30000 0 0 1) (0x20000 ∷ []) (1 ∷ []) ((0, Read 1 0x30000 1) ∷ []) in
     (o.answer ≡ Statuses 0 (pos 1 ∷ []) (Held ∷ []))
     × (frame_shown_at o.system.state 1 0x20000 ≡ Some 4) × (frame_shown_at o.system.state 1 0x30000 ≡ None)
 
 -- an access that is refused for its process or its bytes is refused even if its page moves
 abbrev pub RefusedBeforeHeld : Type 0
 RefusedBeforeHeld =
-    (moving three_pages (A ∷ []) (1 ∷ []) ((0, Read 77 A 1) ∷ (0, Read 1 0x10fff 2) ∷ [])).answer
+    (move_with_accesses three_pages (A ∷ []) (1 ∷ []) ((0, Read 77 A 1) ∷ (0, Read 1 0x10fff 2) ∷ [])).answer
     ≡ Statuses 0 (pos 1 ∷ []) (Refused Esrch ∷ Refused Einval ∷ [])
 
 -- if the call is refused, no access is made
 abbrev pub RefusedCallsMakeNone : Type 0
 RefusedCallsMakeNone =
-    moving three_pages (A ∷ []) (9 ∷ []) ((0, Write 1 B (0x65 ∷ [])) ∷ [])
+    move_with_accesses three_pages (A ∷ []) (9 ∷ []) ((0, Write 1 B (0x65 ∷ [])) ∷ [])
     ≡ record { answer = Refusal Enodev; system = system_in three_pages }
 
 -- a page moves in the first run and can be read in the second. The answers are in the order of the accesses, and the
@@ -58,7 +58,7 @@ RefusedCallsMakeNone =
 abbrev pub AnsweredInOrder : Type 0
 AnsweredInOrder =
     let accesses = (1, Read 1 A 1) ∷ (0, Read 1 A 1) ∷ (1, Read 1 B 1) ∷ (2, Read 1 C 1) ∷ [] in
-    (moving three_pages (A ∷ B ∷ []) (1 ∷ 0 ∷ []) accesses).answer
+    (move_with_accesses three_pages (A ∷ B ∷ []) (1 ∷ 0 ∷ []) accesses).answer
     ≡ Statuses 0 (pos 1 ∷ pos 0 ∷ []) (Bytes (0x61 ∷ []) ∷ Held ∷ Bytes (0x62 ∷ []) ∷ [])
 
 -- with one entry in each run, the frame that the first run left serves an access in the second

@@ -28,14 +28,14 @@ abbrev pub MPOL_INTERLEAVE : ℕ
 MPOL_INTERLEAVE = 3
 
 -- a call of process 1, with an address, a length, a mode, nodes and flags
-pub record Asked : Type 0 where
+pub record MbindOf : Type 0 where
   pub addr : ℕ
   pub len : ℕ
   pub mode : ℕ
   pub nodes : List ℕ
   pub flags : ℕ
 
-abbrev pub ask : ℕ → ℕ → ℕ → List ℕ → ℕ → Asked
+abbrev pub ask : ℕ → ℕ → ℕ → List ℕ → ℕ → MbindOf
 ask addr len mode nodes flags = record { addr = addr; len = len; mode = mode; nodes = nodes; flags = flags }
 
 -- a system in this state, with the greatest limit on runs
@@ -43,28 +43,28 @@ abbrev pub system_in : State → SystemState
 system_in s = record { state = s; run_limit = default_limit }
 
 -- the same, as a call of a process
-abbrev pub call_by : ℕ → Asked → Call
+abbrev pub call_by : ℕ → MbindOf → Call
 call_by pid a = Mbind pid a.addr a.len a.mode a.nodes a.flags
 
 -- its answer, and the system after it
-abbrev pub bound_by : ℕ → State → Asked → Outcome
+abbrev pub bound_by : ℕ → State → MbindOf → Outcome
 bound_by pid s a = outcome (system_in s) (call_by pid a)
 
 -- the answer to process 1
-abbrev pub answer : State → Asked → Answer
+abbrev pub answer : State → MbindOf → Answer
 answer s a = (bound_by 1 s a).answer
 
 -- the state after it
-abbrev pub after : State → Asked → State
+abbrev pub after : State → MbindOf → State
 after s a = (bound_by 1 s a).system.state
 
 -- its runs
-abbrev pub runs : State → Asked → List Stretch
+abbrev pub runs : State → MbindOf → List Stretch
 runs s a = runs_of (system_in s) (call_by 1 a)
 
 -- the state after its first `n` runs
-abbrev pub state_after : State → Asked → ℕ → State
-state_after s a n = (after_runs (system_in s) (call_by 1 a) n).state
+abbrev pub state_after_runs : State → MbindOf → ℕ → State
+state_after_runs s a n = (after_runs (system_in s) (call_by 1 a) n).state
 
 -- what a call leaves: the free lists, the totals, and the frames at some addresses of process 1
 pub record Left : Type 0 where
@@ -82,7 +82,7 @@ abbrev pub second_pinned : State
 second_pinned = pin (wrote (wrote (map_new one_process 1 A 2 false) 1 A 0x61) 1 B 0x62) 1 B
 
 -- both are bound to node 1
-abbrev pub both_to_1 : ℕ → Asked
+abbrev pub both_to_1 : ℕ → MbindOf
 both_to_1 flags = ask A 8192 MPOL_BIND (1 ∷ []) flags
 
 -- a pinned page stays and is reported; the other has moved, and the policy is set
@@ -160,7 +160,7 @@ SecondPassTakesTheRest =
       frames = Some 4 ∷ Some 5 ∷ [];
     })
     × (length (runs two_on_narrow call) ≡ 2)
-    × (left_in (state_after two_on_narrow call 1) (A ∷ B ∷ [])
+    × (left_in (state_after_runs two_on_narrow call 1) (A ∷ B ∷ [])
     ≡ record {
       free = (2 ∷ 3 ∷ 0 ∷ []) ∷ [] ∷ (5 ∷ 6 ∷ 7 ∷ 8 ∷ []) ∷ [];
       moved = 1;

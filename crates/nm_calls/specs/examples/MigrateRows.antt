@@ -8,15 +8,15 @@ use Rattle.nm_model.specs.examples.{A, B, C, one_process, with_second, wrote, th
 use Rattle.nm_steps.specs.Calls.{default_limit, Call, MigratePages}
 use Rattle.nm_calls.specs.definitions.Systems.{SystemState}
 use Rattle.nm_calls.specs.definitions.Answers.{Answer, Failed}
-use Rattle.nm_calls.specs.definitions.Outcome.{refused, outcome, trail}
+use Rattle.nm_calls.specs.definitions.Outcome.{refusal_of, outcome, trail}
 
 -- a system in this state, with this limit on runs
-abbrev pub within : ℕ → State → SystemState
-within limit s = record { state = s; run_limit = limit }
+abbrev pub system_within : ℕ → State → SystemState
+system_within limit s = record { state = s; run_limit = limit }
 
 -- ... and with the default limit
 abbrev pub system : State → SystemState
-system s = within default_limit s
+system s = system_within default_limit s
 
 -- the answer of a call
 abbrev pub answer : State → Call → Answer
@@ -94,7 +94,7 @@ four_processes = spawn (with_third (with_second one_process)) 4 400 0 (0 ∷ [])
 -- the first refusal in order; a privileged caller may name a node that the process may not use, but not only such nodes
 abbrev pub MigrationsAreRefused : Type 0
 MigrationsAreRefused =
-    let why = λ (call : Call). refused four_processes call in
+    let why = λ (call : Call). refusal_of four_processes call in
     (why (MigratePages 77 0 (5 ∷ []) (1 ∷ [])) ≡ Some Esrch)
     × (why (MigratePages 1 0 (0 ∷ 5 ∷ []) (1 ∷ [])) ≡ Some Einval)
     × (why (MigratePages 1 77 (0 ∷ 5 ∷ []) (1 ∷ [])) ≡ Some Einval)
@@ -152,5 +152,5 @@ PageIsListedOnce =
 -- a limit of two cuts the run of three pages, and frees the frames of the first two before the third moves
 abbrev pub RunsHaveALimit : Type 0
 RunsHaveALimit =
-    let states = trail (within 2 three_pages) (MigratePages 1 0 (0 ∷ []) (1 ∷ [])) in
+    let states = trail (system_within 2 three_pages) (MigratePages 1 0 (0 ∷ []) (1 ∷ [])) in
     (length states ≡ 3) × ((slice_index_or states 1 three_pages).free ≡ (3 ∷ 0 ∷ 1 ∷ []) ∷ (6 ∷ 7 ∷ []) ∷ [])

@@ -8,7 +8,7 @@ use Rattle.nm_model.specs.definitions.Touch.{read, write, Bytes, Refused}
 use Rattle.nm_model.specs.examples.{A, B, C, D, E, one_process, wrote, three_pages, attached_by_two, seen_by_two, frame_shown_at}
 use Rattle.nm_steps.specs.Calls.{Call, MovePages, MigratePages, Mbind, Offline}
 use Rattle.nm_calls.specs.definitions.Answers.{Answer, Refusal, Done, Failed}
-use Rattle.nm_calls.specs.definitions.Outcome.{refused, outcome, trail, after_runs}
+use Rattle.nm_calls.specs.definitions.Outcome.{refusal_of, outcome, trail, after_runs}
 use Rattle.nm_calls.specs.examples.MbindRows.{MPOL_BIND, system_in, left_in, narrow}
 use Rattle.nm_calls.specs.definitions.Maps.{numa_maps}
 use Rattle.nm_model.specs.definitions.Effect.{list_refusal}
@@ -36,7 +36,7 @@ PagesLeaveTheNode =
       failed = 0;
       frames = Some 4 ∷ Some 5 ∷ Some 6 ∷ [];
     })
-    × (refused first_offline (MovePages 1 0 (A ∷ []) (0 ∷ []) 2 []) ≡ Some Enodev)
+    × (refusal_of first_offline (MovePages 1 0 (A ∷ []) (0 ∷ []) 2 []) ≡ Some Enodev)
 
 -- two more pages, the first of which takes the last frame
 abbrev pub filled_up : State
@@ -101,29 +101,29 @@ SharedPageLeavesItsNode =
     × (map (λ pid. frame_shown_at s pid 0x20000) (1 ∷ 2 ∷ []) ≡ Some 4 ∷ Some 4 ∷ [])
     × (map (λ pid. (read s pid 0x20000 1).answer) (1 ∷ 2 ∷ []) ≡ Bytes (0x61 ∷ []) ∷ Bytes (0x61 ∷ []) ∷ [])
     × (answer s (Offline 0) ≡ Done) × (after s (Offline 0) ≡ s)
-    × (refused s (Offline 9) ≡ Some Einval) × (list_refusal s 9 ≡ Some Einval)
+    × (refusal_of s (Offline 9) ≡ Some Einval) × (list_refusal s 9 ≡ Some Einval)
 
 -- an offline node is left out of the new nodes, and of a policy's nodes
 abbrev pub OfflineNodesAreNotKept : Type 0
 OfflineNodesAreNotKept =
     let s = after three_pages (Offline 1) in
     let bound = Mbind 1 A 4096 MPOL_BIND (0 ∷ 1 ∷ []) 2 in
-    (refused s (MigratePages 1 0 (0 ∷ []) (1 ∷ [])) ≡ Some Einval)
-    × (refused s (Mbind 1 A 4096 MPOL_BIND (1 ∷ []) 2) ≡ Some Einval) × (answer s bound ≡ Failed 0)
+    (refusal_of s (MigratePages 1 0 (0 ∷ []) (1 ∷ [])) ≡ Some Einval)
+    × (refusal_of s (Mbind 1 A 4096 MPOL_BIND (1 ∷ []) 2) ≡ Some Einval) × (answer s bound ≡ Failed 0)
     × (numa_maps (after s bound) 1
     ≡ codes "00010000 bind:0 anon=1 N0=1 kernelpagesize_kB=4"
     ∷ codes "00011000 default anon=2 N0=2 kernelpagesize_kB=4" ∷ [])
 
 -- three nodes of four frames each in a row: node 2 is nearer to node 1 than node 0 is
-abbrev pub in_a_row : Layout
-in_a_row =
+abbrev pub three_in_a_row : Layout
+three_in_a_row =
     let distances : List (List ℕ) = (10 ∷ 30 ∷ 40 ∷ []) ∷ (30 ∷ 10 ∷ 20 ∷ []) ∷ (40 ∷ 20 ∷ 10 ∷ []) ∷ [] in
     record { sizes = 4 ∷ 4 ∷ 4 ∷ []; distances = distances }
 
 -- the nearest other node comes first
 abbrev pub NearestNodeFirst : Type 0
 NearestNodeFirst =
-    let s = wrote (map_new (spawn (new_machine in_a_row) 1 100 1 (0 ∷ 1 ∷ 2 ∷ []) false) 1 A 1 false) 1 A 0x61 in
+    let s = wrote (map_new (spawn (new_machine three_in_a_row) 1 100 1 (0 ∷ 1 ∷ 2 ∷ []) false) 1 A 1 false) 1 A 0x61 in
     frame_shown_at (after s (Offline 1)) 1 A ≡ Some 8
 
 -- the last online node stays online, even if no page is on it

@@ -12,12 +12,12 @@ use Rattle.nm_model.specs.definitions.Sound.{IsSound}
 use Rattle.nm_laws.specs.Laws.{runs_written}
 use Rattle.nm_steps.specs.Calls.{Call, MapPages, Attach, Unmap, Exit, WriteBytes, MovePages, MigratePages, Mbind, Offline}
 use Rattle.nm_calls.specs.definitions.Answers.{Refusal, Statuses, Failed}
-use Rattle.nm_calls.specs.definitions.Batch.{in_order, by_place}
+use Rattle.nm_calls.specs.definitions.Batch.{answers_in_order, by_place}
 use Rattle.nm_calls.specs.definitions.Systems.{SystemState}
-use Rattle.nm_calls.specs.definitions.Outcome.{refused, leaves, start, started, outcome, runs_of, accesses_asked, trail}
+use Rattle.nm_calls.specs.definitions.Outcome.{refusal_of, leaves, start, state_before_runs, outcome, runs_of, accesses_asked, trail}
 use Rattle.nm_calls.specs.definitions.Mbind.{tells_late}
 use Rattle.nm_calls.specs.definitions.Migrate.{migration}
-use Rattle.nm_calls.specs.definitions.Permission.{owner_of, moves_all}
+use Rattle.nm_calls.specs.definitions.Permission.{owner_of, has_move_all}
 use Rattle.nm_types.specs.declared.errno.Errno.TheVariants.{Eio, Ebusy}
 
 -- the refusal that may come after a call's runs
@@ -38,16 +38,16 @@ abbrev pub MovePagesIsABatch : Type 0
 MovePagesIsABatch =
     (y : SystemState) (caller pid : ℕ) (pages nodes : List ℕ) (flags : ℕ) (during : List (ℕ × Access)) →
     let call = MovePages caller pid pages nodes flags during in
-    refused y.state call ≡ None →
-    let made = batch y.run_limit y.state (requests_of (owner_of caller pid) (moves_all flags) pages nodes) during in
-    outcome y call ≡ leaves y (Statuses (batch_answer made) made.statuses (in_order (keys_of during) made.answers)) made.state
+    refusal_of y.state call ≡ None →
+    let made = batch y.run_limit y.state (requests_of (owner_of caller pid) (has_move_all flags) pages nodes) during in
+    outcome y call ≡ leaves y (Statuses (batch_answer made) made.statuses (answers_in_order (keys_of during) made.answers)) made.state
 
 -- so is migrate_pages, of the pages that it lists
 abbrev pub MigrationIsABatch : Type 0
 MigrationIsABatch =
     (y : SystemState) (caller pid : ℕ) (old new : List ℕ) →
     let call = MigratePages caller pid old new in
-    refused y.state call ≡ None →
+    refusal_of y.state call ≡ None →
     let made = batch y.run_limit y.state (migration y.state caller pid old new) [] in
     outcome y call ≡ leaves y (Failed (batch_answer made)) made.state
 
@@ -55,13 +55,13 @@ MigrationIsABatch =
 abbrev pub TrailIsAfterRuns : Type 0
 TrailIsAfterRuns =
     (y : SystemState) (call : Call) (n : ℕ) (d : State) → n ≤ length (runs_of y call) →
-    let first = started y call in
+    let first = state_before_runs y call in
     slice_index_or (trail y call) n d ≡ (runs_from 0 first (take n (runs_of y call)) (accesses_asked call)).state
 
 -- the answers to accesses in flight can be found by counting
 abbrev pub AnswersGoByPlace : Type 0
 AnswersGoByPlace =
-    (runs : List ℕ) (answers : List (List AccessAnswer)) → in_order runs answers ≡ by_place [] runs answers
+    (runs : List ℕ) (answers : List (List AccessAnswer)) → answers_in_order runs answers ≡ by_place [] runs answers
 
 -- if each access in flight names a run that is made, each is answered
 abbrev pub EachAccessIsAnswered : Type 0

@@ -10,7 +10,7 @@ use Rattle.nm_model.specs.definitions.Status.{status_or_move}
 use Rattle.nm_model.specs.definitions.Cut.{all_to}
 use Rattle.nm_model.specs.definitions.Cut.{cut_within}
 use Rattle.nm_model.specs.definitions.Run.{RunResult, with_counts, batch}
-use Rattle.nm_calls.specs.definitions.Passes.{without_frame}
+use Rattle.nm_calls.specs.definitions.Passes.{short_of_frames}
 
 -- this asks for a page that is on this node
 abbrev pub StandsOn : State → ℕ → Wanted → Type 0
@@ -35,14 +35,14 @@ FullNodeTakesNone =
     (limit : ℕ) (s : State) (node : ℕ) (wanted : List Wanted) → 0 < limit → 0 < length wanted → free_list s node ≡ []
     → AllByRecursion (WouldMove s node) wanted →
     let made = pass limit s node wanted in
-    (made.state ≡ with_counts s 0 (length wanted)) × (without_frame wanted made.statuses ≡ wanted)
+    (made.state ≡ with_counts s 0 (length wanted)) × (short_of_frames wanted made.statuses ≡ wanted)
 
 -- the pages that a pass leaves without a frame would still move to its node
 abbrev pub LeftWouldMove : Type 0
 LeftWouldMove =
     (limit : ℕ) (s : State) (node : ℕ) (wanted : List Wanted) → 0 < limit →
     let made = pass limit s node wanted in
-    AllByRecursion (WouldMove made.state node) (without_frame wanted made.statuses)
+    AllByRecursion (WouldMove made.state node) (short_of_frames wanted made.statuses)
 
 -- a page that would move to one node would move to any node that it is not on
 abbrev pub MovesElsewhere : Type 0
@@ -60,10 +60,10 @@ abbrev pub NextPassTakesNone : Type 0
 NextPassTakesNone =
     (limit : ℕ) (s : State) (node next : ℕ) (wanted : List Wanted) → 0 < limit →
     let first = pass limit s node wanted in
-    let left = without_frame wanted first.statuses in
+    let left = short_of_frames wanted first.statuses in
     0 < length left → free_list first.state next ≡ [] → AllByRecursion (λ w. StandsOn first.state next w → ⊥) left →
     let made = pass limit first.state next left in
-    (made.state ≡ with_counts first.state 0 (length left)) × (without_frame left made.statuses ≡ left)
+    (made.state ≡ with_counts first.state 0 (length left)) × (short_of_frames left made.statuses ≡ left)
 
 -- a pass has found no free frame for any of these
 abbrev pub HasFailed : State → List Wanted → Type 0

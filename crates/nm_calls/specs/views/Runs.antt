@@ -74,11 +74,11 @@ IsCounted (HostMemory k policy_set) made = made + k < 2 ^ 64
 
 -- a page does not follow after the moves; or the host runs out of memory, before the policy is set or for one of the
 -- runs
-abbrev pub Fails : CallError → State → State → State → Binding → List Stretch → ℕ → Type 0
-Fails (Refused e) old set new b runs flags =
+abbrev pub FailsBinding : CallError → State → State → State → Binding → List Stretch → ℕ → Type 0
+FailsBinding (Refused e) old set new b runs flags =
     let made = runs_from 0 set runs [] in
     ((tells_late flags && has_stray old made.state b) ≡ true) × (e ≡ Eio) × (new ≡ made.state)
-Fails (HostMemory k policy_set) old set new b runs flags =
+FailsBinding (HostMemory k policy_set) old set new b runs flags =
     ((k ≡ 0) × (policy_set ≡ false) × (new ≡ old)) ⊎ Stops true (HostMemory k policy_set) set new runs
 
 -- the result of a call whose arguments are not refused
@@ -86,7 +86,7 @@ abbrev pub Binds : {T : Type 0} → Result T CallError → State → State → S
 Binds (Ok done) old set new b runs flags =
     let made = runs_from 0 set runs [] in
     ((tells_late flags && has_stray old made.state b) ≡ false) × (new ≡ made.state)
-Binds (Err e) old set new b runs flags = Fails e old set new b runs flags
+Binds (Err e) old set new b runs flags = FailsBinding e old set new b runs flags
 
 -- a page stays; or the host runs out of memory, before the first run or for one of the runs
 abbrev pub Keeps : CallError → State → State → ℕ → List Stretch → Type 0

@@ -5,7 +5,7 @@ use Rattle.nm_memory.specs.views.Accesses.{answer_shown}
 use Rattle.nm_laws.proofs.Lists.{drop_item}
 use Rattle.nm_steps.specs.Views.{shown_during}
 use Rattle.std.specs.Map.{keys_of}
-use Rattle.nm_calls.specs.definitions.Batch.{in_order, left_shown}
+use Rattle.nm_calls.specs.definitions.Batch.{answers_in_order, left_shown}
 use Rattle.nm_calls.proofs.Accesses.Loops.{append_none, unmade_told, none_told, one_told, list_there, list_after}
 use Rattle.nm_calls.proofs.batch.in_order.Goals as goal
 use Rattle.nm_calls.proofs.batch.in_order.Goals.{in-Some+in-Some-next, in-Some+in_default-next, in_default}
@@ -23,7 +23,7 @@ has_room xs k len n m more is room = omega (arith, length-drop k xs, more, is, r
 pub loop-asked-init : goal.loop-asked-init
 loop-asked-init g c = record {
   room = room_for (length c.args.answers.items) _ _ (ap length c.requires.empty) c.requires.room;
-  told = ap (λ xs. map answer_shown xs ++ in_order (keys_of (shown_during c.args.during.now)) (map left_shown c.args.told.items)) c.requires.empty;
+  told = ap (λ xs. map answer_shown xs ++ answers_in_order (keys_of (shown_during c.args.during.now)) (map left_shown c.args.told.items)) c.requires.empty;
 }
 
 pub push_reserved-requires : goal.push_reserved-requires
@@ -41,9 +41,9 @@ loop-asked-preserved g c =
     let told = map answer_shown c.loop-asked.answers.items in
     let left = map left_shown queues in
     let runs = keys_of (shown_during (drop (k + 1) during)) in
-    let all = in_order (keys_of (shown_during during)) (map left_shown c.args.told.items) in
-    let is : told ++ in_order (asked.run ∷ runs) left ≡ all =
-    ap (λ ds. told ++ in_order (keys_of (shown_during ds)) left) (sym next) ∙ c.loop-asked.invariant.told in
+    let all = answers_in_order (keys_of (shown_during during)) (map left_shown c.args.told.items) in
+    let is : told ++ answers_in_order (asked.run ∷ runs) left ≡ all =
+    ap (λ ds. told ++ answers_in_order (keys_of (shown_during ds)) left) (sym next) ∙ c.loop-asked.invariant.told in
     elim c.match-get_mut.branch [
       | in-Some+in-Some-next w ↦
           let there = w.in-Some.ensures.item in
@@ -69,7 +69,7 @@ loop-asked-preserved g c =
           let capacity = ap (λ (v : Vec _ _). v.cap) w.answers-is in
           record {
             room = omega (arith, n, room, len, capacity);
-            told = ap (λ (v : Vec _ _). map answer_shown v.items ++ in_order runs (map left_shown c.match-get_mut.told.items)) w.answers-is
+            told = ap (λ (v : Vec _ _). map answer_shown v.items ++ answers_in_order runs (map left_shown c.match-get_mut.told.items)) w.answers-is
                 ∙ none_told told left asked.run runs all _
                 (list_there left_shown queues asked.run now there.3.0 w.in-Some.ensures.value ∙ ap (map answer_shown) (w.in_default-next.ensures.items ∙ none))
                 (list_after left_shown queues _ asked.run w.next.new.self items ∙ ap (λ l. slice_set left asked.run (map answer_shown l)) none) is;
@@ -81,8 +81,8 @@ loop-asked-preserved g c =
           let same = length-map queues left_shown in
           record {
             room = omega (arith, n, room, len, capacity);
-            told = ap (λ (v : Vec _ _). map answer_shown v.items ++ in_order runs (map left_shown c.match-get_mut.told.items)) w.answers-is
-                ∙ ap (λ (v : Vec _ _). told ++ in_order runs (map left_shown v.items)) w.told-is
+            told = ap (λ (v : Vec _ _). map answer_shown v.items ++ answers_in_order runs (map left_shown c.match-get_mut.told.items)) w.answers-is
+                ∙ ap (λ (v : Vec _ _). told ++ answers_in_order runs (map left_shown v.items)) w.told-is
                 ∙ unmade_told told left asked.run runs all (omega (arith, same, past)) is;
           }
     ]
@@ -91,4 +91,4 @@ pub returns : goal.returns
 returns g c =
     let none = drop_all c.loop-asked.asked-index c.args.during.now c.loop-asked-test.false in
     let told = map answer_shown c.loop-asked.answers.items in
-    sym (append_none _) ∙ ap (λ ds. told ++ in_order (keys_of (shown_during ds)) (map left_shown c.loop-asked.told.items)) (sym none) ∙ c.loop-asked.invariant.told
+    sym (append_none _) ∙ ap (λ ds. told ++ answers_in_order (keys_of (shown_during ds)) (map left_shown c.loop-asked.told.items)) (sym none) ∙ c.loop-asked.invariant.told

@@ -10,7 +10,7 @@ use Rattle.nm_model.specs.definitions.Run.{RunResult, run, failures}
 use Rattle.nm_model.specs.definitions.Run.{accesses_of}
 use Rattle.nm_steps.specs.Views.{shown_during}
 use Rattle.std.specs.Map.{keys_of}
-use Rattle.nm_calls.specs.definitions.Batch.{in_order, left_shown}
+use Rattle.nm_calls.specs.definitions.Batch.{answers_in_order, left_shown}
 use Rattle.nm_calls.proofs.Batches.StatusCounts.{run_length, run_layout, failures-append, failures-le-length}
 use Rattle.nm_calls.proofs.Accesses.Loops.{list_there}
 use Rattle.nm_calls.proofs.Accesses.Lent.{one_lent, lent_shown}
@@ -154,7 +154,7 @@ returns-clause-moves g c =
     let during = shown_during c.args.during.now in
     let none = drop_all c.loop-k.k runs c.loop-k-test.false in
     let made = all_run c.args.machine.now (stretches_of runs) (stretches_of (drop c.loop-k.k runs)) during c.loop-k.k c.loop-k.machine c.loop-k.statuses.items (map left_shown c.loop-k.told.items) (ap stretches_of none) c.loop-k.invariant.made in
-    (made.0, c.loop-k.invariant.failed ∙ ap failures made.0, c.in_order.ensures ∙ ap (in_order (keys_of during)) made.1, made.2)
+    (made.0, c.loop-k.invariant.failed ∙ ap failures made.0, c.in_order.ensures ∙ ap (answers_in_order (keys_of during)) made.1, made.2)
 
 pub returns-in_err-accesses-clause-moves : goal.returns-in_err-accesses-clause-moves
 returns-in_err-accesses-clause-moves g c = none_ran _ _ _ _ c.from_residual.ensures.1

@@ -7,11 +7,11 @@ use Rattle.nm_model.specs.definitions.Cut.{Stretch}
 use Rattle.nm_model.specs.definitions.Effect.{areas_of, set_range_policy, with_areas_of}
 use Rattle.nm_model.specs.definitions.Run.{runs_from}
 use Rattle.nm_calls.specs.definitions.Mbind.{home_of, is_stray, is_strict, mbind_runs, runs_by}
-use Rattle.nm_calls.specs.definitions.Permission.{info_at, moves_all}
+use Rattle.nm_calls.specs.definitions.Permission.{info_at, has_move_all}
 use Rattle.nm_calls.specs.declared.call_error.CallError.{CallError}
 use Rattle.nm_calls.specs.declared.mbind.Binding.{Binding}
 use Rattle.nm_calls.specs.views.Errors.{out_of_memory}
-use Rattle.nm_calls.specs.views.Runs.{runs_in, Binds, CanGo, Fails, Stops}
+use Rattle.nm_calls.specs.views.Runs.{runs_in, Binds, CanGo, FailsBinding, Stops}
 use Rattle.nm_calls.proofs.Policies.Late.{flag_is, late_is, stops_fail}
 use Rattle.nm_calls.proofs.Policies.NoBytes.{listed_moves, runs_some, stops_some}
 use Rattle.nm_calls.proofs.mbind.bind.Goals as goal
@@ -19,7 +19,7 @@ use Rattle.nm_calls.proofs.mbind.bind.Goals as goal
 -- no memory before the policy is set
 none_bound : {T : Type 0} (r : Result T CallError) (s set : State) (b : Binding) (runs : List Stretch) (flags : ℕ) → IsErrAnd r (λ e. e ≡ out_of_memory 0) → Binds r s set s b runs flags
 none_bound (Ok x) s set b runs flags h = absurd h
-none_bound (Err e) s set b runs flags h = subst (λ e. Fails e s set s b runs flags) (sym h) (inl (refl, refl, refl))
+none_bound (Err e) s set b runs flags h = subst (λ e. FailsBinding e s set s b runs flags) (sym h) (inl (refl, refl, refl))
 
 few_of : (n m k most : ℕ) → n ≡ m → m ≤ k → k ≤ most → n ≤ most
 few_of n m k most same few small = omega (arith, same, few, small)
@@ -59,7 +59,7 @@ returns-in-Err-clause-bound g c =
     let runs = c.in_ok-way.ensures.runs limit (with_policy (areas_of s) b.pid b.first b.end b.policy)
     ∙ ap (λ h. runs_by limit set b.policy h b.pid c.moves_all-all.result c.as_slice.result.now) c.requires.home
     ∙ ap (λ all. runs_by limit set b.policy home b.pid all c.as_slice.result.now) (flag_is _ _ c.moves_all-all.ensures)
-    ∙ ap (runs_by limit set b.policy home b.pid (moves_all flags)) (c.as_slice.ensures.value ∙ c.in_ok-pages.ensures.list) in
+    ∙ ap (runs_by limit set b.policy home b.pid (has_move_all flags)) (c.as_slice.ensures.value ∙ c.in_ok-pages.ensures.list) in
     let stopped = subst (λ (t : State). Stops true c.in-Err.error t c.make.new.machine (runs_in limit t way)) c.in_ok-set_range_policy.ensures.ok c.in-Err.ensures in
     stops_fail c.in-Err.error s set c.make.new.machine b (mbind_runs limit set b flags) flags (subst (λ (rs : List Stretch). Stops true c.in-Err.error set c.make.new.machine rs) runs stopped)
 
@@ -75,7 +75,7 @@ returns-then-is_late-clause-bound g c =
     let runs = c.in_ok-way.ensures.runs limit (with_policy (areas_of s) b.pid b.first b.end b.policy)
     ∙ ap (λ h. runs_by limit set b.policy h b.pid c.moves_all-all.result c.as_slice.result.now) c.requires.home
     ∙ ap (λ all. runs_by limit set b.policy home b.pid all c.as_slice.result.now) (flag_is _ _ c.moves_all-all.ensures)
-    ∙ ap (runs_by limit set b.policy home b.pid (moves_all flags)) (c.as_slice.ensures.value ∙ c.in_ok-pages.ensures.list) in
+    ∙ ap (runs_by limit set b.policy home b.pid (has_move_all flags)) (c.as_slice.ensures.value ∙ c.in_ok-pages.ensures.list) in
     let made = c.in_default.ensures ∙ ap (λ (t : State). (runs_from 0 t (runs_in limit t way) []).state) c.in_ok-set_range_policy.ensures.ok ∙ ap (λ (rs : List Stretch). (runs_from 0 set rs []).state) runs in
     let end = (runs_from 0 set (mbind_runs limit set b flags) []).state in
     let late = sym (late_is s end b flags)
@@ -95,7 +95,7 @@ returns-clause-bound g c =
     let runs = c.in_ok-way.ensures.runs limit (with_policy (areas_of s) b.pid b.first b.end b.policy)
     ∙ ap (λ h. runs_by limit set b.policy h b.pid c.moves_all-all.result c.as_slice.result.now) c.requires.home
     ∙ ap (λ all. runs_by limit set b.policy home b.pid all c.as_slice.result.now) (flag_is _ _ c.moves_all-all.ensures)
-    ∙ ap (runs_by limit set b.policy home b.pid (moves_all flags)) (c.as_slice.ensures.value ∙ c.in_ok-pages.ensures.list) in
+    ∙ ap (runs_by limit set b.policy home b.pid (has_move_all flags)) (c.as_slice.ensures.value ∙ c.in_ok-pages.ensures.list) in
     let made = c.in_default.ensures ∙ ap (λ (t : State). (runs_from 0 t (runs_in limit t way) []).state) c.in_ok-set_range_policy.ensures.ok ∙ ap (λ (rs : List Stretch). (runs_from 0 set rs []).state) runs in
     let end = (runs_from 0 set (mbind_runs limit set b flags) []).state in
     let late = sym (late_is s end b flags)

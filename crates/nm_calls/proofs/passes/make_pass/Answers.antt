@@ -5,7 +5,7 @@ use Rattle.nm_model.specs.definitions.Cut.{Stretch, all_to}
 use Rattle.nm_model.specs.definitions.Run.{HasOneAll, RunResult}
 use Rattle.nm_model.specs.definitions.Run.{runs_from}
 use Rattle.nm_runs.specs.Stretches.{stretches_of}
-use Rattle.nm_calls.specs.definitions.Passes.{without_frame}
+use Rattle.nm_calls.specs.definitions.Passes.{short_of_frames}
 use Rattle.nm_calls.proofs.Batches.Requests.{run_targets, run_entries, runs_like}
 use Rattle.nm_calls.proofs.Batches.Results.{none_batched, batch_stopped}
 use Rattle.nm_calls.proofs.NodesOffline.Passes.{to_node_below, to_node_wanted, to_node_length, batch_statuses}
@@ -57,6 +57,6 @@ returns g c =
       made.0 ∙ ap (λ (ran : RunResult). ran.state) same,
       (
         omega (arith, c.len.ensures, c.in_ok-runs.runs.ok.0, same_count, ap length c.in_ok-runs.ensures.runs),
-        c.put_without_frame.ensures ∙ ap (without_frame c.args.wanted.now) (c.as_slice-2.ensures.value ∙ made.1 ∙ ap (λ (ran : RunResult). ran.statuses) same),
+        c.put_without_frame.ensures ∙ ap (short_of_frames c.args.wanted.now) (c.as_slice-2.ensures.value ∙ made.1 ∙ ap (λ (ran : RunResult). ran.statuses) same),
       ),
     )

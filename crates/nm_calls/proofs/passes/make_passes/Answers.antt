@@ -3,7 +3,7 @@ use Rattle.nm_types.specs.Layout.{node_count}
 use Rattle.nm_model.specs.definitions.Cut.{all_to}
 use Rattle.nm_model.specs.definitions.Cut.{cut_within}
 use Rattle.nm_model.specs.definitions.Run.{runs_from}
-use Rattle.nm_calls.specs.definitions.Passes.{passes, without_frame}
+use Rattle.nm_calls.specs.definitions.Passes.{passes, short_of_frames}
 use Rattle.nm_model.specs.definitions.Run.{HasOneAll}
 use Rattle.nm_calls.proofs.NodesOffline.Passes.{HavePassed, more_passed, all_passed, passes_none, passes_at, few_runs, some_run_of, to_node_length, counted_later, stopped_later, alike_left, fewer_left, runs_layout, nothing_is, something_is}
 use Rattle.nm_calls.proofs.passes.make_passes.Goals as goal
@@ -37,7 +37,7 @@ returns-in-Err-clause-runs g c =
     let k = c.loop-node.node-index in
     let made = runs_from 0 s runs [] in
     let all = passes x.limit x.machine.now x.nodes.now x.wanted.items in
-    let rest = passes x.limit made.state (drop (k + 1) x.nodes.now) (without_frame ws made.statuses) in
+    let rest = passes x.limit made.state (drop (k + 1) x.nodes.now) (short_of_frames ws made.statuses) in
     let here = passes_at x.limit s x.nodes.now k node ws c.loop-node-test.true c.node-item.is in
     let passed = subst (λ l. HavePassed x.machine.now all l s c.loop-node.made) here c.loop-node.invariant.passed in
     let some : 0 < length ws = something_is _ _ c.loop-node.left.wanted.ok.0 (sym c.is_empty.ensures ∙ c.if-is_empty.false) in
@@ -71,9 +71,9 @@ loop-node-preserved g c =
     let kept = c.in-Ok.ensures.runs.1.1 in
     let here = passes_at x.limit s x.nodes.now k node ws c.loop-node-test.true c.node-item.is in
     let passed = subst (λ l. HavePassed x.machine.now all l s c.loop-node.made) here inv.passed in
-    let behind = passes x.limit made.state (drop (k + 1) x.nodes.now) (without_frame ws made.statuses) in
+    let behind = passes x.limit made.state (drop (k + 1) x.nodes.now) (short_of_frames ws made.statuses) in
     let more = more_passed x.machine.now all runs behind s new c.loop-node.made passed state in
-    let rest = ap (λ t. passes x.limit t (drop (k + 1) x.nodes.now) (without_frame ws made.statuses)) (sym state) ∙ ap (passes x.limit new (drop (k + 1) x.nodes.now)) (sym kept) in
+    let rest = ap (λ t. passes x.limit t (drop (k + 1) x.nodes.now) (short_of_frames ws made.statuses)) (sym state) ∙ ap (passes x.limit new (drop (k + 1) x.nodes.now)) (sym kept) in
     let few = few_runs x.limit es c.requires.some in
     let len = to_node_length node ws in
     let left = fewer_left ws made.statuses in

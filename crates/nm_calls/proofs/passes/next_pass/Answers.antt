@@ -1,7 +1,7 @@
 use Rattle.std.proofs.Common.{sym, subst, ap, ◌∙◌}
 use Rattle.std.specs.List.{AllByRecursion}
 use Rattle.nm_model.specs.definitions.Run.{with_counts}
-use Rattle.nm_calls.specs.definitions.Passes.{without_frame}
+use Rattle.nm_calls.specs.definitions.Passes.{short_of_frames}
 use Rattle.nm_calls.specs.laws.Full.{AreStanding, WouldMove, pass, rounded_up}
 use Rattle.nm_calls.proofs.NodesOffline.FullNodes.{full_node_takes_none, left_would_move, runs_go_by_length}
 use Rattle.nm_calls.proofs.NodesOffline.PagesLeft.{standing_counted, move_counted}
@@ -38,5 +38,5 @@ returns-clause-left g c =
     let s = x.machine.now in
     let ws = c.as_slice-wanted.result.now in
     let made = pass x.limit s x.node ws in
-    let moves = subst (λ t. AllByRecursion (WouldMove t x.node) (without_frame ws made.statuses)) (sym c.in_ok-pass.ensures.0) (left_would_move x.limit s x.node ws c.requires.some) in
+    let moves = subst (λ t. AllByRecursion (WouldMove t x.node) (short_of_frames ws made.statuses)) (sym c.in_ok-pass.ensures.0) (left_would_move x.limit s x.node ws c.requires.some) in
     (λ tried. (x.node, subst (AllByRecursion (WouldMove c.make_pass.new.machine x.node)) (sym c.in_ok-pass.ensures.1.1) moves), tt)

@@ -1,6 +1,6 @@
 use Rattle.std.proofs.Common.{pos, ◌≤◌, ◌++◌, ◌∷◌, [], cond, length, take, sym, ap, subst, ◌∙◌, arith, vec_capacity, length-append}
 use Rattle.std.proofs.lemmas.List.{append-nil}
-use Rattle.nm_calls.specs.definitions.Passes.{without_frame}
+use Rattle.nm_calls.specs.definitions.Passes.{short_of_frames}
 use Rattle.nm_calls.proofs.NodesOffline.Passes.{one_more_left}
 use Rattle.nm_calls.proofs.passes.put_without_frame.Goals.{then-is_short, else-is_short}
 use Rattle.nm_calls.proofs.passes.put_without_frame.Goals as goal
@@ -11,7 +11,7 @@ loop-k-preserved g c =
     let zs = c.args.statuses.now in
     let k = c.loop-k.k in
     let page = c.index-wanted-k.result in
-    let before = without_frame (take k ws) (take k zs) in
+    let before = short_of_frames (take k ws) (take k zs) in
     let more = one_more_left ws zs k page (pos 0) c.is_short.result c.loop-k-test.true c.requires.paired c.index-wanted-k.is c.is_short.ensures in
     elim c.if-is_short.branch [
       | then-is_short w ↦

@@ -1,10 +1,10 @@
 use Rattle.std.proofs.Common.{◌≡◌, ◌≤◌, length, take, vec_capacity}
-use Rattle.nm_calls.specs.definitions.Passes.{without_frame}
+use Rattle.nm_calls.specs.definitions.Passes.{short_of_frames}
 use Rattle.nm_calls.proofs.passes.put_without_frame.Given as goal
 
 abbrev pub invariant-loop-k : goal.invariant-loop-k
 invariant-loop-k g l = record {
   few : length l.left.items ≤ l.k;
   room : length l.wanted ≤ vec_capacity l.left;
-  left : l.left.items ≡ without_frame (take l.k l.wanted) (take l.k l.statuses);
+  left : l.left.items ≡ short_of_frames (take l.k l.wanted) (take l.k l.statuses);
 }

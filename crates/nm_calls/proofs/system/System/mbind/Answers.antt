@@ -6,7 +6,7 @@ use Rattle.nm_steps.specs.Calls.{Mbind}
 use Rattle.nm_calls.specs.definitions.Answers.{Failed}
 use Rattle.nm_calls.specs.definitions.Systems.{SystemState, in_state}
 use Rattle.nm_areas.specs.Splits.{HasSplit}
-use Rattle.nm_calls.specs.definitions.Mbind.{mbind_runs, moves}
+use Rattle.nm_calls.specs.definitions.Mbind.{mbind_runs, has_move}
 use Rattle.nm_calls.specs.definitions.Memory.{MayAllocate}
 use Rattle.nm_calls.specs.definitions.Does.{Does}
 use Rattle.nm_calls.specs.views.Runs.{Binds}
@@ -46,6 +46,6 @@ returns-clause-asked g c = λ runs policy_set is.
     let s = c.self.inside.machine in
     let b = c.in_ok-asked.binding in
     let some : 0 < x.len = omega (arith, c.if-request-eq0.false) in
-    let moved = subst (λ (f : ℕ). (moves f ≡ true) ⊎ (HasSplit s.areas b.pid b.first ⊎ HasSplit s.areas b.pid b.end)) c.in_ok-asked.ensures.flags (c.bind.ensures.asked runs policy_set is) in
-    let needed = subst (λ (d : Binding). (moves x.flags ≡ true) ⊎ (HasSplit s.areas d.pid d.first ⊎ HasSplit s.areas d.pid d.end)) c.in_ok-asked.ensures.binding moved in
+    let moved = subst (λ (f : ℕ). (has_move f ≡ true) ⊎ (HasSplit s.areas b.pid b.first ⊎ HasSplit s.areas b.pid b.end)) c.in_ok-asked.ensures.flags (c.bind.ensures.asked runs policy_set is) in
+    let needed = subst (λ (d : Binding). (has_move x.flags ≡ true) ⊎ (HasSplit s.areas d.pid d.first ⊎ HasSplit s.areas d.pid d.end)) c.in_ok-asked.ensures.binding moved in
     subst (λ (z : SystemState). MayAllocate z.state (Mbind x.caller x.addr x.len x.mode x.nodes x.flags)) c.self.view_is (some, needed)

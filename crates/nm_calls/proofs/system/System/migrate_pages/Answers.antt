@@ -3,13 +3,13 @@ use Rattle.nm_model.specs.definitions.Cut.{Request}
 use Rattle.nm_steps.specs.Calls.{MigratePages}
 use Rattle.nm_calls.specs.definitions.Answers.{Failed}
 use Rattle.nm_calls.specs.definitions.Does.{Does, Moves}
-use Rattle.nm_calls.specs.definitions.Outcome.{outcome, refused}
+use Rattle.nm_calls.specs.definitions.Outcome.{outcome, refusal_of}
 use Rattle.nm_calls.specs.definitions.Systems.{SystemState, in_state}
 use Rattle.nm_calls.proofs.Outcomes.{refuses_by, error_does, migrates_does}
 use Rattle.nm_calls.proofs.system.System.migrate_pages.Goals as goal
 
 pub returns-in_err-what : goal.returns-in_err-what
-unfolding refused
+unfolding refusal_of
 returns-in_err-what g c =
     let x = c.args.request.now in
     let s = c.self.inside.machine in

@@ -9,14 +9,14 @@ use Rattle.nm_steps.specs.Calls.{MovePages}
 use Rattle.nm_steps.specs.Views.{shown_during}
 use Rattle.nm_calls.specs.definitions.Answers.{Statuses}
 use Rattle.nm_calls.specs.definitions.Does.{Does, Moves}
-use Rattle.nm_calls.specs.definitions.Outcome.{refused}
+use Rattle.nm_calls.specs.definitions.Outcome.{refusal_of}
 use Rattle.nm_calls.specs.definitions.Permission.{owner_of}
 use Rattle.nm_calls.specs.definitions.Systems.{SystemState, in_state}
 use Rattle.nm_calls.proofs.Outcomes.{refuses_by, no_lack, move_unasked, move_checked, moves_does}
 use Rattle.nm_calls.proofs.system.System.move_pages.Goals as goal
 
 pub returns-in_err-permit-clause-done : goal.returns-in_err-permit-clause-done
-unfolding refused
+unfolding refusal_of
 returns-in_err-permit-clause-done g c =
     let x = c.args.request.now in
     let s = c.self.inside.machine in
@@ -30,7 +30,7 @@ pub returns-in_err-permit-clause-asked : goal.returns-in_err-permit-clause-asked
 returns-in_err-permit-clause-asked g c = λ runs policy_set is. no_lack _ c.in_err-permit.field-0.0 runs policy_set c.from_residual.ensures is
 
 pub returns-in_err-check_targets-clause-done : goal.returns-in_err-check_targets-clause-done
-unfolding refused
+unfolding refusal_of
 returns-in_err-check_targets-clause-done g c =
     let x = c.args.request.now in
     let s = c.self.inside.machine in

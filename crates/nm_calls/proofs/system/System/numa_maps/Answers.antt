@@ -12,14 +12,14 @@ use Rattle.nm_steps.specs.Calls.{NumaMaps}
 use Rattle.nm_calls.specs.definitions.Answers.{Refusal, Lines}
 use Rattle.nm_calls.specs.definitions.Does.{Does}
 use Rattle.nm_calls.specs.definitions.Maps.{lines_shown}
-use Rattle.nm_calls.specs.definitions.Outcome.{outcome, refused, refused_at_once, ended}
+use Rattle.nm_calls.specs.definitions.Outcome.{outcome, refusal_of, refused_at_once, end_of_call}
 use Rattle.nm_calls.specs.definitions.Systems.{SystemState}
 use Rattle.nm_calls.proofs.Lines.Tallies.{lines_end, maps_are}
 use Rattle.nm_calls.proofs.Outcomes.{answers, refuses, unlisted, out_at_once}
 use Rattle.nm_calls.proofs.system.System.numa_maps.Goals as goal
 
 pub returns-then-is_none-clause-done : goal.returns-then-is_none-clause-done
-unfolding refused
+unfolding refusal_of
 returns-then-is_none-clause-done g c =
     let s = c.self.inside.machine in
     let y : SystemState = record { state = s; run_limit = c.self.inside.run_limit } in
@@ -31,7 +31,7 @@ pub returns-then-is_none-clause-asked : goal.returns-then-is_none-clause-asked
 returns-then-is_none-clause-asked g c = λ runs policy_set is. absurd (cc)
 
 pub returns-in_err-areas-clause-done : goal.returns-in_err-areas-clause-done
-unfolding refused refused_at_once
+unfolding refusal_of refused_at_once
 returns-in_err-areas-clause-done g c =
     let s = c.self.inside.machine in
     let y : SystemState = record { state = s; run_limit = c.self.inside.run_limit } in
@@ -51,7 +51,7 @@ areas_text-requires-after_bounds g c = λ lifetimes bound.
     lines_end c.self.inside.machine c.args.pid c.as_slice.result.now c.geometry.ensures.sound (c.as_slice.ensures.value ∙ lines)
 
 pub returns-in_err-areas_text-clause-done : goal.returns-in_err-areas_text-clause-done
-unfolding refused refused_at_once
+unfolding refusal_of refused_at_once
 returns-in_err-areas_text-clause-done g c =
     let s = c.self.inside.machine in
     let y : SystemState = record { state = s; run_limit = c.self.inside.run_limit } in
@@ -67,7 +67,7 @@ returns-in_err-areas_text-clause-asked g c = λ runs policy_set is.
     (subst (λ (l : List Area). 0 < length l) (c.as_slice.ensures.value ∙ lines) c.in_err-areas_text.ensures.asked)
 
 pub returns-clause-done : goal.returns-clause-done
-unfolding refused ended
+unfolding refusal_of end_of_call
 returns-clause-done g c =
     let s = c.self.inside.machine in
     let y : SystemState = record { state = s; run_limit = c.self.inside.run_limit } in

@@ -4,14 +4,14 @@ use Rattle.nm_steps.specs.Calls.{Pagemap}
 use Rattle.nm_calls.specs.definitions.Answers.{Entries}
 use Rattle.nm_calls.specs.definitions.Does.{Does}
 use Rattle.nm_calls.specs.definitions.Entries.{entries_mapped, entries_shown}
-use Rattle.nm_calls.specs.definitions.Outcome.{outcome, refused, refused_at_once, ended}
+use Rattle.nm_calls.specs.definitions.Outcome.{outcome, refusal_of, refused_at_once, end_of_call}
 use Rattle.nm_calls.specs.definitions.Systems.{SystemState}
 use Rattle.nm_calls.proofs.PageLists.Pagemaps.{pagemap_shown}
 use Rattle.nm_calls.proofs.Outcomes.{answers, out_at_once, tells_error, machine_lacks}
 use Rattle.nm_calls.proofs.system.System.pagemap.Goals as goal
 
 pub returns-in_err-entries-clause-done : goal.returns-in_err-entries-clause-done
-unfolding refused refused_at_once
+unfolding refusal_of refused_at_once
 returns-in_err-entries-clause-done g c =
     let y : SystemState = record { state = c.self.inside.machine; run_limit = c.self.inside.run_limit } in
     subst (λ (z : SystemState). Does (λ mapped. Entries (entries_mapped mapped.items)) c.from_residual.result z z (Pagemap c.args.pid)) c.self.view_is
@@ -23,7 +23,7 @@ returns-in_err-entries-clause-asked g c = λ runs policy_set is.
     subst (λ (z : SystemState). 0 < length (entries_of z.state c.args.pid)) c.self.view_is (c.in_err-entries.ensures.asked (ap Err lack))
 
 pub returns-in_err-mapped_of-clause-done : goal.returns-in_err-mapped_of-clause-done
-unfolding refused refused_at_once
+unfolding refusal_of refused_at_once
 returns-in_err-mapped_of-clause-done g c =
     let y : SystemState = record { state = c.self.inside.machine; run_limit = c.self.inside.run_limit } in
     subst (λ (z : SystemState). Does (λ mapped. Entries (entries_mapped mapped.items)) c.from_residual-in_err-mapped_of.result z z (Pagemap c.args.pid)) c.self.view_is
@@ -35,7 +35,7 @@ returns-in_err-mapped_of-clause-asked g c = λ runs policy_set is.
     (subst (λ l. 0 < length l) (c.as_slice.ensures.value ∙ c.in_ok-entries.ensures.told.1) c.in_err-mapped_of.ensures.asked)
 
 pub returns-clause-done : goal.returns-clause-done
-unfolding refused ended
+unfolding refusal_of end_of_call
 returns-clause-done g c =
     let y : SystemState = record { state = c.self.inside.machine; run_limit = c.self.inside.run_limit } in
     let shown = c.in_ok-mapped_of.ensures.list ∙ ap entries_shown (c.as_slice.ensures.value ∙ c.in_ok-entries.ensures.told.1) in

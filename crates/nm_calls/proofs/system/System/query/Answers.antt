@@ -2,14 +2,14 @@ use Rattle.std.proofs.Common.{◌≡◌, ℤ, List, [], length, ◌<◌, ap, sym
 use Rattle.nm_steps.specs.Calls.{Query}
 use Rattle.nm_calls.specs.definitions.Answers.{Statuses}
 use Rattle.nm_calls.specs.definitions.Does.{Does}
-use Rattle.nm_calls.specs.definitions.Outcome.{outcome, refused, refused_at_once, ended, statuses_of}
+use Rattle.nm_calls.specs.definitions.Outcome.{outcome, refusal_of, refused_at_once, end_of_call, statuses_of}
 use Rattle.nm_calls.specs.definitions.Permission.{owner_of}
 use Rattle.nm_calls.specs.definitions.Systems.{SystemState}
 use Rattle.nm_calls.proofs.Outcomes.{answers, refuses_by, out_at_once, no_lack}
 use Rattle.nm_calls.proofs.system.System.query.Goals as goal
 
 pub returns-in_err-permit-clause-done : goal.returns-in_err-permit-clause-done
-unfolding refused
+unfolding refusal_of
 returns-in_err-permit-clause-done g c =
     let x = c.args.question.now in
     let y : SystemState = record { state = c.self.inside.machine; run_limit = c.self.inside.run_limit } in
@@ -21,7 +21,7 @@ pub returns-in_err-permit-clause-asked : goal.returns-in_err-permit-clause-asked
 returns-in_err-permit-clause-asked g c = λ runs policy_set is. no_lack _ c.in_err-permit.field-0.0 runs policy_set c.from_residual.ensures is
 
 pub returns-in_err-statuses_of-clause-done : goal.returns-in_err-statuses_of-clause-done
-unfolding refused refused_at_once
+unfolding refusal_of refused_at_once
 returns-in_err-statuses_of-clause-done g c =
     let x = c.args.question.now in
     let y : SystemState = record { state = c.self.inside.machine; run_limit = c.self.inside.run_limit } in
@@ -33,7 +33,7 @@ pub returns-in_err-statuses_of-clause-asked : goal.returns-in_err-statuses_of-cl
 returns-in_err-statuses_of-clause-asked g c = λ runs policy_set is. subst (λ l. 0 < length l) c.as_slice.ensures.value c.in_err-statuses_of.ensures.asked
 
 pub returns-clause-done : goal.returns-clause-done
-unfolding refused ended
+unfolding refusal_of end_of_call
 returns-clause-done g c =
     let x = c.args.question.now in
     let s = c.self.inside.machine in

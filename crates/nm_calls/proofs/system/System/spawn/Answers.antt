@@ -1,8 +1,8 @@
 use Rattle.std.proofs.Common.{arith}
-use Rattle.nm_calls.specs.definitions.Outcome.{refused, refused_at_once, ended, runs_asked, start, sets_policy, accesses_asked}
+use Rattle.nm_calls.specs.definitions.Outcome.{refusal_of, refused_at_once, end_of_call, runs_asked, start, sets_policy, accesses_asked}
 use Rattle.nm_calls.proofs.Outcomes.{answers, refuses, unchanged}
 use Rattle.nm_calls.proofs.system.System.spawn.Goals as goal
 
 pub returns : goal.returns
-unfolding refused refused_at_once ended runs_asked start sets_policy accesses_asked
+unfolding refusal_of refused_at_once end_of_call runs_asked start sets_policy accesses_asked
 returns g c = grind (arith, answers, refuses, unchanged)
