@@ -12,7 +12,7 @@ use Rattle.nm_model.specs.definitions.Touch.{Access, Held, site_of_access, is_he
 use Rattle.nm_model.specs.definitions.Run.{RunResult, HasOneAll, each_request, run}
 use Rattle.nm_model.specs.definitions.Seen.{sight_at}
 use Rattle.nm_model.specs.definitions.Sound.{IsSound}
-use Rattle.nm_laws.specs.Midway.{entry_meanwhile}
+use Rattle.nm_laws.specs.Midway.{entry_in_flight}
 use Rattle.nm_model.specs.definitions.RunMachine.{RunMachine, Ready, Moving, Ended, state_of}
 use Rattle.nm_model.specs.definitions.Events.{Event, Begin, after, accesses_in, hands}
 
@@ -73,7 +73,7 @@ EveryEntryOfAMovingPageIsHeld =
     (m : RunMachine) (target : ℕ) (wanted : List Wanted) (events : List Event) (n : RunMachine) →
     Unfolds m target wanted events n → n.phase ≡ Moving → (pid v : ℕ) →
     let moved = map (λ t. t.page) (each_request (state_of m) target wanted).taken in
-    entry_at n.tasks pid v ≡ option_map (entry_meanwhile (state_of n).place moved) (sight_at (state_of n) pid v)
+    entry_at n.tasks pid v ≡ option_map (entry_in_flight (state_of n).place moved) (sight_at (state_of n) pid v)
 
 -- an access of a run is held exactly if it is not refused first and the page there moves
 abbrev pub HeldIsExact : Type 0

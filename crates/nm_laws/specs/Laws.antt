@@ -76,20 +76,20 @@ is_within first count at = nat_le first at && nat_lt at (first + count)
 
 -- whether `len` bytes of a process from `address` on, in one page, include the byte that process `q` has at address
 -- `at`
-abbrev pub overlaps : Map (ℕ × ℕ) Area → ℕ → ℕ → ℕ → ℕ → ℕ → Bool
-overlaps areas pid address len q at =
+abbrev pub includes_byte : Map (ℕ × ℕ) Area → ℕ → ℕ → ℕ → ℕ → ℕ → Bool
+includes_byte areas pid address len q at =
     is_one_page (page_at areas pid (address / 4096)) (page_at areas q (at / 4096)) && is_within (address % 4096) len (at % 4096)
 
 -- the byte that a process has at an address after an access: a write that was made has put its own there
-abbrev pub written : Map (ℕ × ℕ) Area → ℕ → ℕ → Option ℕ → Access → AccessAnswer → Option ℕ
-written areas q at byte (Write pid address new) Done =
-    if overlaps areas pid address (length new) q at then Some (slice_index new (at % 4096 - address % 4096)) else byte
-written areas q at byte a answer = byte
+abbrev pub byte_after_access : Map (ℕ × ℕ) Area → ℕ → ℕ → Option ℕ → Access → AccessAnswer → Option ℕ
+byte_after_access areas q at byte (Write pid address new) Done =
+    if includes_byte areas pid address (length new) q at then Some (slice_index new (at % 4096 - address % 4096)) else byte
+byte_after_access areas q at byte a answer = byte
 
 -- the byte after one access after another
 abbrev pub all_written : Map (ℕ × ℕ) Area → ℕ → ℕ → Option ℕ → List Access → List AccessAnswer → Option ℕ
 all_written areas q at byte (a ∷ accesses) (answer ∷ answers) =
-    all_written areas q at (written areas q at byte a answer) accesses answers
+    all_written areas q at (byte_after_access areas q at byte a answer) accesses answers
 all_written areas q at byte accesses answers = byte
 
 -- the byte after the accesses of one run after another, with runs numbered from k on
@@ -103,7 +103,7 @@ abbrev pub WritingIsExact : Type 0
 WritingIsExact =
     (s : State) (left : List ℕ) (pid address : ℕ) (new : List ℕ) (q at : ℕ) →
     IsSoundInFlight s left → (write s pid address new).answer ≡ Done →
-    mem (write s pid address new).state q at ≡ written s.areas q at (mem s q at) (Write pid address new) Done
+    mem (write s pid address new).state q at ≡ byte_after_access s.areas q at (mem s q at) (Write pid address new) Done
 
 -- a run keeps every byte except those of its own writes in flight that are made: held and refused writes, and reads,
 -- change none

@@ -36,30 +36,30 @@ abbrev pub CopiesPage : RunMachine → List Job → ℕ × ℕ → Type 0
 CopiesPage m jobs ends = (p : Page) × (get page_cmp m.place p ≡ Some ends.0) × (goes_to jobs ends.0 ≡ ends.1)
 
 -- the frame that a job's page leaves, and the one that it takes
-abbrev pub ends_of : Job → ℕ × ℕ
-ends_of job = (job.source.0, job.target.0)
+abbrev pub frames_of_job : Job → ℕ × ℕ
+frames_of_job job = (job.source.0, job.target.0)
 
 -- an entry that names a frame is held, on its way there
-abbrev pub on_its_way : Entry → Entry
-on_its_way Zero = Zero
-on_its_way (Frame f) = Held f
-on_its_way (Held f) = Held f
+abbrev pub hold_entry : Entry → Entry
+hold_entry Zero = Zero
+hold_entry (Frame f) = Held f
+hold_entry (Held f) = Held f
 
 -- the entry for what is seen while these pages are on their way to the frames that they are placed in
-abbrev pub entry_meanwhile : Map Page ℕ → List Page → Sight → Entry
-entry_meanwhile place moved ZeroPage = Zero
-entry_meanwhile place moved (Sees p) =
-    let e = entry_of place (Sees p) in if list_any (same_page p) moved then on_its_way e else e
+abbrev pub entry_in_flight : Map Page ℕ → List Page → Sight → Entry
+entry_in_flight place moved ZeroPage = Zero
+entry_in_flight place moved (Sees p) =
+    let e = entry_of place (Sees p) in if list_any (same_page p) moved then hold_entry e else e
 
 -- these pages are moving
-pub record IsMidway (m : RunMachine) (moved : List Page) : Type 0 where
+pub record IsInFlight (m : RunMachine) (moved : List Page) : Type 0 where
   pub moving : m.phase ≡ Moving
   pub sound : IsSoundInFlight (state_of m) (sources m.jobs)
   -- an entry names the frame of its page, or is held and names the frame to which the page goes
   pub entries : (pid v : ℕ) (e : Entry) → entry_at m.tasks pid v ≡ Some e → e ≡ held_by m.jobs (entry_of m.place (sight_of m.areas pid v e))
   -- the pages that move are those in the sources of jobs
   pub pages : (p : Page) → list_any (same_page p) moved ≡ is_source m.jobs (get page_cmp m.place p)
-  pub copies : AllByRecursion (CopiesPage m m.jobs) (map ends_of m.jobs)
+  pub copies : AllByRecursion (CopiesPage m m.jobs) (map frames_of_job m.jobs)
   pub copied : AreCopied m.jobs
   pub buffers : length m.buf ≡ frame_count m.layout
   pub once : (f : ℕ) → f < frame_count m.layout → length (hands m f) ≡ 1

@@ -28,7 +28,7 @@ use Rattle.nm_laws.proofs.InFlight.Beginning.{begun_is}
 use Rattle.nm_laws.proofs.InFlight.Ending.{ended_is}
 use Rattle.nm_laws.proofs.InFlight.Entries.{entry_is}
 use Rattle.nm_laws.proofs.InFlight.Orders.{flies}
-use Rattle.nm_laws.specs.Midway.{IsMidway, ends_of, entry_meanwhile, sources}
+use Rattle.nm_laws.specs.Midway.{IsInFlight, frames_of_job, entry_in_flight, sources}
 use Rattle.nm_memory.specs.definitions.AfterCopy.{CanDo, all_stored_after_copy, answer_from_store, store_after_copy}
 use Rattle.nm_engine.specs.views.Flights.{Flight, AreOutIn, HoldsMovingPages, IsMoment, state_meanwhile, with_store}
 use Rattle.nm_engine.proofs.InFlight.Flights.{answers_then, state_then}
@@ -37,7 +37,7 @@ abbrev pub pages_of : List Taken → List Page
 pages_of moves = map (λ t. t.page) moves
 
 -- the frames that pages leave are the first ends of their jobs
-first_ends : (jobs : List Job) → sources jobs ≡ map (λ (e : ℕ × ℕ). e.0) (map ends_of jobs)
+first_ends : (jobs : List Job) → sources jobs ≡ map (λ (e : ℕ × ℕ). e.0) (map frames_of_job jobs)
 first_ends [] = refl
 first_ends (job ∷ jobs) = ap (λ fs. job.source.0 ∷ fs) (first_ends jobs)
 
@@ -47,11 +47,11 @@ left_first (t ∷ moves) = ap (λ fs. t.from ∷ fs) (left_first moves)
 
 module _ {A : Type 0} (x : Flight) (jobs : List (CopyJob A)) where
   -- a run machine that is read as the run, and whose jobs are its moves, has its entries
-  pub at_moment : (n : RunMachine) → HoldsMovingPages x → IsMidway n (pages_of x.moves) → state_of n ≡ state_meanwhile x jobs → map ends_of n.jobs ≡ map (λ t. (t.from, t.to)) x.moves → IsMoment n x jobs
+  pub at_moment : (n : RunMachine) → HoldsMovingPages x → IsInFlight n (pages_of x.moves) → state_of n ≡ state_meanwhile x jobs → map frames_of_job n.jobs ≡ map (λ t. (t.from, t.to)) x.moves → IsMoment n x jobs
   at_moment n holds midway state ends = record {
     midway = midway;
     state = state;
-    entries = λ pid v. entry_is n (pages_of x.moves) midway pid v ∙ ap (λ (s : State). option_map (entry_meanwhile s.place (pages_of x.moves)) (sight_at s pid v)) state ∙ sym (holds pid v);
+    entries = λ pid v. entry_is n (pages_of x.moves) midway pid v ∙ ap (λ (s : State). option_map (entry_in_flight s.place (pages_of x.moves)) (sight_at s pid v)) state ∙ sym (holds pid v);
     ends = ends;
   }
 
@@ -63,14 +63,14 @@ module _ {A : Type 0} (m : RunMachine) (x : Flight) (jobs : List (CopyJob A)) wh
   begins target wanted p holds rest sound alike plan taken shows =
       let b = begun_is m target wanted rest sound alike in
       let moves : (each_request (state_of m) target wanted).taken ≡ x.moves = plan.agrees.taken ∙ taken in
-      at_moment x jobs (begin_run m target wanted) holds (subst (λ (ts : List Taken). IsMidway (begin_run m target wanted) (pages_of ts)) moves b.midway)
+      at_moment x jobs (begin_run m target wanted) holds (subst (λ (ts : List Taken). IsInFlight (begin_run m target wanted) (pages_of ts)) moves b.midway)
       (b.state ∙ plan.agrees.state ∙ ap (with_moves (state_of m) target) taken ∙ sym shows)
       (b.ends ∙ ap (map (λ (t : Taken). (t.from, t.to))) moves)
 
   -- events of which none ends the run change bytes alone
-  stays : (n : RunMachine) (store : Store) (given : List (CopyJob A)) → IsMoment m x jobs → IsMidway n (pages_of x.moves) → state_of n ≡ state_meanwhile (with_store x store) given → map ends_of n.jobs ≡ map ends_of m.jobs → IsMoment n (with_store x store) given
+  stays : (n : RunMachine) (store : Store) (given : List (CopyJob A)) → IsMoment m x jobs → IsInFlight n (pages_of x.moves) → state_of n ≡ state_meanwhile (with_store x store) given → map frames_of_job n.jobs ≡ map frames_of_job m.jobs → IsMoment n (with_store x store) given
   stays n store given now midway state ends =
-      let entry : State → ℕ → ℕ → Option Entry = λ s pid v. option_map (entry_meanwhile s.place (pages_of x.moves)) (sight_at s pid v) in
+      let entry : State → ℕ → ℕ → Option Entry = λ s pid v. option_map (entry_in_flight s.place (pages_of x.moves)) (sight_at s pid v) in
       record {
         midway = midway;
         state = state;
@@ -88,7 +88,7 @@ module _ {A : Type 0} (m : RunMachine) (x : Flight) (jobs : List (CopyJob A)) wh
       let made = accessed_is m (pages_of x.moves) now.midway a in
       let same : access_during (state_of m) (pages_of x.moves) a ≡ record { state = after_copy (state_meanwhile x jobs) d; answer = answer_after_copy (state_meanwhile x jobs) d } = done ∙ ap (λ (s : State). record { state = after_copy s d; answer = answer_after_copy s d }) now.state in
       let state = made.state ∙ ap (λ (z : AccessResult). z.state) same ∙ sym (state_then x jobs (d ∷ []) out (can, tt)) in (
-        subst (λ (z : Flight). IsMoment (after_access m a) z jobs) (sym is) (stays (after_access m a) (store_after_copy x.spaces.place x.frames.frames d) jobs now made.midway state (ap (map ends_of) made.jobs)),
+        subst (λ (z : Flight). IsMoment (after_access m a) z jobs) (sym is) (stays (after_access m a) (store_after_copy x.spaces.place x.frames.frames d) jobs now made.midway state (ap (map frames_of_job) made.jobs)),
         made.answers ∙ ap (λ (z : AccessResult). m.answers ++ z.answer ∷ []) same ∙ ap (λ answers. m.answers ++ answers) (sym (answers_then x jobs (d ∷ []) out (can, tt))) ∙ ap (λ z. m.answers ++ z ∷ []) (sym told),
       )
 

@@ -8,7 +8,7 @@ use Rattle.nm_model.specs.definitions.Run.{RunResult, run}
 use Rattle.nm_model.specs.definitions.RunMachine.{RunMachine, Ended, state_of}
 use Rattle.nm_model.specs.definitions.Touch.{Access}
 use Rattle.nm_laws.specs.Interleavings.{Unfolds, IsRun}
-use Rattle.nm_laws.specs.Midway.{ends_of}
+use Rattle.nm_laws.specs.Midway.{frames_of_job}
 use Rattle.nm_engine.specs.views.Flights.{Flight, IsMoment, pair_of}
 
 -- what a run is asked for: the node that pages go to, the requests, and the accesses made meanwhile
@@ -40,6 +40,6 @@ module _ {A : Type 0} where
     pub unfolds : Unfolds first asked.target asked.wanted events now
     pub accesses : accesses_in events ≡ asked.accesses
     pub moment : IsMoment now x jobs
-    pub pairs : map ends_of now.jobs ≡ map pair_of jobs
+    pub pairs : map frames_of_job now.jobs ≡ map pair_of jobs
     pub over : is_allowed now End ≡ true
     pub ends : IsRun (effect now End) ran

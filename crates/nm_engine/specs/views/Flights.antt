@@ -22,7 +22,7 @@ use Rattle.nm_model.specs.definitions.RunMachine.{RunMachine, Moving, state_of}
 use Rattle.nm_model.specs.definitions.Sound.{IsSound}
 use Rattle.nm_model.specs.definitions.Touch.{Access, AccessAnswer, all_in_flight, access_during}
 use Rattle.nm_laws.specs.Interleavings.{IsAtRest}
-use Rattle.nm_laws.specs.Midway.{IsMidway, ends_of}
+use Rattle.nm_laws.specs.Midway.{IsInFlight, frames_of_job}
 use Rattle.nm_laws.specs.Moves.{CanMove, IsPlanOf}
 use Rattle.nm_memory.specs.declared.answers.AccessAnswer.{AccessAnswer as Given}
 use Rattle.nm_memory.specs.declared.pending_access.PendingAccess.{PendingAccess as Left}
@@ -101,10 +101,10 @@ module _ {A : Type 0} where
   -- a run machine whose run is under way, of these moves: it is read as the same state, and each process has the same entry
   -- at each page number
   pub record IsMoment (m : RunMachine) (x : Flight) (jobs : List (CopyJob A)) : Type 0 where
-    pub midway : IsMidway m (map (λ t. t.page) x.moves)
+    pub midway : IsInFlight m (map (λ t. t.page) x.moves)
     pub state : state_of m ≡ state_meanwhile x jobs
     pub entries : (pid v : ℕ) → entry_at m.tasks pid v ≡ entry_at x.tables pid v
-    pub ends : map ends_of m.jobs ≡ map (λ t. (t.from, t.to)) x.moves
+    pub ends : map frames_of_job m.jobs ≡ map (λ t. (t.from, t.to)) x.moves
 
   -- what is left to do for accesses can be done meanwhile, and an empty list has room for their answers
   pub record CanAnswer (x : Flight) (dues : Vec (Left A) A) (answers : Vec (Given A) A) : Type 0 where

@@ -13,17 +13,17 @@ use Rattle.nm_model.specs.definitions.Touch.{AccessSite, site, Access, Read, Wri
 use Rattle.nm_model.specs.definitions.Touch.{site_of_access, is_held, access_during}
 use Rattle.nm_model.specs.definitions.RunMachine.{RunMachine, state_of}
 use Rattle.nm_model.specs.definitions.Accesses.{is_held_at, touch_entry_at, bytes_at, written_at, with_answer, read_entry, write_entry, after_free_access, after_access}
-use Rattle.nm_laws.proofs.InFlight.Midway.{IsMidway}
+use Rattle.nm_laws.proofs.InFlight.Midway.{IsInFlight}
 use Rattle.nm_laws.proofs.InFlight.Steps.{Made}
 use Rattle.nm_laws.proofs.InFlight.Meeting.{ComesTo, comes_to, Both, held_alike, touched_both}
 use Rattle.nm_laws.proofs.InFlight.Bytes.{reads_alike, writes_alike, written_midway}
 
 -- one more answer changes nothing else
-answered_midway : (m : RunMachine) (moved : List Page) (answer : AccessAnswer) → IsMidway m moved → IsMidway (with_answer m answer) moved
+answered_midway : (m : RunMachine) (moved : List Page) (answer : AccessAnswer) → IsInFlight m moved → IsInFlight (with_answer m answer) moved
 answered_midway m moved answer h =
     record { moving = h.moving; sound = h.sound; entries = h.entries; pages = h.pages; copies = h.copies; copied = h.copied; buffers = h.buffers; once = h.once }
 
-module _ (m : RunMachine) (moved : List Page) (h : IsMidway m moved) where
+module _ (m : RunMachine) (moved : List Page) (h : IsInFlight m moved) where
   only_answered : (x y : AccessAnswer) → x ≡ y → Made m (with_answer m x) moved (record { state = state_of m; answer = y })
   only_answered x y e = record { midway = answered_midway m moved x h; state = refl; answers = ap (λ z. m.answers ++ z ∷ []) e; jobs = refl; statuses = refl; layout = refl }
 
@@ -54,7 +54,7 @@ module _ (m : RunMachine) (moved : List Page) (h : IsMidway m moved) where
   write_both pid address new fits (Ok n) (Ok t) b =
       let at = λ (o : Option Entry). record n { buf = written_at n.buf o (address % 4096) new } in
       record {
-        midway = answered_midway (at (entry_at n.tasks pid (address / 4096))) moved Done (subst (λ o. IsMidway (at o) moved) (sym b.there) (written_midway n moved b.midway pid address new b.entry b.there b.used fits));
+        midway = answered_midway (at (entry_at n.tasks pid (address / 4096))) moved Done (subst (λ o. IsInFlight (at o) moved) (sym b.there) (written_midway n moved b.midway pid address new b.entry b.there b.used fits));
         state = ap (λ o. state_of (at o)) b.there ∙ writes_alike n moved b.midway pid address new b.entry b.there b.used
             ∙ ap (λ s. state.with_bytes s (sight_at s pid (address / 4096)) (address % 4096) new) b.state;
         answers = ap (λ xs. xs ++ Done ∷ []) b.answers;

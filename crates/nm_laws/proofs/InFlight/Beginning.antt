@@ -32,7 +32,7 @@ use Rattle.nm_model.specs.definitions.Events.{laid_for, without_buffers_of, held
 use Rattle.nm_laws.specs.Interleavings.{IsAtRest}
 use Rattle.nm_laws.proofs.InFlight.Jobs.{sources, targets, AreCopied, no_source_times, content_home}
 use Rattle.nm_laws.proofs.InFlight.Values.{values_same, entries_show, changed_at}
-use Rattle.nm_laws.proofs.InFlight.Midway.{CopiesPage, is_source, ends_of, at_home, hands_count}
+use Rattle.nm_laws.proofs.InFlight.Midway.{CopiesPage, is_source, frames_of_job, at_home, hands_count}
 use Rattle.nm_laws.proofs.InFlight.Deciding.{jobs_of, CopiesFrom, IsDecided, each_decided}
 use Rattle.nm_laws.proofs.InFlight.Entering.{unmap_some}
 use Rattle.nm_laws.proofs.InFlight.Steps.{Begun}
@@ -51,7 +51,7 @@ module _ (buf : Store) where
   targets_of [] = refl
   targets_of (t ∷ taken) = ap (λ xs. t.to ∷ xs) (targets_of taken)
 
-  ends_are : (taken : List Taken) → map ends_of (jobs_of buf taken) ≡ map (λ t. (t.from, t.to)) taken
+  ends_are : (taken : List Taken) → map frames_of_job (jobs_of buf taken) ≡ map (λ t. (t.from, t.to)) taken
   ends_are [] = refl
   ends_are (t ∷ taken) = ap (λ xs. (t.from, t.to) ∷ xs) (ends_are taken)
 
@@ -303,7 +303,7 @@ module _ (m : RunMachine) (target : ℕ) (wanted : List Wanted) (rest : IsAtRest
           sound = subst (IsSoundInFlight (state_of (laid p.taken statuses))) (sym (sources_of m.buf p.taken)) (subst (λ s. IsSoundInFlight s (frames_left p.taken)) (sym (laid_state statuses)) sound_then);
           entries = laid_entries;
           pages = λ q. decided_here.pages q ∙ ap (λ ps. is_source jobs (get page_cmp ps q)) place_is;
-          copies = laid_copies statuses (map ends_of jobs) decided_here.copies;
+          copies = laid_copies statuses (map frames_of_job jobs) decided_here.copies;
           copied = copied_of m.buf p.taken;
           buffers = out_length jobs m.buf ∙ rest.settled.buffers;
           once = laid_once statuses;

@@ -28,7 +28,7 @@ use Rattle.nm_model.specs.definitions.RunMachine.{RunMachine, Job, job_from, goe
 use Rattle.nm_model.specs.definitions.Events.{hands}
 use Rattle.nm_model.specs.definitions.Accesses.{bytes_at, written_at}
 use Rattle.nm_laws.proofs.InFlight.Jobs.{sources, targets, goes_nowhere, content_home}
-use Rattle.nm_laws.proofs.InFlight.Midway.{IsMidway, at_home, hands_count}
+use Rattle.nm_laws.proofs.InFlight.Midway.{IsInFlight, at_home, hands_count}
 use Rattle.nm_laws.proofs.InFlight.Ending.{goes_now, in_order, not_in_jobs}
 use Rattle.nm_laws.proofs.InFlight.Whereabouts.{sight_is, frame_there}
 use Rattle.nm_laws.proofs.InFlight.Meeting.{IsUsed}
@@ -38,7 +38,7 @@ home_one : (o : Option (List ℕ)) → at_home o ≡ 1 → o ≡ Some (unwrap_or
 home_one None e = cc
 home_one (Some bytes) e = refl
 
-module _ (m : RunMachine) (moved : List Page) (h : IsMidway m moved) (pid address : ℕ) where
+module _ (m : RunMachine) (moved : List Page) (h : IsInFlight m moved) (pid address : ℕ) where
   abbrev vpn : ℕ
   vpn = address / 4096
 
@@ -134,7 +134,7 @@ module _ (m : RunMachine) (moved : List Page) (h : IsMidway m moved) (pid addres
         no : false ≡ true → ⊥
         no e = cc
 
-    pub written_midway : (e : Entry) → entry_at m.tasks pid vpn ≡ Some e → IsUsed e → address % 4096 + length new ≤ 4096 → IsMidway (written e) moved
+    pub written_midway : (e : Entry) → entry_at m.tasks pid vpn ≡ Some e → IsUsed e → address % 4096 + length new ≤ 4096 → IsInFlight (written e) moved
     written_midway Zero there used fits = h
     written_midway (OnItsWay f) there used fits = absurd used
     written_midway (Frame f) there used fits =

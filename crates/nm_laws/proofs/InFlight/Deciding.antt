@@ -27,7 +27,7 @@ use Rattle.nm_laws.proofs.OneByOne.Planned.{list_now}
 use Rattle.nm_model.specs.definitions.RunMachine.{Job, job_from, goes_to}
 use Rattle.nm_model.specs.definitions.Events.{laid_for}
 use Rattle.nm_laws.proofs.InFlight.Jobs.{goes_nowhere}
-use Rattle.nm_laws.proofs.InFlight.Midway.{is_source, ends_of}
+use Rattle.nm_laws.proofs.InFlight.Midway.{is_source, frames_of_job}
 use Rattle.nm_laws.proofs.InFlight.Values.{values_same}
 use Rattle.nm_laws.proofs.InFlight.Elsewhere.{IsElsewhere, status_elsewhere}
 
@@ -44,7 +44,7 @@ pub record IsDecided (s : State) (target : ℕ) (buf : Store) (p : Progress) : T
   pub place : p.state.place ≡ with_values (λ page f. goes_to (jobs_of buf p.taken) f) s.place
   pub state : p.state ≡ record s { place = p.state.place; free = slice_set s.free target (drop (length p.taken) (free_list s target)) }
   pub pages : (q : Page) → list_any (same_page q) (map (λ t. t.page) p.taken) ≡ is_source (jobs_of buf p.taken) (get page_cmp s.place q)
-  pub copies : AllByRecursion (CopiesFrom s target (jobs_of buf p.taken)) (map ends_of (jobs_of buf p.taken))
+  pub copies : AllByRecursion (CopiesFrom s target (jobs_of buf p.taken)) (map frames_of_job (jobs_of buf p.taken))
   pub from_elsewhere : AllByRecursion (λ t. (node_of s.layout t.from == target) ≡ false) p.taken
   pub to_target : AllByRecursion (λ t. node_of s.layout t.to ≡ target) p.taken
   pub few : (f : ℕ) → times f (map (λ t. t.to) p.taken) ≤ times f (free_list s target)
@@ -182,7 +182,7 @@ module _ (s : State) (target : ℕ) (buf : Store) (ws : List Wanted) where
             place = place_is;
             state = state_is;
             pages = pages_are;
-            copies = ((p, placed, goes_first, elsewhere), copies_still (map ends_of js) d.copies);
+            copies = ((p, placed, goes_first, elsewhere), copies_still (map frames_of_job js) d.copies);
             from_elsewhere = (elsewhere, d.from_elsewhere);
             to_target = (own.0, d.to_target);
             few = few_are;

@@ -28,7 +28,7 @@ use Rattle.nm_model.specs.definitions.Events.{is_given, arrival_of, with_both, f
 use Rattle.nm_laws.proofs.InFlight.Jobs.{sources, targets, AreCopied, no_source_times, goes_nowhere, content_home}
 use Rattle.nm_laws.proofs.InFlight.Values.{values_twice, values_same, entries_show, changed_at}
 use Rattle.nm_laws.specs.Interleavings.{IsSettled}
-use Rattle.nm_laws.proofs.InFlight.Midway.{IsMidway, CopiesPage, ends_of, at_home, hands_count}
+use Rattle.nm_laws.proofs.InFlight.Midway.{IsInFlight, CopiesPage, frames_of_job, at_home, hands_count}
 
 arrived_alike : (areas : Map (ℕ × ℕ) Area) (pid v : ℕ) (e : Entry) → sight_of areas pid v (arrival_of e) ≡ sight_of areas pid v e
 arrived_alike areas pid v Zero = refl
@@ -151,11 +151,11 @@ back_home (job ∷ jobs) buf f below once =
     no : false ≡ true → ⊥
     no e = cc
 
-pub ends_sources : (jobs : List Job) → map (λ (e : ℕ × ℕ). e.0) (map ends_of jobs) ≡ sources jobs
+pub ends_sources : (jobs : List Job) → map (λ (e : ℕ × ℕ). e.0) (map frames_of_job jobs) ≡ sources jobs
 ends_sources [] = refl
 ends_sources (job ∷ jobs) = ap (λ xs. job.source.0 ∷ xs) (ends_sources jobs)
 
-pub ends_targets : (jobs : List Job) → map (λ (e : ℕ × ℕ). e.1) (map ends_of jobs) ≡ targets jobs
+pub ends_targets : (jobs : List Job) → map (λ (e : ℕ × ℕ). e.1) (map frames_of_job jobs) ≡ targets jobs
 ends_targets [] = refl
 ends_targets (job ∷ jobs) = ap (λ xs. job.target.0 ∷ xs) (ends_targets jobs)
 
@@ -189,7 +189,7 @@ arrived_entry jobs place (Sees p) =
     arrived_place jobs (get page_cmp place p)
     ∙ ap (λ o. unwrap_or (option_map Frame o) Zero) (sym (get-values exact_page (λ (q : Page) f. goes_to jobs f) place p))
 
-module _ (m : RunMachine) (moved : List Page) (h : IsMidway m moved) where
+module _ (m : RunMachine) (moved : List Page) (h : IsInFlight m moved) where
   -- where a page is in the state
   pub goes_now : (p : Page) (f : ℕ) → get page_cmp m.place p ≡ Some f → get page_cmp (state_of m).place p ≡ Some (goes_to m.jobs f)
   goes_now p f placed = get-values exact_page (λ (q : Page) g. goes_to m.jobs g) m.place p ∙ ap (option_map (goes_to m.jobs)) placed
@@ -218,7 +218,7 @@ module _ (m : RunMachine) (moved : List Page) (h : IsMidway m moved) where
   pub not_in_jobs : (p : Page) (f : ℕ) → get page_cmp m.place p ≡ Some f → is_some (job_from m.jobs f) ≡ false → times f (sources m.jobs) + times f (targets m.jobs) ≡ 0
   not_in_jobs p f placed none =
       let s = no_source_times m.jobs f none in
-      let t : times f (targets m.jobs) ≡ 0 = ap (times f) (sym (ends_targets m.jobs)) ∙ no_target p f placed none (map ends_of m.jobs) h.copies (ap (times f) (ends_sources m.jobs) ∙ s) in
+      let t : times f (targets m.jobs) ≡ 0 = ap (times f) (sym (ends_targets m.jobs)) ∙ no_target p f placed none (map frames_of_job m.jobs) h.copies (ap (times f) (ends_sources m.jobs) ∙ s) in
       omega (arith, s, t)
 
   pub at_most_once : (f : ℕ) → f < frame_count m.layout → times f (sources m.jobs) + times f (targets m.jobs) ≤ 1

@@ -27,7 +27,7 @@ use Rattle.nm_model.specs.definitions.RunMachine.{RunMachine, Job, job_from, goe
 use Rattle.nm_model.specs.definitions.Events.{held_by, hands}
 use Rattle.nm_model.specs.definitions.Accesses.{with_entry_at, with_cleared_page}
 use Rattle.nm_laws.proofs.InFlight.Jobs.{sources, targets, goes_nowhere, content_home}
-use Rattle.nm_laws.proofs.InFlight.Midway.{IsMidway, CopiesPage, is_source, ends_of, at_home, hands_count}
+use Rattle.nm_laws.proofs.InFlight.Midway.{IsInFlight, CopiesPage, is_source, frames_of_job, at_home, hands_count}
 use Rattle.nm_laws.proofs.InFlight.Ending.{in_order}
 use Rattle.nm_laws.proofs.InFlight.Whereabouts.{front_below, front_stays, front_unplaced, front_in_no_job}
 use Rattle.nm_laws.proofs.InFlight.Entering.{entered_is, entry_then}
@@ -78,9 +78,9 @@ frame_fits place areas jobs pid v f p shown placed none =
     stays None h = refl
     stays (Some job) h = cc
 
-module _ (m : RunMachine) (moved : List Page) (h : IsMidway m moved) (at : AccessSite) (i : IsSpot (state_of m) at) where
+module _ (m : RunMachine) (moved : List Page) (h : IsInFlight m moved) (at : AccessSite) (i : IsSpot (state_of m) at) where
   -- a new entry
-  pub entered_midway : (e : Entry) → Fitting m.place m.areas m.jobs at.pid at.vpn e → IsSoundInFlight (with_sight (state_of m) at (sight_of m.areas at.pid at.vpn e)) (sources m.jobs) → IsMidway (with_entry_at m at e) moved
+  pub entered_midway : (e : Entry) → Fitting m.place m.areas m.jobs at.pid at.vpn e → IsSoundInFlight (with_sight (state_of m) at (sight_of m.areas at.pid at.vpn e)) (sources m.jobs) → IsInFlight (with_entry_at m at e) moved
   entered_midway e fits sound =
       record {
         moving = h.moving;
@@ -200,7 +200,7 @@ module _ (m : RunMachine) (moved : List Page) (h : IsMidway m moved) (at : Acces
         no : false ≡ true → ⊥
         no e = cc
 
-    pub filled_midway : ((p : Page) → sight_at (state_of m) at.pid at.vpn ≡ Some (Sees p) → ⊥) → IsMidway filled_and_seen moved
+    pub filled_midway : ((p : Page) → sight_at (state_of m) at.pid at.vpn ≡ Some (Sees p) → ⊥) → IsInFlight filled_and_seen moved
     filled_midway unseen =
         let unplaced_now : get page_cmp (state_of m).place (shown_at at) ≡ None = get-values exact_page (λ (q : Page) f. goes_to m.jobs f) m.place (shown_at at) ∙ ap (option_map (goes_to m.jobs)) unplaced in
         record {
@@ -210,7 +210,7 @@ module _ (m : RunMachine) (moved : List Page) (h : IsMidway m moved) (at : Acces
               (frame_fits (set page_cmp m.place (shown_at at) front) m.areas m.jobs at.pid at.vpn front (shown_at at) (page_at_spot (state_of m) at i) place_here stays)
               (λ q w e there. fits_still q w e (h.entries q w e there));
           pages = pages_still;
-          copies = copies_still (map ends_of m.jobs) h.copies;
+          copies = copies_still (map frames_of_job m.jobs) h.copies;
           copied = h.copied;
           buffers = length-set m.buf front (Some zeros) ∙ h.buffers;
           once = once_still;

@@ -24,7 +24,7 @@ use Rattle.nm_laws.proofs.Soundness.Touched.{private_unplaced, has_front}
 use Rattle.nm_model.specs.definitions.RunMachine.{RunMachine, goes_to, state_of}
 use Rattle.nm_model.specs.definitions.Accesses.{is_held_by, is_held_at, with_entry_at, allocate_entry, fill_entry, share_entry, touch_entry, touch_entry_at}
 use Rattle.nm_laws.proofs.InFlight.Jobs.{sources}
-use Rattle.nm_laws.proofs.InFlight.Midway.{IsMidway, is_source}
+use Rattle.nm_laws.proofs.InFlight.Midway.{IsInFlight, is_source}
 use Rattle.nm_laws.proofs.InFlight.Whereabouts.{sight_is, frame_there, held_there, leaving_is}
 use Rattle.nm_laws.proofs.InFlight.Ending.{goes_now}
 use Rattle.nm_laws.proofs.InFlight.Entering.{entered_is, entry_here}
@@ -91,7 +91,7 @@ IsUsed (OnItsWay f) = ⊥
 
 -- the machine after a touch, read as this state
 pub record Touched (m n : RunMachine) (moved : List Page) (t : State) (pid v : ℕ) : Type 0 where
-  pub midway : IsMidway n moved
+  pub midway : IsInFlight n moved
   pub state : state_of n ≡ t
   pub answers : n.answers ≡ m.answers
   pub jobs : n.jobs ≡ m.jobs
@@ -108,7 +108,7 @@ Both m moved pid v (Err e) (Ok t) = ⊥
 Both m moved pid v (Ok n) (Err x) = ⊥
 Both m moved pid v (Ok n) (Ok t) = Touched m n moved t pid v
 
-module _ (m : RunMachine) (moved : List Page) (h : IsMidway m moved) (at : AccessSite) (i : IsSpot (state_of m) at) where
+module _ (m : RunMachine) (moved : List Page) (h : IsInFlight m moved) (at : AccessSite) (i : IsSpot (state_of m) at) where
   -- a page has a frame in the machine exactly if it has one in the state
   place_none : get page_cmp (state_of m).place (shown_at at) ≡ None → get page_cmp m.place (shown_at at) ≡ None
   place_none e = map_none (goes_to m.jobs) (get page_cmp m.place (shown_at at)) (sym (get-values exact_page (λ (q : Page) f. goes_to m.jobs f) m.place (shown_at at)) ∙ e)

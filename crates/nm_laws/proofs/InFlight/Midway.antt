@@ -11,7 +11,7 @@ use Rattle.nm_model.specs.definitions.PageTables.{sight_of, entry_of}
 use Rattle.nm_model.specs.definitions.Sound.{times, IsSoundInFlight}
 use Rattle.nm_model.specs.definitions.RunMachine.{RunMachine, Job, job_from, state_of}
 use Rattle.nm_model.specs.definitions.Events.{held_by, hands, job_holds, home_hold}
-pub use Rattle.nm_laws.specs.Midway.{is_source, CopiesPage, ends_of, IsMidway}
+pub use Rattle.nm_laws.specs.Midway.{is_source, CopiesPage, frames_of_job, IsInFlight}
 use Rattle.nm_laws.proofs.InFlight.Jobs.{Shape, shape, sources, targets, AreCopied, from_same, held_of_shape, goes_same, content_same, some_same, sources_same, targets_same, jobs_hold}
 
 -- how many places hold the buffer of a frame
@@ -23,9 +23,9 @@ hands_count m f =
     length-append (home_hold (slice_index_or m.buf f None)) (flat_map (job_holds f) m.jobs)
     ∙ ap (λ n. at_home (slice_index_or m.buf f None) + n) (jobs_hold f m.jobs)
 
-ends_of_shapes : (jobs : List Job) → map ends_of jobs ≡ map (λ (x : Shape). (x.0.0, x.1)) (map shape jobs)
+ends_of_shapes : (jobs : List Job) → map frames_of_job jobs ≡ map (λ (x : Shape). (x.0.0, x.1)) (map shape jobs)
 ends_of_shapes [] = refl
-ends_of_shapes (job ∷ jobs) = ap (λ xs. ends_of job ∷ xs) (ends_of_shapes jobs)
+ends_of_shapes (job ∷ jobs) = ap (λ xs. frames_of_job job ∷ xs) (ends_of_shapes jobs)
 
 -- other jobs of the same frames and source bytes
 module _ (m : RunMachine) (jobs : List Job) (same : map shape jobs ≡ map shape m.jobs) where
@@ -44,21 +44,21 @@ module _ (m : RunMachine) (jobs : List Job) (same : map shape jobs ≡ map shape
   same_source None = refl
   same_source (Some f) = sym (some_same jobs m.jobs same f)
 
-  pub same_ends : map ends_of m.jobs ≡ map ends_of jobs
+  pub same_ends : map frames_of_job m.jobs ≡ map frames_of_job jobs
   same_ends = ends_of_shapes m.jobs ∙ ap (map (λ (x : Shape). (x.0.0, x.1))) (sym same) ∙ sym (ends_of_shapes jobs)
 
   same_copies : (es : List (ℕ × ℕ)) → AllByRecursion (CopiesPage m m.jobs) es → AllByRecursion (CopiesPage (record m { jobs = jobs }) jobs) es
   same_copies [] h = tt
   same_copies (e ∷ es) h = ((h.0.0, h.0.1, goes_same jobs m.jobs same e.0 ∙ h.0.2), same_copies es h.1)
 
-  pub same_midway : (moved : List Page) → AreCopied jobs → IsMidway m moved → IsMidway (record m { jobs = jobs }) moved
+  pub same_midway : (moved : List Page) → AreCopied jobs → IsInFlight m moved → IsInFlight (record m { jobs = jobs }) moved
   same_midway moved copied h =
       record {
         moving = h.moving;
         sound = subst (λ l. IsSoundInFlight (state_of (record m { jobs = jobs })) l) (sym (sources_same jobs m.jobs same)) (subst (λ s. IsSoundInFlight s (sources m.jobs)) (sym same_state) h.sound);
         entries = λ pid v e at. h.entries pid v e at ∙ sym (same_held (entry_of m.place (sight_of m.areas pid v e)));
         pages = λ p. h.pages p ∙ same_source (get page_cmp m.place p);
-        copies = subst (AllByRecursion (CopiesPage (record m { jobs = jobs }) jobs)) same_ends (same_copies (map ends_of m.jobs) h.copies);
+        copies = subst (AllByRecursion (CopiesPage (record m { jobs = jobs }) jobs)) same_ends (same_copies (map frames_of_job m.jobs) h.copies);
         copied = copied;
         buffers = h.buffers;
         once = λ f below.

@@ -14,7 +14,7 @@ use Rattle.nm_model.specs.definitions.Events.{Event, Begin, Draw, Give, Touch, E
 use Rattle.nm_model.specs.definitions.Accesses.{after_access}
 use Rattle.nm_laws.specs.Interleavings.{IsSettled, EveryOrderIsTheRun, EveryBufferIsInOneHand, EveryEntryOfAMovingPageIsHeld}
 use Rattle.nm_laws.proofs.InFlight.Jobs.{shape, sources, drawn_shape, drawn_copied, given_shape, given_copied, sources_same, length_same}
-use Rattle.nm_laws.proofs.InFlight.Midway.{IsMidway, ends_of, same_state, same_ends, same_midway}
+use Rattle.nm_laws.proofs.InFlight.Midway.{IsInFlight, frames_of_job, same_state, same_ends, same_midway}
 use Rattle.nm_laws.proofs.InFlight.Ending.{ended_is, ended_once, ended_settled}
 use Rattle.nm_laws.proofs.InFlight.Accessing.{accessed_is}
 use Rattle.nm_laws.proofs.InFlight.Beginning.{begun_is}
@@ -59,7 +59,7 @@ append-nil : {A : Type 0} (xs : List A) → xs ++ [] ≡ xs
 append-nil [] = refl
 append-nil (x ∷ xs) = ap (λ l. x ∷ l) (append-nil xs)
 
-module _ (m n : RunMachine) (moved : List Page) (h : IsMidway m moved) where
+module _ (m n : RunMachine) (moved : List Page) (h : IsInFlight m moved) where
   -- other jobs of the same shape
   finish_same : (jobs : List Job) (events : List Event) → map shape jobs ≡ map shape m.jobs
       → Finishes (record m { jobs = jobs }) n (all_in_flight (state_of (record m { jobs = jobs })) moved (accesses_in events))
@@ -74,7 +74,7 @@ module _ (m n : RunMachine) (moved : List Page) (h : IsMidway m moved) where
         answers = rest.answers ∙ ap (λ t. m.answers ++ (d t).answers) s;
       }
 
-finish : (events : List Event) (m n : RunMachine) (moved : List Page) → IsMidway m moved → after m events ≡ Some n → n.phase ≡ Ended → Finishes m n (all_in_flight (state_of m) moved (accesses_in events))
+finish : (events : List Event) (m n : RunMachine) (moved : List Page) → IsInFlight m moved → after m events ≡ Some n → n.phase ≡ Ended → Finishes m n (all_in_flight (state_of m) moved (accesses_in events))
 finish [] m n moved h leads end = absurd (moving_ended (sym h.moving ∙ ap (λ (k : RunMachine). k.phase) (some_is leads) ∙ end))
 finish (Begin target wanted ∷ events) m n moved h leads end = absurd (refused _ _ n (ap is_ready h.moving) leads)
 finish (Draw w ∷ events) m n moved h leads end =
@@ -127,7 +127,7 @@ every_order_is_the_run m target wanted events n h end =
     }
 
 -- each buffer is in one place after each event
-once_after : (events : List Event) (m n : RunMachine) (moved : List Page) → IsMidway m moved → after m events ≡ Some n → (f : ℕ) → f < frame_count m.layout → length (hands n f) ≡ 1
+once_after : (events : List Event) (m n : RunMachine) (moved : List Page) → IsInFlight m moved → after m events ≡ Some n → (f : ℕ) → f < frame_count m.layout → length (hands n f) ≡ 1
 once_after [] m n moved h leads f below = ap (λ k. length (hands k f)) (sym (some_is leads)) ∙ h.once f below
 once_after (Begin target wanted ∷ events) m n moved h leads f below = absurd (refused _ _ n (ap is_ready h.moving) leads)
 once_after (Draw w ∷ events) m n moved h leads f below =
@@ -148,12 +148,12 @@ every_buffer_is_in_one_hand m target wanted events n h f below =
 
 -- what a run that is under way, and does not end, makes of a machine
 pub record Flies (m n : RunMachine) (moved : List Page) (d : AccessResults) : Type 0 where
-  pub midway : IsMidway n moved
+  pub midway : IsInFlight n moved
   pub state : state_of n ≡ d.state
   pub answers : n.answers ≡ m.answers ++ d.answers
-  pub ends : map ends_of n.jobs ≡ map ends_of m.jobs
+  pub ends : map frames_of_job n.jobs ≡ map frames_of_job m.jobs
 
-module _ (m n : RunMachine) (moved : List Page) (h : IsMidway m moved) where
+module _ (m n : RunMachine) (moved : List Page) (h : IsInFlight m moved) where
   -- other jobs of the same shape
   flies_same : (jobs : List Job) (events : List Event) → map shape jobs ≡ map shape m.jobs
       → Flies (record m { jobs = jobs }) n moved (all_in_flight (state_of (record m { jobs = jobs })) moved (accesses_in events))
@@ -168,14 +168,14 @@ module _ (m n : RunMachine) (moved : List Page) (h : IsMidway m moved) where
         ends = rest.ends ∙ sym (same_ends m jobs same);
       }
 
-pub flies : (events : List Event) (m n : RunMachine) (moved : List Page) → IsMidway m moved → after m events ≡ Some n → n.phase ≡ Moving → Flies m n moved (all_in_flight (state_of m) moved (accesses_in events))
+pub flies : (events : List Event) (m n : RunMachine) (moved : List Page) → IsInFlight m moved → after m events ≡ Some n → n.phase ≡ Moving → Flies m n moved (all_in_flight (state_of m) moved (accesses_in events))
 flies [] m n moved h leads on =
     let is = some_is leads in
     record {
-      midway = subst (λ (k : RunMachine). IsMidway k moved) is h;
+      midway = subst (λ (k : RunMachine). IsInFlight k moved) is h;
       state = ap state_of (sym is);
       answers = ap (λ (k : RunMachine). k.answers) (sym is) ∙ sym (append-nil m.answers);
-      ends = ap (λ (k : RunMachine). map ends_of k.jobs) (sym is);
+      ends = ap (λ (k : RunMachine). map frames_of_job k.jobs) (sym is);
     }
 flies (Begin target wanted ∷ events) m n moved h leads on = absurd (refused _ _ n (ap is_ready h.moving) leads)
 flies (Draw w ∷ events) m n moved h leads on =
@@ -197,7 +197,7 @@ flies (Touch a ∷ events) m n moved h leads on =
       midway = rest.midway;
       state = rest.state ∙ ap (λ t. (d t).state) made.state;
       answers = rest.answers ∙ (λ i. made.answers i ++ (d (made.state i)).answers) ∙ append_assoc m.answers (now.answer ∷ []) (d now.state).answers;
-      ends = rest.ends ∙ ap (map ends_of) made.jobs;
+      ends = rest.ends ∙ ap (map frames_of_job) made.jobs;
     }
 flies (End ∷ events) m n moved h leads on =
     let is = after_end events (end_run m) n refl refl (allowed _ _ n leads).1 in
@@ -219,7 +219,7 @@ pub record IsBeforeEnd (m : RunMachine) (events : List Event) (n : RunMachine) :
   pub accesses : accesses_in till ≡ accesses_in events
   pub over : end_run now ≡ n
 
-pub before_end : (events : List Event) (m n : RunMachine) (moved : List Page) → IsMidway m moved → after m events ≡ Some n → n.phase ≡ Ended → IsBeforeEnd m events n
+pub before_end : (events : List Event) (m n : RunMachine) (moved : List Page) → IsInFlight m moved → after m events ≡ Some n → n.phase ≡ Ended → IsBeforeEnd m events n
 before_end [] m n moved h leads end = absurd (moving_ended (sym h.moving ∙ ap (λ (k : RunMachine). k.phase) (some_is leads) ∙ end))
 before_end (Begin target wanted ∷ events) m n moved h leads end = absurd (refused _ _ n (ap is_ready h.moving) leads)
 before_end (Draw w ∷ events) m n moved h leads end =

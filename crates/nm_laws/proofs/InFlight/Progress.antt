@@ -12,7 +12,7 @@ use Rattle.nm_model.specs.definitions.RunMachine.{RunMachine, Job, InHand, Movin
 use Rattle.nm_model.specs.definitions.Events.{Event, Draw, Give, Touch, End, after, is_allowed, effect, accesses_in, draw_job, copy_job, give_job, end_run, begin_run, plan, laid_for, is_ready, is_moving, is_laid, is_given, is_with}
 use Rattle.nm_model.specs.definitions.Accesses.{after_access}
 use Rattle.nm_laws.specs.Interleavings.{EveryRunCanEnd}
-use Rattle.nm_laws.proofs.InFlight.Midway.{IsMidway}
+use Rattle.nm_laws.proofs.InFlight.Midway.{IsInFlight}
 use Rattle.nm_laws.proofs.InFlight.Accessing.{accessed_is}
 use Rattle.nm_laws.proofs.InFlight.Beginning.{begun_is}
 
@@ -34,10 +34,10 @@ after_both (e ∷ xs) ys m k h =
 -- after accesses the run is under way as before
 record Touches (m n : RunMachine) (moved : List Page) (accesses : List Access) : Type 0 where
   made : after m (map Touch accesses) ≡ Some n
-  midway : IsMidway n moved
+  midway : IsInFlight n moved
   jobs : n.jobs ≡ m.jobs
 
-touch_all : (accesses : List Access) (m : RunMachine) (moved : List Page) → IsMidway m moved → (n : RunMachine) × Touches m n moved accesses
+touch_all : (accesses : List Access) (m : RunMachine) (moved : List Page) → IsInFlight m moved → (n : RunMachine) × Touches m n moved accesses
 touch_all [] m moved h = (m, record { made = refl; midway = h; jobs = refl })
 touch_all (a ∷ accesses) m moved h =
     let one = accessed_is m moved h a in

@@ -9,11 +9,11 @@ use Rattle.nm_model.specs.definitions.Touch.{AccessResult}
 use Rattle.nm_model.specs.definitions.Run.{Progress, frames_left}
 use Rattle.nm_model.specs.definitions.RunMachine.{RunMachine, state_of}
 use Rattle.nm_laws.proofs.InFlight.Jobs.{sources}
-use Rattle.nm_laws.proofs.InFlight.Midway.{IsMidway, ends_of}
+use Rattle.nm_laws.proofs.InFlight.Midway.{IsInFlight, frames_of_job}
 
 -- an access was made
 pub record Made (m n : RunMachine) (moved : List Page) (a : AccessResult) : Type 0 where
-  pub midway : IsMidway n moved
+  pub midway : IsInFlight n moved
   pub state : state_of n ≡ a.state
   pub answers : n.answers ≡ m.answers ++ a.answer ∷ []
   pub jobs : n.jobs ≡ m.jobs
@@ -22,10 +22,10 @@ pub record Made (m n : RunMachine) (moved : List Page) (a : AccessResult) : Type
 
 -- a run has begun
 pub record Begun (m n : RunMachine) (p : Progress) : Type 0 where
-  pub midway : IsMidway n (map (λ t. t.page) p.taken)
+  pub midway : IsInFlight n (map (λ t. t.page) p.taken)
   pub state : state_of n ≡ p.state
   pub sources_are : sources n.jobs ≡ frames_left p.taken
-  pub ends : map ends_of n.jobs ≡ map (λ t. (t.from, t.to)) p.taken
+  pub ends : map frames_of_job n.jobs ≡ map (λ t. (t.from, t.to)) p.taken
   pub count : length n.jobs ≡ length p.taken
   pub entries : (pid v : ℕ) → entry_at n.tasks pid v ≡ option_map (held_by (map (laid_for m.buf) p.taken)) (option_map (entry_of (state_of m).place) (sight_at (state_of m) pid v))
   pub statuses : n.statuses ≡ p.statuses

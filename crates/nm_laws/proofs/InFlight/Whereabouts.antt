@@ -24,7 +24,7 @@ use Rattle.nm_model.specs.definitions.RunMachine.{RunMachine, Job, job_from, sta
 use Rattle.nm_model.specs.definitions.Events.{held_by}
 use Rattle.nm_model.specs.definitions.Accesses.{is_out, is_leaving}
 use Rattle.nm_laws.proofs.InFlight.Jobs.{sources, targets, source_times, goes_nowhere}
-use Rattle.nm_laws.proofs.InFlight.Midway.{IsMidway, CopiesPage, is_source, ends_of, at_home, hands_count}
+use Rattle.nm_laws.proofs.InFlight.Midway.{IsInFlight, CopiesPage, is_source, frames_of_job, at_home, hands_count}
 use Rattle.nm_laws.proofs.InFlight.Ending.{goes_now, not_in_jobs, ends_targets}
 
 -- a front is counted among the free frames
@@ -86,7 +86,7 @@ held jobs (Some g) f h =
       | Some job ↦ λ k. refl
     ] h
 
-module _ (m : RunMachine) (moved : List Page) (h : IsMidway m moved) where
+module _ (m : RunMachine) (moved : List Page) (h : IsInFlight m moved) where
   -- what a process sees is what its entry shows
   pub sight_is : (pid v : ℕ) → sight_at (state_of m) pid v ≡ option_map (sight_of m.areas pid v) (entry_at m.tasks pid v)
   sight_is pid v = sight_shown m.areas m.tasks pid v
@@ -169,6 +169,6 @@ module _ (m : RunMachine) (moved : List Page) (h : IsMidway m moved) where
     -- its buffer is home
     pub front_in_no_job : times front (sources m.jobs) + times front (targets m.jobs) ≡ 0
     front_in_no_job =
-        let t : times front (targets m.jobs) ≡ 0 = ap (times front) (sym (ends_targets m.jobs)) ∙ no_front_target (map ends_of m.jobs) h.copies in
+        let t : times front (targets m.jobs) ≡ 0 = ap (times front) (sym (ends_targets m.jobs)) ∙ no_front_target (map frames_of_job m.jobs) h.copies in
         let s = no_front_source in
         omega (arith, s, t)

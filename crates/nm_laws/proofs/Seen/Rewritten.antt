@@ -17,7 +17,7 @@ use Rattle.nm_model.specs.definitions.Touch.{Access, Read, Write, AccessAnswer, 
 use Rattle.nm_model.specs.definitions.Touch.{site_of_access, is_held, access_during, all_in_flight}
 use Rattle.nm_model.specs.definitions.Run.{moved_page, decision, one_request, each_request, with_free, with_all_free, frames_left, run}
 use Rattle.nm_model.specs.definitions.Run.{accesses_of, runs_from}
-use Rattle.nm_laws.specs.Laws.{written, all_written, runs_written, RunKeepsMemory, RunsKeepMemory}
+use Rattle.nm_laws.specs.Laws.{byte_after_access, all_written, runs_written, RunKeepsMemory, RunsKeepMemory}
 use Rattle.nm_model.specs.definitions.Sound.{IsSoundInFlight, IsSound}
 use Rattle.nm_laws.proofs.Early.Seen.{touch_areas}
 use Rattle.nm_laws.proofs.OneByOne.Memory.{each_keeps, frees_keep}
@@ -75,27 +75,27 @@ flights_areas s moved (a ∷ accesses) = flights_areas (access_during s moved a)
 -- ---- the byte of a process at an address
 
 module _ (q at : ℕ) where
-  read_writes : (s : State) (pid address len : ℕ) (r : Result State Errno) → mem (read_after s pid address len r).state q at ≡ mem s q at → mem (read_after s pid address len r).state q at ≡ written s.areas q at (mem s q at) (Read pid address len) (read_after s pid address len r).answer
+  read_writes : (s : State) (pid address len : ℕ) (r : Result State Errno) → mem (read_after s pid address len r).state q at ≡ mem s q at → mem (read_after s pid address len r).state q at ≡ byte_after_access s.areas q at (mem s q at) (Read pid address len) (read_after s pid address len r).answer
   read_writes s pid address len (Err e) stays = stays
   read_writes s pid address len (Ok t) stays = stays
 
   write_writes : (s : State) (pid address : ℕ) (new : List ℕ) (r : Result State Errno)
-      → ((write_after s pid address new r).answer ≡ Done → mem (write_after s pid address new r).state q at ≡ written s.areas q at (mem s q at) (Write pid address new) Done)
-      → mem (write_after s pid address new r).state q at ≡ written s.areas q at (mem s q at) (Write pid address new) (write_after s pid address new r).answer
+      → ((write_after s pid address new r).answer ≡ Done → mem (write_after s pid address new r).state q at ≡ byte_after_access s.areas q at (mem s q at) (Write pid address new) Done)
+      → mem (write_after s pid address new r).state q at ≡ byte_after_access s.areas q at (mem s q at) (Write pid address new) (write_after s pid address new r).answer
   write_writes s pid address new (Err e) exact = refl
   write_writes s pid address new (Ok t) exact = exact refl
 
-  access_writes : (s : State) (l : List ℕ) (a : Access) → IsSoundInFlight s l → mem (access s a).state q at ≡ written s.areas q at (mem s q at) a (access s a).answer
+  access_writes : (s : State) (l : List ℕ) (a : Access) → IsSoundInFlight s l → mem (access s a).state q at ≡ byte_after_access s.areas q at (mem s q at) a (access s a).answer
   access_writes s l (Read pid address len) h = read_writes s pid address len (touch s pid address len false) (reading_keeps s l pid address len h q at)
   access_writes s l (Write pid address new) h = write_writes s pid address new (touch s pid address (length new) true) (writing_is_exact s l pid address new q at h)
 
-  held_writes : (s : State) (a : Access) → mem s q at ≡ written s.areas q at (mem s q at) a Held
+  held_writes : (s : State) (a : Access) → mem s q at ≡ byte_after_access s.areas q at (mem s q at) a Held
   held_writes s (Read pid address len) = refl
   held_writes s (Write pid address new) = refl
 
-  flight_writes : (s : State) (l : List ℕ) (moved : List Page) (a : Access) → IsSoundInFlight s l → mem (access_during s moved a).state q at ≡ written s.areas q at (mem s q at) a (access_during s moved a).answer
+  flight_writes : (s : State) (l : List ℕ) (moved : List Page) (a : Access) → IsSoundInFlight s l → mem (access_during s moved a).state q at ≡ byte_after_access s.areas q at (mem s q at) a (access_during s moved a).answer
   flight_writes s l moved a h =
-      elim (is_held moved (site_of_access s a)) as (λ b. let now = if b then record { state = s; answer = Held } else access s a in mem now.state q at ≡ written s.areas q at (mem s q at) a now.answer) [
+      elim (is_held moved (site_of_access s a)) as (λ b. let now = if b then record { state = s; answer = Held } else access s a in mem now.state q at ≡ byte_after_access s.areas q at (mem s q at) a now.answer) [
         | true ↦ held_writes s a
         | false ↦ access_writes s l a h
       ]

@@ -27,7 +27,7 @@ use Rattle.nm_laws.proofs.InFlight.Values.{values_same, entries_show, changed_at
 use Rattle.nm_rmap.specs.Mappers.{Mappers, mappers_of, carried}
 use Rattle.nm_spaces.specs.views.AddressSpaces.{AddressSpacesView, spaces_view, with_moved}
 use Rattle.nm_spaces.specs.views.Held.{is_taken}
-use Rattle.nm_laws.specs.Midway.{entry_meanwhile, on_its_way}
+use Rattle.nm_laws.specs.Midway.{entry_in_flight, hold_entry}
 use Rattle.nm_spaces.specs.definitions.Moves.{CanRemap, all_moved}
 use Rattle.nm_spaces.specs.views.ProcessTable.{names, IsThere, with_other_entry, replaced, replaced_in, all_replaced, remapped}
 use Rattle.nm_spaces.specs.definitions.Tied.{IsTied, AreInOrder, has_spot}
@@ -204,7 +204,7 @@ zero_is_held e = cc
 -- ---- pages on their way, one after another
 
 -- while no page is on its way, an entry names the frame of the page
-pub none_moving : (place : Map Page ℕ) (o : Option Sight) → option_map (entry_of place) o ≡ option_map (entry_meanwhile place []) o
+pub none_moving : (place : Map Page ℕ) (o : Option Sight) → option_map (entry_of place) o ≡ option_map (entry_in_flight place []) o
 none_moving place None = refl
 none_moving place (Some ZeroPage) = refl
 none_moving place (Some (Sees p)) = refl
@@ -229,7 +229,7 @@ module _ (place : Map Page ℕ) (pages : List Page) (page : Page) (from to : ℕ
     (apart : (p q : Page) (f : ℕ) → get page_cmp place p ≡ Some f → get page_cmp place q ≡ Some f → p ≡ q) where
   -- the entry of a page with this frame, if it has one
   abbrev here : Bool → Option ℕ → Entry
-  here b o = let e = unwrap_or (option_map Frame o) Zero in cond b (on_its_way e) e
+  here b o = let e = unwrap_or (option_map Frame o) Zero in cond b (hold_entry e) e
 
   next_other : (p : Page) (o : Option ℕ) → get page_cmp place p ≡ o → (p ≡ page → ⊥) → (b : Bool) → held_for from to (here b o) ≡ here b o
   next_other p None at other true = refl
@@ -242,7 +242,7 @@ module _ (place : Map Page ℕ) (pages : List Page) (page : Page) (from to : ℕ
   next_same false = goes_there from to false
 
   -- once another page is on its way, its entry is held
-  pub next_moving : (o : Option Sight) → option_map (held_for from to) (option_map (entry_meanwhile place pages) o) ≡ option_map (entry_meanwhile (set page_cmp place page to) (pages ++ page ∷ [])) o
+  pub next_moving : (o : Option Sight) → option_map (held_for from to) (option_map (entry_in_flight place pages) o) ≡ option_map (entry_in_flight (set page_cmp place page to) (pages ++ page ∷ [])) o
   next_moving None = refl
   next_moving (Some ZeroPage) = refl
   next_moving (Some (Sees p)) =
@@ -297,7 +297,7 @@ moved_among (t ∷ moves) y p f h at =
     or_here true h = refl
     or_here false h = h
 
-entry_to : (o : Option ℕ) (b : Bool) (f : ℕ) → cond b (on_its_way (unwrap_or (option_map Frame o) Zero)) (unwrap_or (option_map Frame o) Zero) ≡ Held f → (b ≡ true) × (o ≡ Some f)
+entry_to : (o : Option ℕ) (b : Bool) (f : ℕ) → cond b (hold_entry (unwrap_or (option_map Frame o) Zero)) (unwrap_or (option_map Frame o) Zero) ≡ Held f → (b ≡ true) × (o ≡ Some f)
 entry_to None true f h = absurd (zero_is_held h)
 entry_to None false f h = absurd (zero_is_held h)
 entry_to (Some g) true f h = (refl, ap Some (held_held h))
@@ -305,7 +305,7 @@ entry_to (Some g) false f h = absurd (frame_is_held h)
 
 -- an entry that is held is on its way to a frame that one of the pages takes
 pub held_is_taken : (y : AddressSpacesView) (moves : List Taken) (o : Option Sight) (f : ℕ)
-    → option_map (entry_meanwhile (all_moved y moves).place (map (λ (t : Taken). t.page) moves)) o ≡ Some (Held f) → is_taken moves f ≡ true
+    → option_map (entry_in_flight (all_moved y moves).place (map (λ (t : Taken). t.page) moves)) o ≡ Some (Held f) → is_taken moves f ≡ true
 held_is_taken y moves None f h = cc
 held_is_taken y moves (Some ZeroPage) f h = absurd (zero_is_held (some_is h))
 held_is_taken y moves (Some (Sees p)) f h =

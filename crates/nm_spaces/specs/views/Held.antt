@@ -6,7 +6,7 @@ use Rattle.std.specs.Ordering.{nat_cmp}
 use Rattle.nm_types.specs.declared.page.Page.{Page}
 use Rattle.nm_types.specs.declared.taken.Taken.{Taken}
 use Rattle.nm_types.specs.Map.{Map, get}
-use Rattle.nm_laws.specs.Midway.{entry_meanwhile}
+use Rattle.nm_laws.specs.Midway.{entry_in_flight}
 use Rattle.nm_model.specs.definitions.Areas.{Mapping}
 use Rattle.nm_model.specs.definitions.PageTables.{Task, entry_at}
 use Rattle.nm_model.specs.definitions.Seen.{sight_in}
@@ -28,7 +28,7 @@ held_view tasks m r = record { tables = tasks; spaces = spaces_view tasks m r }
 abbrev pub HoldsPages : HeldView → List Page → Type 0
 HoldsPages h pages =
     (pid v : ℕ) →
-    entry_at h.tables pid v ≡ option_map (entry_meanwhile h.spaces.place pages) (sight_in (get nat_cmp h.spaces.processes pid) v)
+    entry_at h.tables pid v ≡ option_map (entry_in_flight h.spaces.place pages) (sight_in (get nat_cmp h.spaces.processes pid) v)
 
 -- whether one of the pages takes this frame
 abbrev pub is_taken : List Taken → ℕ → Bool

@@ -7,7 +7,7 @@ use Rattle.nm_types.specs.State.{State}
 use Rattle.nm_frames.specs.Job.{copied}
 use Rattle.nm_memory.specs.views.Populated.{IsPopulated}
 use Rattle.nm_laws.specs.Laws.{with_moves}
-use Rattle.nm_laws.specs.Midway.{entry_meanwhile}
+use Rattle.nm_laws.specs.Midway.{entry_in_flight}
 use Rattle.nm_model.specs.definitions.BeforeCopy.{with_fronts, frames_taken}
 use Rattle.nm_model.specs.definitions.Frames.{Store}
 use Rattle.nm_model.specs.definitions.Run.{frames_left}
@@ -83,7 +83,7 @@ invariant_of-run g c =
       entries = c.hold.ensures.entries;
       among = λ f pid v held.
           held_is_taken y moves (sight_in (get nat_cmp (all_moved y moves).processes pid) v) f
-          (sym (c.hold.ensures.entries pid v ∙ ap (λ (z : AddressSpacesView). option_map (entry_meanwhile z.place (pages_of moves)) (sight_in (get nat_cmp z.processes pid) v)) c.hold.ensures.spaces) ∙ held);
+          (sym (c.hold.ensures.entries pid v ∙ ap (λ (z : AddressSpacesView). option_map (entry_in_flight z.place (pages_of moves)) (sight_in (get nat_cmp z.processes pid) v)) c.hold.ensures.spaces) ∙ held);
       below = subst (λ n. AllByRecursion (λ t. t.to < n) moves) (sym (ap (λ (z : AddressSpacesView). z.frames) c.hold.ensures.spaces ∙ frames_stay moves y)) (takes_below moves y can);
       left = ap (λ (v : FramesView). v.vacated) (c.take_out-frames.ensures.frames ∙ ap (λ (v : FramesView). record v { frames = emptied v.frames moves; room = c.take_out-frames.result.0.room }) c.vacate_each.ensures.vacated);
     }

@@ -11,7 +11,7 @@ use Rattle.nm_model.specs.definitions.Areas.{Mapping, with_frame}
 use Rattle.nm_model.specs.definitions.Events.{arrival_of, with_entries}
 use Rattle.nm_model.specs.definitions.PageTables.{Task, entry_at}
 use Rattle.nm_rmap.specs.Mappers.{Mappers, mappers_of, carried}
-use Rattle.nm_laws.specs.Midway.{entry_meanwhile}
+use Rattle.nm_laws.specs.Midway.{entry_in_flight}
 use Rattle.nm_model.specs.definitions.Seen.{sight_in}
 use Rattle.nm_spaces.specs.views.AddressSpaces.{AddressSpacesView, spaces_view, with_moved}
 use Rattle.nm_spaces.specs.views.Held.{HeldView}
@@ -84,4 +84,4 @@ returns-clause-entries g c pages before pid v =
     ∙ ap (λ (h : HeldView). option_map (held_for c.args.from c.args.to) (entry_at h.tables pid v)) (held_seen c.deref_mut-parts.ensures.value c.self.view_is)
     ∙ ap (option_map (held_for c.args.from c.args.to)) (before pid v)
     ∙ next_moving y.place pages c.args.page c.args.from c.args.to c.requires.placed apart (sight_in (get nat_cmp y.processes pid) v)
-    ∙ ap (λ (z : AddressSpacesView). option_map (entry_meanwhile z.place (pages ++ c.args.page ∷ [])) (sight_in (get nat_cmp z.processes pid) v)) (sym (returns-clause-spaces g c))
+    ∙ ap (λ (z : AddressSpacesView). option_map (entry_in_flight z.place (pages ++ c.args.page ∷ [])) (sight_in (get nat_cmp z.processes pid) v)) (sym (returns-clause-spaces g c))
