@@ -10,7 +10,7 @@ use Rattle.nm_types.specs.declared.page.Page.{Page}
 use Rattle.nm_types.specs.Map.{Map, get, page_cmp, same_page}
 use Rattle.nm_types.proofs.Cases.{some_none, none_some, some_is}
 use Rattle.nm_counts.specs.declared.step.Step.{Step}
-use Rattle.nm_counts.specs.Shifted.{shifted, shifted_in, is_between}
+use Rattle.nm_counts.specs.Shifted.{shift_step, shifted_in, is_between}
 use Rattle.nm_counts.proofs.Orders.{pages_same, page_itself}
 use Rattle.nm_areas.specs.Coverage.{step_of, IsSteps, IsFlat}
 use Rattle.nm_model.specs.definitions.Areas.{page_in}
@@ -173,7 +173,7 @@ module _ (m new : Map Page Step) (segment first past : ℕ) (ends covers : Page 
       shows p ∙ ap (option_map (shifted_in segment first past true p)) (steps p)
       ∙ elim (ends p == 0) as (λ b. option_map (shifted_in segment first past true p) (if b then None else Some (stood (covers p) (ends p))) ≡ (if b then None else Some (stood (covers p + more p) (ends p)))) [
         | true ↦ refl
-        | false ↦ elim (is_between segment first past p) as (λ c. Some (if c then shifted true (stood (covers p) (ends p)) else stood (covers p) (ends p)) ≡ Some (stood (covers p + (if c then 1 else 0)) (ends p))) [
+        | false ↦ elim (is_between segment first past p) as (λ c. Some (if c then shift_step true (stood (covers p) (ends p)) else stood (covers p) (ends p)) ≡ Some (stood (covers p + (if c then 1 else 0)) (ends p))) [
           | true ↦
               let fits : (covers p == 2 ^ 64 - 1) ≡ false = false_from_ne_true _ (λ k. let last = eqb-true (covers p) (2 ^ 64 - 1) k in omega (arith, small, last)) in
               ap (λ d. Some (stood (if d then 0 else covers p + 1) (ends p))) fits
@@ -186,7 +186,7 @@ module _ (m new : Map Page Step) (segment first past : ℕ) (ends covers : Page 
       shows p ∙ ap (option_map (shifted_in segment first past false p)) (steps p)
       ∙ elim (ends p == 0) as (λ b. option_map (shifted_in segment first past false p) (if b then None else Some (stood (covers p + more p) (ends p))) ≡ (if b then None else Some (stood (covers p) (ends p)))) [
         | true ↦ refl
-        | false ↦ elim (is_between segment first past p) as (λ c. Some (if c then shifted false (stood (covers p + (if c then 1 else 0)) (ends p)) else stood (covers p + (if c then 1 else 0)) (ends p)) ≡ Some (stood (covers p) (ends p))) [
+        | false ↦ elim (is_between segment first past p) as (λ c. Some (if c then shift_step false (stood (covers p + (if c then 1 else 0)) (ends p)) else stood (covers p + (if c then 1 else 0)) (ends p)) ≡ Some (stood (covers p) (ends p))) [
           | true ↦
               let some : (covers p + 1 == 0) ≡ false = false_from_ne_true _ (λ k. let none = eqb-true (covers p + 1) 0 k in omega (arith, none)) in
               let fits : covers p + 1 - 1 ≡ covers p = omega arith in

@@ -13,7 +13,7 @@ use Rattle.nm_types.specs.Map.{spot_cmp}
 use Rattle.nm_types.proofs.Cases.{true_false}
 use Rattle.nm_model.specs.definitions.Areas.{page_in}
 use Rattle.nm_model.proofs.areas.Overs.{up_to, from_up_to, spot_before, spot_same}
-use Rattle.nm_counts.specs.Shifted.{is_between, is_within}
+use Rattle.nm_counts.specs.Shifted.{is_between, is_page_within}
 use Rattle.nm_counts.proofs.Orders.{is_le_from, le_is}
 
 -- where both follow from one another
@@ -53,8 +53,8 @@ between_parts segment first past p h =
 pub between_from : (segment first past : ℕ) (p : Page) → segment ≡ p.segment → first ≤ p.index → p.index < past → is_between segment first past p ≡ true
 between_from segment first past p same low high = and_from _ _ (eq-eqb segment p.segment same) (and_from _ _ (le-leb first p.index low) (lt-ltb p.index past high))
 
-pub between_is : (segment first past : ℕ) (p : Page) → is_between segment first past p ≡ is_within (page_in segment first) (page_in segment past) p
+pub between_is : (segment first past : ℕ) (p : Page) → is_between segment first past p ≡ is_page_within (page_in segment first) (page_in segment past) p
 between_is segment first past p =
-    same_test (is_between segment first past p) (is_within (page_in segment first) (page_in segment past) p)
+    same_test (is_between segment first past p) (is_page_within (page_in segment first) (page_in segment past) p)
     (λ h. let parts = between_parts segment first past p h in spots_from segment first past (p.segment, p.index) parts.0 parts.1 parts.2)
     (λ h. let parts = spots_parts segment first past (p.segment, p.index) h in between_from segment first past p parts.0 parts.1 parts.2)

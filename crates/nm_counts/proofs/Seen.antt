@@ -9,22 +9,22 @@ use Rattle.nm_types.proofs.Cases.{some_none}
 use Rattle.nm_types.proofs.Maps.{exact_page, get-values, get-replace, page_cmp_total}
 use Rattle.nm_counts.specs.declared.parts.Part.{Part}
 use Rattle.nm_counts.specs.declared.step.Step.{Step}
-use Rattle.nm_counts.specs.Parts.{add_at, shown}
+use Rattle.nm_counts.specs.Parts.{add_at, with_parts}
 use Rattle.nm_counts.specs.Shifted.{with_add}
 use Rattle.nm_counts.proofs.Orders.{pages_same}
 
-pub seen_at : (stored : Map Page Step) (parts : Map Page Part) (p : Page) → get page_cmp (shown stored parts) p ≡ option_map (with_add (add_at parts p)) (get page_cmp stored p)
+pub seen_at : (stored : Map Page Step) (parts : Map Page Part) (p : Page) → get page_cmp (with_parts stored parts) p ≡ option_map (with_add (add_at parts p)) (get page_cmp stored p)
 seen_at stored parts p = get-values exact_page (λ q. with_add (add_at parts q)) stored p
 
 -- where nothing is stored, nothing is seen
-pub none_seen : (stored : Map Page Step) (parts : Map Page Part) (p : Page) → get page_cmp stored p ≡ None → get page_cmp (shown stored parts) p ≡ None
+pub none_seen : (stored : Map Page Step) (parts : Map Page Part) (p : Page) → get page_cmp stored p ≡ None → get page_cmp (with_parts stored parts) p ≡ None
 none_seen stored parts p none = seen_at stored parts p ∙ ap (option_map (with_add (add_at parts p))) none
 
-pub some_seen : (stored : Map Page Step) (parts : Map Page Part) (p : Page) (s : Step) → get page_cmp stored p ≡ Some s → get page_cmp (shown stored parts) p ≡ Some (with_add (add_at parts p) s)
+pub some_seen : (stored : Map Page Step) (parts : Map Page Part) (p : Page) (s : Step) → get page_cmp stored p ≡ Some s → get page_cmp (with_parts stored parts) p ≡ Some (with_add (add_at parts p) s)
 some_seen stored parts p s some = seen_at stored parts p ∙ ap (option_map (with_add (add_at parts p))) some
 
 -- parts that add the same
-pub same_seen : (old new : Map Page Step) (parts now : Map Page Part) → ((p : Page) → add_at now p ≡ add_at parts p) → (p : Page) → get page_cmp (shown new now) p ≡ option_map (with_add (add_at parts p)) (get page_cmp new p)
+pub same_seen : (old new : Map Page Step) (parts now : Map Page Part) → ((p : Page) → add_at now p ≡ add_at parts p) → (p : Page) → get page_cmp (with_parts new now) p ≡ option_map (with_add (add_at parts p)) (get page_cmp new p)
 same_seen old new parts now same p = seen_at new now p ∙ ap (λ n. option_map (with_add n) (get page_cmp new p)) (same p)
 
 step_there : (n m : ℕ) (c e : ℕ) → m ≡ n → (c + n) % 2 ^ 64 ≡ (c + m) % 2 ^ 64
@@ -33,11 +33,11 @@ step_there n m c e same = ap (λ k. (c + k) % 2 ^ 64) (sym same)
 -- a step is put at a page
 pub put_seen : (stored new : Map Page Step) (parts now : Map Page Part) (page : Page) (step : Step) (covers add : ℕ) → ((p : Page) → add_at now p ≡ add_at parts p) → add ≡ add_at parts page → (covers + add) % 2 ^ 64 ≡ step.covers
     → ((p : Page) → get page_cmp new p ≡ cond (is_eq (page_cmp page p)) (Some (record { covers = covers; ends = step.ends })) (get page_cmp stored p))
-    → (p : Page) → get page_cmp (shown new now) p ≡ (if same_page page p then Some step else get page_cmp (shown stored parts) p)
+    → (p : Page) → get page_cmp (with_parts new now) p ≡ (if same_page page p then Some step else get page_cmp (with_parts stored parts) p)
 put_seen stored new parts now page step covers add same is sum put p =
     let w : Step = record { covers = covers; ends = step.ends } in
     same_seen stored new parts now same p ∙ ap (option_map (with_add (add_at parts p))) (put p)
-    ∙ elim (is_eq (page_cmp page p)) as (λ b. is_eq (page_cmp page p) ≡ b → option_map (with_add (add_at parts p)) (cond b (Some w) (get page_cmp stored p)) ≡ (if b then Some step else get page_cmp (shown stored parts) p)) [
+    ∙ elim (is_eq (page_cmp page p)) as (λ b. is_eq (page_cmp page p) ≡ b → option_map (with_add (add_at parts p)) (cond b (Some w) (get page_cmp stored p)) ≡ (if b then Some step else get page_cmp (with_parts stored parts) p)) [
       | true ↦ λ b.
           let here : add ≡ add_at parts p = is ∙ ap (λ (q : Page). add_at parts q) (pages_same page p b) in
           ap (λ n. Some (record step { covers = n })) (ap (λ k. (covers + k) % 2 ^ 64) (sym here) ∙ sum)
@@ -47,10 +47,10 @@ put_seen stored new parts now page step covers add same is sum put p =
 -- a step is taken away
 pub taken_seen : (stored new : Map Page Step) (parts now : Map Page Part) (page : Page) → ((p : Page) → IsSome (get page_cmp new p) → add_at now p ≡ add_at parts p)
     → ((p : Page) → get page_cmp new p ≡ cond (is_eq (page_cmp page p)) None (get page_cmp stored p))
-    → (p : Page) → get page_cmp (shown new now) p ≡ (if same_page page p then None else get page_cmp (shown stored parts) p)
+    → (p : Page) → get page_cmp (with_parts new now) p ≡ (if same_page page p then None else get page_cmp (with_parts stored parts) p)
 taken_seen stored new parts now page same taken p =
     seen_at new now p ∙ where_some (add_at now p) (add_at parts p) (get page_cmp new p) (same p) ∙ ap (option_map (with_add (add_at parts p))) (taken p)
-    ∙ elim (is_eq (page_cmp page p)) as (λ b. option_map (with_add (add_at parts p)) (cond b None (get page_cmp stored p)) ≡ (if b then None else get page_cmp (shown stored parts) p)) [
+    ∙ elim (is_eq (page_cmp page p)) as (λ b. option_map (with_add (add_at parts p)) (cond b None (get page_cmp stored p)) ≡ (if b then None else get page_cmp (with_parts stored parts) p)) [
       | true ↦ refl
       | false ↦ sym (seen_at stored parts p)
     ]
@@ -94,7 +94,7 @@ replaced_at m k x p =
 
 pub replaced_seen : (stored new : Map Page Step) (parts : Map Page Part) (page : Page) (step : Step) (covers add : ℕ) → add ≡ add_at parts page → (covers + add) % 2 ^ 64 ≡ step.covers
     → new ≡ replace page_cmp stored page (record { covers = covers; ends = step.ends }) → (p : Page)
-    → get page_cmp (shown new parts) p ≡ option_map (λ there. if same_page page p then step else there) (get page_cmp (shown stored parts) p)
+    → get page_cmp (with_parts new parts) p ≡ option_map (λ there. if same_page page p then step else there) (get page_cmp (with_parts stored parts) p)
 replaced_seen stored new parts page step covers add is sum now p =
     let w : Step = record { covers = covers; ends = step.ends } in
     seen_at new parts p ∙ ap (λ m. option_map (with_add (add_at parts p)) (get page_cmp m p)) now ∙ ap (option_map (with_add (add_at parts p))) (replaced_at stored page w p)
@@ -111,7 +111,7 @@ replaced_seen stored new parts page step covers add is sum now p =
 
 -- ---- the steps as contracts see them
 
-module _ (stored : Map Page Step) (parts : Map Page Part) (view : Map Page Step) (is : shown stored parts ≡ view) where
+module _ (stored : Map Page Step) (parts : Map Page Part) (view : Map Page Step) (is : with_parts stored parts ≡ view) where
   pub view_at : (p : Page) → get page_cmp view p ≡ option_map (with_add (add_at parts p)) (get page_cmp stored p)
   view_at p = ap (λ m. get page_cmp m p) (sym is) ∙ seen_at stored parts p
 

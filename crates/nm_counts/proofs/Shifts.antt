@@ -17,7 +17,7 @@ use Rattle.nm_types.proofs.Maps.{exact_page, page_cmp_total}
 use Rattle.nm_counts.specs.declared.parts.Part.{Part}
 use Rattle.nm_counts.specs.declared.step.Step.{Step}
 use Rattle.nm_counts.specs.Parts.{add_from, add_at}
-use Rattle.nm_counts.specs.Shifted.{raised, shifted, is_within, with_add}
+use Rattle.nm_counts.specs.Shifted.{one_more_or_less, shift_step, is_page_within, with_add}
 use Rattle.nm_counts.proofs.Orders.{le_gt, le_is, before_is}
 
 -- ---- where the last part up to a page begins
@@ -75,52 +75,52 @@ module _ (a p : Page) where
 
 module _ (from to : Page) (up : Bool) where
   abbrev pub moved : Page → Part → Part
-  moved k v = if is_within from to k then record v { add = raised up v.add } else v
+  moved k v = if is_page_within from to k then record v { add = one_more_or_less up v.add } else v
 
-  pub moved_inside : (k : Page) (v : Part) → is_within from to k ≡ true → moved k v ≡ record v { add = raised up v.add }
-  moved_inside k v h = ap (λ b. if b then record v { add = raised up v.add } else v) h
+  pub moved_inside : (k : Page) (v : Part) → is_page_within from to k ≡ true → moved k v ≡ record v { add = one_more_or_less up v.add }
+  moved_inside k v h = ap (λ b. if b then record v { add = one_more_or_less up v.add } else v) h
 
-  pub moved_outside : (k : Page) (v : Part) → is_within from to k ≡ false → moved k v ≡ v
-  moved_outside k v h = ap (λ b. if b then record v { add = raised up v.add } else v) h
+  pub moved_outside : (k : Page) (v : Part) → is_page_within from to k ≡ false → moved k v ≡ v
+  moved_outside k v h = ap (λ b. if b then record v { add = one_more_or_less up v.add } else v) h
 
   abbrev inside : Option Page → Bool
   inside o = is_from from o && not (is_from to o)
 
-  moved_add : (b : Bool) (v : Part) → (if b then record v { add = raised up v.add } else v).add ≡ (if b then raised up v.add else v.add)
+  moved_add : (b : Bool) (v : Part) → (if b then record v { add = one_more_or_less up v.add } else v).add ≡ (if b then one_more_or_less up v.add else v.add)
   moved_add true v = refl
   moved_add false v = refl
 
-  by_last : (p : Page) (o : Option Page) (z w : ℕ) → w ≡ (if inside o then raised up z else z) → (m : Map Page Part)
-      → add_from w (with_values moved m) p ≡ (if inside (last_key o m p) then raised up (add_from z m p) else add_from z m p)
+  by_last : (p : Page) (o : Option Page) (z w : ℕ) → w ≡ (if inside o then one_more_or_less up z else z) → (m : Map Page Part)
+      → add_from w (with_values moved m) p ≡ (if inside (last_key o m p) then one_more_or_less up (add_from z m p) else add_from z m p)
   by_last p o z w is [] = is
   by_last p o z w is (e ∷ m) =
       elim (is_lt (page_cmp p e.0)) as (λ b. add_from (if b then w else (moved e.0 e.1).add) (with_values moved m) p
-      ≡ (if inside (last_key (if b then o else Some e.0) m p) then raised up (add_from (if b then z else e.1.add) m p) else add_from (if b then z else e.1.add) m p)) [
+      ≡ (if inside (last_key (if b then o else Some e.0) m p) then one_more_or_less up (add_from (if b then z else e.1.add) m p) else add_from (if b then z else e.1.add) m p)) [
         | true ↦ by_last p o z w is m
-        | false ↦ by_last p (Some e.0) e.1.add (moved e.0 e.1).add (moved_add (is_within from to e.0) e.1) m
+        | false ↦ by_last p (Some e.0) e.1.add (moved e.0 e.1).add (moved_add (is_page_within from to e.0) e.1) m
       ]
 
   pub parts_moved : (m new : Map Page Part) → IsStrictlySortedBy page_cmp (keys_of m) → IsSome (get page_cmp m from) → IsSome (get page_cmp m to) → new ≡ with_values moved m → (p : Page)
-      → add_at new p ≡ (if is_within from to p then raised up (add_at m p) else add_at m p)
+      → add_at new p ≡ (if is_page_within from to p then one_more_or_less up (add_at m p) else add_at m p)
   parts_moved m new sorted first last now p =
       ap (λ n. add_at n p) now ∙ by_last p None 0 0 refl m
-      ∙ ap (λ b. if b then raised up (add_at m p) else add_at m p) (ap (λ b. b && not (is_from to (last_key None m p))) (last_from from p m sorted first) ∙ ap (λ b. is_le (page_cmp from p) && not b) (last_from to p m sorted last))
+      ∙ ap (λ b. if b then one_more_or_less up (add_at m p) else add_at m p) (ap (λ b. b && not (is_from to (last_key None m p))) (last_from from p m sorted first) ∙ ap (λ b. is_le (page_cmp from p) && not b) (last_from to p m sorted last))
 
   -- the same of steps
   abbrev pub stepped : Page → Step → Step
-  stepped k v = if is_within from to k then shifted up v else v
+  stepped k v = if is_page_within from to k then shift_step up v else v
 
-  pub stepped_inside : (k : Page) (v : Step) → is_within from to k ≡ true → stepped k v ≡ shifted up v
-  stepped_inside k v h = ap (λ b. if b then shifted up v else v) h
+  pub stepped_inside : (k : Page) (v : Step) → is_page_within from to k ≡ true → stepped k v ≡ shift_step up v
+  stepped_inside k v h = ap (λ b. if b then shift_step up v else v) h
 
-  pub stepped_outside : (k : Page) (v : Step) → is_within from to k ≡ false → stepped k v ≡ v
-  stepped_outside k v h = ap (λ b. if b then shifted up v else v) h
+  pub stepped_outside : (k : Page) (v : Step) → is_page_within from to k ≡ false → stepped k v ≡ v
+  stepped_outside k v h = ap (λ b. if b then shift_step up v else v) h
 
 -- ---- numbers
 
-raised_left : (up : Bool) (s n : ℕ) → (raised up s + n) % 2 ^ 64 ≡ raised up ((s + n) % 2 ^ 64)
+raised_left : (up : Bool) (s n : ℕ) → (one_more_or_less up s + n) % 2 ^ 64 ≡ one_more_or_less up ((s + n) % 2 ^ 64)
 raised_left true s n =
-    elim (s == 2 ^ 64 - 1) as (λ b. (s == 2 ^ 64 - 1) ≡ b → ((if b then 0 else s + 1) + n) % 2 ^ 64 ≡ raised true ((s + n) % 2 ^ 64)) [
+    elim (s == 2 ^ 64 - 1) as (λ b. (s == 2 ^ 64 - 1) ≡ b → ((if b then 0 else s + 1) + n) % 2 ^ 64 ≡ one_more_or_less true ((s + n) % 2 ^ 64)) [
       | true ↦ λ b. let h = eqb-true s (2 ^ 64 - 1) b in
           elim ((s + n) % 2 ^ 64 == 2 ^ 64 - 1) as (λ d. ((s + n) % 2 ^ 64 == 2 ^ 64 - 1) ≡ d → (0 + n) % 2 ^ 64 ≡ (if d then 0 else (s + n) % 2 ^ 64 + 1)) [
             | true ↦ λ d. let k = eqb-true ((s + n) % 2 ^ 64) (2 ^ 64 - 1) d in omega (arith, h, k)
@@ -133,7 +133,7 @@ raised_left true s n =
           ] refl
     ] refl
 raised_left false s n =
-    elim (s == 0) as (λ b. (s == 0) ≡ b → ((if b then 2 ^ 64 - 1 else s - 1) + n) % 2 ^ 64 ≡ raised false ((s + n) % 2 ^ 64)) [
+    elim (s == 0) as (λ b. (s == 0) ≡ b → ((if b then 2 ^ 64 - 1 else s - 1) + n) % 2 ^ 64 ≡ one_more_or_less false ((s + n) % 2 ^ 64)) [
       | true ↦ λ b. let h = eqb-true s 0 b in
           elim ((s + n) % 2 ^ 64 == 0) as (λ d. ((s + n) % 2 ^ 64 == 0) ≡ d → ((2 ^ 64 - 1) + n) % 2 ^ 64 ≡ (if d then 2 ^ 64 - 1 else (s + n) % 2 ^ 64 - 1)) [
             | true ↦ λ d. let k = eqb-true ((s + n) % 2 ^ 64) 0 d in omega (arith, h, k)
@@ -152,18 +152,18 @@ turned s n = let same : s + n ≡ n + s = omega arith in ap (λ k. k % 2 ^ 64) s
 abbrev with_covers : Step → ℕ → Step
 with_covers s n = record s { covers = n }
 
-step_first : (up : Bool) (n : ℕ) (s : Step) → with_add n (shifted up s) ≡ shifted up (with_add n s)
+step_first : (up : Bool) (n : ℕ) (s : Step) → with_add n (shift_step up s) ≡ shift_step up (with_add n s)
 step_first up n s = ap (with_covers s) (raised_left up s.covers n)
 
-add_first : (up : Bool) (n : ℕ) (s : Step) → with_add (raised up n) s ≡ shifted up (with_add n s)
-add_first up n s = ap (with_covers s) (turned s.covers (raised up n) ∙ raised_left up n s.covers ∙ ap (raised up) (turned n s.covers))
+add_first : (up : Bool) (n : ℕ) (s : Step) → with_add (one_more_or_less up n) s ≡ shift_step up (with_add n s)
+add_first up n s = ap (with_covers s) (turned s.covers (one_more_or_less up n) ∙ raised_left up n s.covers ∙ ap (one_more_or_less up) (turned n s.covers))
 
 -- ---- the steps before the first whole part, the whole parts, and the steps behind them
 
 abbrev joined : ℕ → Bool → Bool → Bool → Bool → Bool → Step → Step
-joined n up f x y t s = with_add (if x && not y then raised up n else n) (if y && not t then shifted up (if f && not x then shifted up s else s) else (if f && not x then shifted up s else s))
+joined n up f x y t s = with_add (if x && not y then one_more_or_less up n else n) (if y && not t then shift_step up (if f && not x then shift_step up s else s) else (if f && not x then shift_step up s else s))
 
-all_joined : (n : ℕ) (up f x y t : Bool) → (x ≡ true → f ≡ true) → (y ≡ true → x ≡ true) → (t ≡ true → y ≡ true) → (s : Step) → joined n up f x y t s ≡ (if f && not t then shifted up (with_add n s) else with_add n s)
+all_joined : (n : ℕ) (up f x y t : Bool) → (x ≡ true → f ≡ true) → (y ≡ true → x ≡ true) → (t ≡ true → y ≡ true) → (s : Step) → joined n up f x y t s ≡ (if f && not t then shift_step up (with_add n s) else with_add n s)
 all_joined n up false true y t h i j s = absurd (true_false (sym (h refl)))
 all_joined n up false false true t h i j s = absurd (true_false (sym (i refl)))
 all_joined n up false false false true h i j s = absurd (true_false (sym (j refl)))
@@ -177,10 +177,10 @@ all_joined n up true true true false h i j s = step_first up n s
 all_joined n up true true true true h i j s = refl
 
 abbrev if_shifted : Bool → Bool → Step → Step
-if_shifted up b s = if b then shifted up s else s
+if_shifted up b s = if b then shift_step up s else s
 
 pub all_at : (n : ℕ) (up f x y t : Bool) → (x ≡ true → f ≡ true) → (y ≡ true → x ≡ true) → (t ≡ true → y ≡ true) → (o : Option Step)
-    → option_map (with_add (if x && not y then raised up n else n)) (option_map (if_shifted up (y && not t)) (option_map (if_shifted up (f && not x)) o)) ≡ option_map (if_shifted up (f && not t)) (option_map (with_add n) o)
+    → option_map (with_add (if x && not y then one_more_or_less up n else n)) (option_map (if_shifted up (y && not t)) (option_map (if_shifted up (f && not x)) o)) ≡ option_map (if_shifted up (f && not t)) (option_map (with_add n) o)
 all_at n up f x y t h i j None = refl
 all_at n up f x y t h i j (Some s) = ap Some (all_joined n up f x y t h i j s)
 

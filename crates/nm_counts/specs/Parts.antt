@@ -17,5 +17,5 @@ abbrev pub add_at : Map Page Part → Page → ℕ
 add_at parts p = add_from 0 parts p
 
 -- the steps, with what is added to them
-abbrev pub shown : Map Page Step → Map Page Part → Map Page Step
-shown stored parts = with_values (λ p. with_add (add_at parts p)) stored
+abbrev pub with_parts : Map Page Step → Map Page Part → Map Page Step
+with_parts stored parts = with_values (λ p. with_add (add_at parts p)) stored

@@ -8,7 +8,7 @@ ghost use Rattle.std.specs.Ordering.{is_gt, is_lt};
 ghost use Rattle.nm_types.specs.declared.page.Page.{Page};
 ghost use Rattle.nm_types.specs.Map.{get, page_cmp};
 ghost use Rattle.nm_counts.specs.Parts.{add_at};
-ghost use Rattle.nm_counts.specs.Shifted.{is_within, raised};
+ghost use Rattle.nm_counts.specs.Shifted.{is_page_within, one_more_or_less};
 
 use crate::step::{Step, raised};
 use nm_types::Page;
@@ -223,15 +223,15 @@ pub(crate) fn shift_parts<A: Allocator + Copy>(
     requires ordered { IsStrictlySortedBy page_cmp (keys_of parts.old.entries) }
     ensures { (p : Page) →
         add_at parts.new.entries p
-        ≡ (if is_within from to p
-        then raised up (add_at parts.old.entries p)
+        ≡ (if is_page_within from to p
+        then one_more_or_less up (add_at parts.old.entries p)
         else add_at parts.old.entries p) }
 {
     // Each part is changed in place, and none is removed.
     let mut walk = parts.extract_if(
         from..to,
         move |_page: &Page, part: &mut Part| -> bool
-            ensures { (result ≡ false) × (part.new ≡ record part.old { add = raised up part.old.add }) }
+            ensures { (result ≡ false) × (part.new ≡ record part.old { add = one_more_or_less up part.old.add }) }
         {
             let Part { add, steps } = *part;
             *part = Part {

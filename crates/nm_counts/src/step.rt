@@ -1,7 +1,7 @@
 //! One step.
 
 ghost use Rattle.std.specs.Prelude.{◌%◌, ◌+◌, ◌^◌, ◌≡◌};
-ghost use Rattle.nm_counts.specs.Shifted.{raised, shifted, with_add};
+ghost use Rattle.nm_counts.specs.Shifted.{one_more_or_less, shift_step, with_add};
 
 /// The step at a page where an area begins, or that follows the last page of one.
 #[derive(Clone, Copy)]
@@ -14,7 +14,7 @@ pub struct Step {
 
 /// A step with one more area over its page, or one fewer.
 pub(crate) fn shifted(step: Step, up: bool) -> Step
-    ensures { result ≡ shifted up step }
+    ensures { result ≡ shift_step up step }
 {
     Step {
         covers: raised(step.covers, up),
@@ -24,7 +24,7 @@ pub(crate) fn shifted(step: Step, up: bool) -> Step
 
 /// One more, or one less. Wraps around.
 pub(crate) fn raised(number: u64, up: bool) -> u64
-    ensures { result ≡ raised up number }
+    ensures { result ≡ one_more_or_less up number }
 {
     if up {
         number.wrapping_add(1)

@@ -8,7 +8,7 @@ ghost use Rattle.nm_types.specs.declared.page.Page.{Page};
 ghost use Rattle.nm_types.specs.Map.{get, page_cmp, replace, same_page};
 ghost use Rattle.nm_model.specs.definitions.Areas.{page_in};
 ghost use Rattle.nm_counts.specs.declared.step.Step.{Step};
-ghost use Rattle.nm_counts.specs.Shifted.{is_within, shifted, shifted_in};
+ghost use Rattle.nm_counts.specs.Shifted.{is_page_within, shift_step, shifted_in};
 
 use crate::parts::{Part, add_at, count_step, parts_within, shift_parts, uncount_step};
 use crate::step::{Step, lowered, shifted, with_add};
@@ -29,11 +29,11 @@ impl<A: Allocator + Copy> Model for Steps<A> {
     ghost use Rattle.nm_types.specs.declared.page.Page.{Page};
     ghost use Rattle.nm_types.specs.Map.{Map};
     ghost use Rattle.nm_counts.specs.declared.step.Step.{Step};
-    ghost use Rattle.nm_counts.specs.Parts.{shown};
+    ghost use Rattle.nm_counts.specs.Parts.{with_parts};
 
     ghost Value = { Map Page Step };
 
-    ghost view = { λ s. shown s.stored.entries s.parts.entries };
+    ghost view = { λ s. with_parts s.stored.entries s.parts.entries };
 }
 
 impl<A: Allocator + Copy> Steps<A> {
@@ -188,14 +188,14 @@ fn shift_stored<A: Allocator + Copy>(
     requires range { is_gt (page_cmp from to) ≡ false }
     ensures { (p : Page) →
         get page_cmp stored.new.entries p
-        ≡ option_map (λ step. if is_within from to p then shifted up step else step)
+        ≡ option_map (λ step. if is_page_within from to p then shift_step up step else step)
         (get page_cmp stored.old.entries p) }
 {
     // Each step is changed in place, and none is removed.
     let mut walk = stored.extract_if(
         from..to,
         move |_page: &Page, step: &mut Step| -> bool
-            ensures { (result ≡ false) × (step.new ≡ shifted up step.old) }
+            ensures { (result ≡ false) × (step.new ≡ shift_step up step.old) }
         {
             *step = shifted(*step, up);
             false

@@ -7,7 +7,7 @@ use Rattle.nm_types.specs.declared.page.Page.{Page}
 use Rattle.nm_types.specs.Map.{get, page_cmp, with_values}
 use Rattle.nm_types.proofs.Maps.{get-values, exact_page}
 use Rattle.nm_counts.specs.declared.step.Step.{Step}
-use Rattle.nm_counts.specs.Shifted.{is_within, shifted}
+use Rattle.nm_counts.specs.Shifted.{is_page_within, shift_step}
 use Rattle.nm_counts.proofs.Swept.{sweeps}
 use Rattle.nm_counts.proofs.Shifts.{stepped, stepped_inside, stepped_outside}
 use Rattle.nm_counts.proofs.steps.shift_stored.Goals as goal
@@ -19,8 +19,8 @@ returns g c p =
     let steps = c.extract_if-walk.ensures in
     let ran = c.next.ensures.steps in
     let entries = λ (m : BTreeMap Page Step). m.entries in
-    let swept = sweeps _ page_cmp _ (λ (r : Range Page). Excluded r.end) _ _ (is_within a.from a.to) (shifted a.up) change
+    let swept = sweeps _ page_cmp _ (λ (r : Range Page). Excluded r.end) _ _ (is_page_within a.from a.to) (shift_step a.up) change
     (stepped_inside a.from a.to a.up) (stepped_outside a.from a.to a.up) (λ k v b w f t. search rules) (λ q. tt) c.extract_if-walk.result c.next.new.self c.next.result
-    ran steps.holds (steps.rest tt ∙ ap (λ (m : BTreeMap Page Step). filter (λ e. is_within a.from a.to e.0) m.entries) (sym steps.unchanged)) in
+    ran steps.holds (steps.rest tt ∙ ap (λ (m : BTreeMap Page Step). filter (λ e. is_page_within a.from a.to e.0) m.entries) (sym steps.unchanged)) in
     ap (λ m. get page_cmp m p) (ap entries (c.stored-1.given.1 (sym (ran.0 ∙ steps.same_map))) ∙ swept ∙ ap (λ (m : BTreeMap Page Step). with_values change m.entries) steps.unchanged)
     ∙ get-values exact_page change c.args.stored.now.entries p
