@@ -5,7 +5,7 @@ use Rattle.std.proofs.lemmas.Bool.{eqb-true, eqb-false}
 use Rattle.std.proofs.Math.ListN.{set}
 use Rattle.std.specs.List.{swap}
 use Rattle.std.proofs.lemmas.List.Edits.{swap_is}
-use Rattle.nm_rmap.specs.Mappers.{Mappers, Mapper, IsUnused, carried}
+use Rattle.nm_rmap.specs.Mappers.{Mappers, Mapper, IsUnused, carry}
 
 -- writes to two places may be made in either order
 set_apart : {X : Type 0} (xs : List X) (i j : ℕ) (x y : X) → (i ≡ j → ⊥) → set (set xs i x) j y ≡ set (set xs j y) i x
@@ -39,7 +39,7 @@ swapped_at xs ys i j from to is first second = is ∙ ap (λ (k : ℕ). swap xs 
 -- both lists of a map
 pub carried_rows : (mappings : List (List Mapper)) (pins : List ℕ) (m : Mappers) (from to : ℕ) (new_spots : List (List Mapper)) (new_pins : List ℕ)
     → record { mappings = mappings; pins = pins } ≡ m → length pins ≡ length mappings → from < length m.mappings → to < length m.mappings → IsUnused m to
-    → new_spots ≡ swap mappings from to → new_pins ≡ swap pins from to → record { mappings = new_spots; pins = new_pins } ≡ carried m from to
+    → new_spots ≡ swap mappings from to → new_pins ≡ swap pins from to → record { mappings = new_spots; pins = new_pins } ≡ carry m from to
 carried_rows mappings pins m from to new_spots new_pins is as_many from_in to_in unused spots_are pins_are =
     let same_spots : mappings ≡ m.mappings = ap (λ (n : Mappers). n.mappings) is in
     let same_pins : pins ≡ m.pins = ap (λ (n : Mappers). n.pins) is in
@@ -47,4 +47,4 @@ carried_rows mappings pins m from to new_spots new_pins is as_many from_in to_in
     let moved_spots = spots_are ∙ ap (λ (ss : List (List Mapper)). swap ss from to) same_spots ∙ carried_by_swap m.mappings from to [] from_in to_in unused.mappers in
     let moved_pins = pins_are ∙ ap (λ (ns : List ℕ). swap ns from to) same_pins ∙ carried_by_swap m.pins from to 0 (omega arith) (omega arith) unused.pins in
     let made : List (List Mapper) → List ℕ → Mappers = λ ss ns. record { mappings = ss; pins = ns } in
-    ap (λ (ss : List (List Mapper)). made ss new_pins) moved_spots ∙ ap (made (carried m from to).mappings) moved_pins
+    ap (λ (ss : List (List Mapper)). made ss new_pins) moved_spots ∙ ap (made (carry m from to).mappings) moved_pins

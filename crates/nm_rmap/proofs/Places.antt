@@ -5,7 +5,7 @@ use Rattle.std.specs.Prelude.{nat_lt, false}
 use Rattle.std.proofs.lemmas.Bool.{lt-ltb}
 use Rattle.std.proofs.lemmas.List.{get_or_default, set-get_or}
 use Rattle.std.proofs.lemmas.List.Sums.{sum_by-set, count_by-le-length}
-use Rattle.nm_rmap.specs.Mappers.{Mappers, Mapper, is_mapper, mappers_of, with_mappers, frame_pins, with_pins, pinned_count}
+use Rattle.nm_rmap.specs.Mappers.{Mappers, Mapper, is_mapper, mappers_of, with_mappers, frame_pins, with_pin_count, pinned_count}
 
 abbrev both : List (List Mapper) → List ℕ → Mappers
 both mappings pins = record { mappings = mappings; pins = pins }
@@ -28,9 +28,9 @@ module _ (mappings : List (List Mapper)) (pins : List ℕ) (m : Mappers) (is : b
     same_pins = ap (λ (k : ℕ). both mappings (set pins i k)) value ∙ ap (both mappings) (set-get_or pins i now) ∙ is
 
     -- where the new number of pins is stated by the old one
-    pub writes_pins : (f : ℕ → ℕ) → both mappings (set pins i (f now)) ≡ with_pins m frame (f (frame_pins m frame))
+    pub writes_pins : (f : ℕ → ℕ) → both mappings (set pins i (f now)) ≡ with_pin_count m frame (f (frame_pins m frame))
     writes_pins f =
-        ap (λ (k : ℕ). both mappings (set pins k (f now))) at ∙ ap (λ (n : Mappers). with_pins n frame (f now)) is ∙ ap (λ (k : ℕ). with_pins m frame (f k)) (sym reads_pins)
+        ap (λ (k : ℕ). both mappings (set pins k (f now))) at ∙ ap (λ (n : Mappers). with_pin_count n frame (f now)) is ∙ ap (λ (k : ℕ). with_pin_count m frame (f k)) (sym reads_pins)
 
   -- ---- mappers
 

@@ -73,12 +73,12 @@ abbrev pub without_mapper : Mappers → ℕ → Mapper → Mappers
 without_mapper m frame spot = with_mappers m frame (without_spot (mappers_of m frame) spot)
 
 -- the map with another number of pins of a frame
-abbrev pub with_pins : Mappers → ℕ → ℕ → Mappers
-with_pins m frame pins = record { mappings = m.mappings; pins = slice_set m.pins frame pins }
+abbrev pub with_pin_count : Mappers → ℕ → ℕ → Mappers
+with_pin_count m frame pins = record { mappings = m.mappings; pins = slice_set m.pins frame pins }
 
 -- the mappers and pins of one frame go to another, which had none
-abbrev pub carried : Mappers → ℕ → ℕ → Mappers
-carried m from to = with_pins (with_mappers (with_pins (with_mappers m to (mappers_of m from)) to (frame_pins m from)) from []) from 0
+abbrev pub carry : Mappers → ℕ → ℕ → Mappers
+carry m from to = with_pin_count (with_mappers (with_pin_count (with_mappers m to (mappers_of m from)) to (frame_pins m from)) from []) from 0
 
 -- the frame has no mappers and no pins
 pub record IsUnused (m : Mappers) (frame : ℕ) : Type 0 where

@@ -4,7 +4,7 @@ ghost use Rattle.std.specs.Prelude.{◌≡◌, ◌<◌, ◌≤◌, ◌+◌, ◌-
 ghost use Rattle.std.specs.List.Sorted.{IsStrictlySortedBy};
 ghost use Rattle.nm_types.specs.declared.errno.Errno.TheVariants.{Ebusy, Einval};
 ghost use Rattle.nm_types.specs.Map.{spot_cmp};
-ghost use Rattle.nm_rmap.specs.Mappers.{IsUnused, new_map, mappers_of, frame_pins, with_pins, is_mapper, with_mapper, without_mapper, carried, process_count, is_any_pinned};
+ghost use Rattle.nm_rmap.specs.Mappers.{IsUnused, new_map, mappers_of, frame_pins, with_pin_count, is_mapper, with_mapper, without_mapper, carry, process_count, is_any_pinned};
 
 use crate::mappings::Mappings;
 use nm_types::limits::MAX_PINS;
@@ -110,7 +110,7 @@ impl<A: Allocator + Copy> ReverseMap<A> {
         requires from_in_range { from < length self.old.mappings }
         requires to_in_range { to < length self.old.mappings }
         requires unused { IsUnused self.old to }
-        ensures { self.new ≡ carried self.old from to }
+        ensures { self.new ≡ carry self.old from to }
     {
         self.mappings.swap(from.index(), to.index());
         self.pins.swap(from.index(), to.index());
@@ -123,7 +123,7 @@ impl<A: Allocator + Copy> ReverseMap<A> {
         // On success
         ensures room { OnOk result (frame_pins self.old frame < 65535) }
         ensures ok { OnOk result
-            (self.new ≡ with_pins self.old frame (frame_pins self.old frame + 1)) }
+            (self.new ≡ with_pin_count self.old frame (frame_pins self.old frame + 1)) }
 
         // On refusal
         ensures full { IfErr result (λ error. (error ≡ Ebusy) × (65535 ≤ frame_pins self.old frame)) }
@@ -148,7 +148,7 @@ impl<A: Allocator + Copy> ReverseMap<A> {
         // On success
         ensures pinned { OnOk result (0 < frame_pins self.old frame) }
         ensures ok { OnOk result
-            (self.new ≡ with_pins self.old frame (frame_pins self.old frame - 1)) }
+            (self.new ≡ with_pin_count self.old frame (frame_pins self.old frame - 1)) }
 
         // On refusal
         ensures none { IfErr result (λ error. (error ≡ Einval) × (frame_pins self.old frame ≡ 0)) }

@@ -24,7 +24,7 @@ use Rattle.nm_model.specs.definitions.Events.{arrival_of, with_changed, with_ent
 use Rattle.nm_model.specs.definitions.PageTables.{Task, entry_at, entry_in, entry_of, sight_of}
 use Rattle.nm_model.specs.definitions.Seen.{sight_in}
 use Rattle.nm_laws.proofs.InFlight.Values.{values_same, entries_show, changed_at}
-use Rattle.nm_rmap.specs.Mappers.{Mappers, mappers_of, carried}
+use Rattle.nm_rmap.specs.Mappers.{Mappers, mappers_of, carry}
 use Rattle.nm_spaces.specs.views.AddressSpaces.{AddressSpacesView, spaces_view, with_moved}
 use Rattle.nm_spaces.specs.views.Held.{is_taken}
 use Rattle.nm_laws.specs.Midway.{entry_in_flight, hold_entry}
@@ -175,13 +175,13 @@ module _ (tasks : Map ℕ Task) (m : Mapping) (r : Mappers) (p : Page) (from to 
   arrives : with_entries arrival_of (all_replaced tasks (mappers_of r from) (Held to)) ≡ remapped (with_entries arrival_of tasks) (mappers_of r from) to
   arrives = changed_all arrival_of tasks (mappers_of r from) (Held to)
 
-  pub hold_tied : IsTied (with_entries arrival_of (all_replaced tasks (mappers_of r from) (Held to))) (with_frame m p to) (carried r from to)
-  hold_tied = subst (λ (ts : Map ℕ Task). IsTied ts (with_frame m p to) (carried r from to)) (sym arrives) (move_tied (with_entries arrival_of tasks) m r p from to t placed spare)
+  pub hold_tied : IsTied (with_entries arrival_of (all_replaced tasks (mappers_of r from) (Held to))) (with_frame m p to) (carry r from to)
+  hold_tied = subst (λ (ts : Map ℕ Task). IsTied ts (with_frame m p to) (carry r from to)) (sym arrives) (move_tied (with_entries arrival_of tasks) m r p from to t placed spare)
 
-  pub hold_shows : spaces_view (all_replaced tasks (mappers_of r from) (Held to)) (with_frame m p to) (carried r from to) ≡ with_moved (spaces_view tasks m r) p to
+  pub hold_shows : spaces_view (all_replaced tasks (mappers_of r from) (Held to)) (with_frame m p to) (carry r from to) ≡ with_moved (spaces_view tasks m r) p to
   hold_shows =
-      sym (shown_arrived (all_replaced tasks (mappers_of r from) (Held to)) (with_frame m p to) (carried r from to))
-      ∙ ap (λ (ts : Map ℕ Task). spaces_view ts (with_frame m p to) (carried r from to)) arrives
+      sym (shown_arrived (all_replaced tasks (mappers_of r from) (Held to)) (with_frame m p to) (carry r from to))
+      ∙ ap (λ (ts : Map ℕ Task). spaces_view ts (with_frame m p to) (carry r from to)) arrives
       ∙ move_shows (with_entries arrival_of tasks) m r p from to t placed spare
       ∙ ap (λ (y : AddressSpacesView). with_moved y p to) (shown_arrived tasks m r)
 

@@ -14,7 +14,7 @@ use Rattle.nm_types.specs.declared.entry.Entry.{Entry}
 use Rattle.nm_types.specs.declared.entry.Entry.TheVariants.{Zero, Frame, Held}
 use Rattle.nm_model.specs.definitions.Areas.{Mapping}
 use Rattle.nm_model.specs.definitions.Areas.{with_frame}
-use Rattle.nm_rmap.specs.Mappers.{Mappers, mappers_of, frame_pins, carried}
+use Rattle.nm_rmap.specs.Mappers.{Mappers, mappers_of, frame_pins, carry}
 use Rattle.nm_model.specs.definitions.PageTables.{Task, entry_at}
 use Rattle.nm_spaces.specs.views.ProcessTable.{names, remapped}
 use Rattle.nm_spaces.specs.views.AddressSpaces.{AddressSpacesView, spaces_view, pins_in, with_moved}
@@ -104,17 +104,17 @@ module _ (tasks : Map ℕ Task) (m : Mapping) (r : Mappers) (p : Page) (from to 
   pub below : from < length r.mappings
   below = t.in_range p from placed
 
-  mappers_after : (f : ℕ) → mappers_of (carried r from to) f ≡ cond (f == from) [] (cond (f == to) (mappers_of r from) (mappers_of r f))
+  mappers_after : (f : ℕ) → mappers_of (carry r from to) f ≡ cond (f == from) [] (cond (f == to) (mappers_of r from) (mappers_of r f))
   mappers_after f =
       get_or-set (slice_set r.mappings to (mappers_of r from)) from f [] [] (omega (arith, below, length-set r.mappings to (mappers_of r from)))
       ∙ ap (cond (f == from) []) (get_or-set r.mappings to f (mappers_of r from) [] spare.frame)
 
-  pins_after : (f : ℕ) → frame_pins (carried r from to) f ≡ cond (f == from) 0 (cond (f == to) (frame_pins r from) (frame_pins r f))
+  pins_after : (f : ℕ) → frame_pins (carry r from to) f ≡ cond (f == from) 0 (cond (f == to) (frame_pins r from) (frame_pins r f))
   pins_after f =
       get_or-set (slice_set r.pins to (frame_pins r from)) from f 0 0 (omega (arith, below, t.as_many, length-set r.pins to (frame_pins r from)))
       ∙ ap (cond (f == from) 0) (get_or-set r.pins to f (frame_pins r from) 0 (omega (arith, spare.frame, t.as_many)))
 
-  mapped_after : (f pid v : ℕ) → has_spot (mappers_of (carried r from to) f) (pid, v) ≡ names f (entry_at (remapped tasks (mappers_of r from) to) pid v)
+  mapped_after : (f pid v : ℕ) → has_spot (mappers_of (carry r from to) f) (pid, v) ≡ names f (entry_at (remapped tasks (mappers_of r from) to) pid v)
   mapped_after f pid v =
       let o = entry_at tasks pid v in
       ap (λ l. has_spot l (pid, v)) (mappers_after f)
@@ -141,7 +141,7 @@ module _ (tasks : Map ℕ Task) (m : Mapping) (r : Mappers) (p : Page) (from to 
         | inr a ↦ elim (place_after m.place p s to f k) as (λ _. q ≡ s) [ inl b ↦ absurd (spare.place q (a.1 ∙ ap Some b.1)) | inr b ↦ t.apart q s f a.1 b.1 ]
       ]
 
-  pinned_after : (f : ℕ) → ((q : Page) → get page_cmp (set page_cmp m.place p to) q ≡ Some f → ⊥) → frame_pins (carried r from to) f ≡ 0
+  pinned_after : (f : ℕ) → ((q : Page) → get page_cmp (set page_cmp m.place p to) q ≡ Some f → ⊥) → frame_pins (carry r from to) f ≡ 0
   pinned_after f h =
       pins_after f
       ∙ elim (f == from) as (λ b. (f == from) ≡ b → cond b 0 (cond (f == to) (frame_pins r from) (frame_pins r f)) ≡ 0) [
@@ -152,10 +152,10 @@ module _ (tasks : Map ℕ Task) (m : Mapping) (r : Mappers) (p : Page) (from to 
         ] refl
       ] refl
 
-  frames_after : length (carried r from to).mappings ≡ length r.mappings
+  frames_after : length (carry r from to).mappings ≡ length r.mappings
   frames_after = length-set (slice_set r.mappings to (mappers_of r from)) from [] ∙ length-set r.mappings to (mappers_of r from)
 
-  in_range_after : (q : Page) (f : ℕ) → get page_cmp (set page_cmp m.place p to) q ≡ Some f → f < length (carried r from to).mappings
+  in_range_after : (q : Page) (f : ℕ) → get page_cmp (set page_cmp m.place p to) q ≡ Some f → f < length (carry r from to).mappings
   in_range_after q f h =
       subst (λ n. f < n) (sym frames_after)
       (elim (place_after m.place p q to f h) as (λ _. f < length r.mappings) [
@@ -171,7 +171,7 @@ module _ (tasks : Map ℕ Task) (m : Mapping) (r : Mappers) (p : Page) (from to 
       ] (sym (entry_after pid v) ∙ h)
 
   -- they stay tied
-  pub move_tied : IsTied (remapped tasks (mappers_of r from) to) (with_frame m p to) (carried r from to)
+  pub move_tied : IsTied (remapped tasks (mappers_of r from) to) (with_frame m p to) (carry r from to)
   move_tied = record {
     pids = subst (λ ks. IsStrictlySortedBy nat_cmp ks) (sym (keys-remapped tasks (mappers_of r from) to)) t.pids;
     tables = order-remapped tasks (mappers_of r from) to t.tables;
@@ -185,17 +185,17 @@ module _ (tasks : Map ℕ Task) (m : Mapping) (r : Mappers) (p : Page) (from to 
     settled = settled_after;
   }
 
-  pins_move : pins_in (carried r from to) (set page_cmp m.place p to) ≡ pins_in r m.place
+  pins_move : pins_in (carry r from to) (set page_cmp m.place p to) ≡ pins_in r m.place
   pins_move =
       let pins = slice_set r.pins to (frame_pins r from) in
-      with_values-moved page_cmp_total exact_page (frame_pins (carried r from to)) (frame_pins r) m.place p from to t.places placed
+      with_values-moved page_cmp_total exact_page (frame_pins (carry r from to)) (frame_pins r) m.place p from to t.places placed
       (get_or-set_other pins from to 0 0 (λ e. frames_apart (sym e)) ∙ get_or-set_same r.pins to _ 0 (omega (arith, spare.frame, t.as_many)))
       (λ q f found apart.
       get_or-set_other pins from f 0 0 (λ e. both_ways _ apart (ap is_eq (ap (λ r. page_cmp r p) (t.apart q p from (found ∙ ap Some e) placed) ∙ tied_itself page_cmp_total p)))
       ∙ get_or-set_other r.pins to f _ 0 (λ e. spare.place q (found ∙ ap Some e)))
 
   -- what is seen and how often pages are pinned stays
-  pub move_shows : spaces_view (remapped tasks (mappers_of r from) to) (with_frame m p to) (carried r from to) ≡ with_moved (spaces_view tasks m r) p to
+  pub move_shows : spaces_view (remapped tasks (mappers_of r from) to) (with_frame m p to) (carry r from to) ≡ with_moved (spaces_view tasks m r) p to
   move_shows = λ i. record {
     processes = remapped_shows m.areas tasks (mappers_of r from) to (mappers_mapped tasks (mappers_of r from) from (t.mappers from)) i;
     areas = m.areas;

@@ -10,7 +10,7 @@ use Rattle.std.proofs.lemmas.List.{get_or-set_same, get_or-set_other}
 use Rattle.nm_types.specs.declared.page.Page.{Page}
 use Rattle.nm_types.specs.Map.{Map, get, set, replace, with_values, page_cmp}
 use Rattle.nm_model.specs.definitions.Areas.{Mapping}
-use Rattle.nm_rmap.specs.Mappers.{Mappers, frame_pins, with_pins}
+use Rattle.nm_rmap.specs.Mappers.{Mappers, frame_pins, with_pin_count}
 use Rattle.nm_model.specs.definitions.PageTables.{Task}
 use Rattle.nm_spaces.specs.views.AddressSpaces.{AddressSpacesView, spaces_view, pins_in, pins_here, with_pins_of}
 use Rattle.nm_spaces.specs.definitions.Tied.{IsTied}
@@ -27,7 +27,7 @@ module _ (tasks : Map ℕ Task) (m : Mapping) (r : Mappers) (p : Page) (f n : �
   in_pins = omega (arith, h.in_range p f placed, h.as_many)
 
   -- they stay tied
-  pub pins_tied : IsTied tasks m (with_pins r f n)
+  pub pins_tied : IsTied tasks m (with_pin_count r f n)
   pins_tied = record {
     pids = h.pids;
     tables = h.tables;
@@ -41,9 +41,9 @@ module _ (tasks : Map ℕ Task) (m : Mapping) (r : Mappers) (p : Page) (f n : �
     settled = h.settled;
   }
 
-  pins_replaced : pins_in (with_pins r f n) m.place ≡ replace page_cmp (pins_in r m.place) p n
+  pins_replaced : pins_in (with_pin_count r f n) m.place ≡ replace page_cmp (pins_in r m.place) p n
   pins_replaced =
-      let F : Page → ℕ → ℕ = λ q g. frame_pins (with_pins r f n) g in
+      let F : Page → ℕ → ℕ = λ q g. frame_pins (with_pin_count r f n) g in
       let G : Page → ℕ → ℕ = λ q g. frame_pins r g in
       ap (with_values F) (sym (set_same page_cmp_total exact_page m.place p f h.places placed))
       ∙ with_values-set exact_page F m.place p f
@@ -53,5 +53,5 @@ module _ (tasks : Map ℕ Task) (m : Mapping) (r : Mappers) (p : Page) (f n : �
       ∙ sym (replace_is_set page_cmp_total exact_page (with_values G m.place) p n (subst (IsStrictlySortedBy page_cmp) (sym (keys-values G m.place)) h.places)
       (subst IsSome (sym (get-values exact_page G m.place p ∙ ap (option_map (frame_pins r)) placed)) refl))
 
-  pub pins_shows : spaces_view tasks m (with_pins r f n) ≡ with_pins_of (spaces_view tasks m r) p n
+  pub pins_shows : spaces_view tasks m (with_pin_count r f n) ≡ with_pins_of (spaces_view tasks m r) p n
   pins_shows = ap (λ pins. record (spaces_view tasks m r) { pins = pins }) pins_replaced

@@ -10,7 +10,7 @@ use Rattle.nm_types.proofs.Maps.{page_cmp_total, exact_page, replace_is_set}
 use Rattle.nm_model.specs.definitions.Areas.{Mapping, with_frame}
 use Rattle.nm_model.specs.definitions.Events.{arrival_of, with_entries}
 use Rattle.nm_model.specs.definitions.PageTables.{Task, entry_at}
-use Rattle.nm_rmap.specs.Mappers.{Mappers, mappers_of, carried}
+use Rattle.nm_rmap.specs.Mappers.{Mappers, mappers_of, carry}
 use Rattle.nm_laws.specs.Midway.{entry_in_flight}
 use Rattle.nm_model.specs.definitions.Seen.{sight_in}
 use Rattle.nm_spaces.specs.views.AddressSpaces.{AddressSpacesView, spaces_view, with_moved}
@@ -56,8 +56,8 @@ invariant_of-self g c =
     let placed = placed_in c.args.self.now.spaces x.tasks x.areas x.rmap c.args.page c.args.from is c.requires.placed in
     let spare = spare_in c.args.self.now.spaces x.tasks x.areas x.rmap c.args.to is c.requires.frame c.requires.spare in
     subst (λ (r : Mappers). IsTied (with_entries arrival_of c.replace_each.new.tasks) c.move_page.new.self r) (sym c.carry.ensures)
-    (subst (λ (m : Mapping). IsTied (with_entries arrival_of c.replace_each.new.tasks) m (carried x.rmap c.args.from c.args.to)) (sym (areas_after g c))
-    (subst (λ (ts : Map ℕ Task). IsTied (with_entries arrival_of ts) (with_frame x.areas c.args.page c.args.to) (carried x.rmap c.args.from c.args.to)) (sym (tasks_after g c))
+    (subst (λ (m : Mapping). IsTied (with_entries arrival_of c.replace_each.new.tasks) m (carry x.rmap c.args.from c.args.to)) (sym (areas_after g c))
+    (subst (λ (ts : Map ℕ Task). IsTied (with_entries arrival_of ts) (with_frame x.areas c.args.page c.args.to) (carry x.rmap c.args.from c.args.to)) (sym (tasks_after g c))
     (hold_tied x.tasks x.areas x.rmap c.args.page c.args.from c.args.to (held_tied c.deref_mut-parts.ensures.value c.self.invariant) placed spare)))
 
 pub returns-clause-spaces : goal.returns-clause-spaces
