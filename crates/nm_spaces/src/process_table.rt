@@ -8,7 +8,7 @@ ghost use Rattle.indexmap.specs.IndexMap.{values};
 ghost use Rattle.std.specs.Ordering.{nat_cmp};
 ghost use Rattle.nm_types.specs.Map.{get, set, replace, without};
 ghost use Rattle.nm_model.specs.definitions.PageTables.{Task};
-ghost use Rattle.nm_spaces.specs.views.ProcessTable.{new_task, task_info, task_table, entries_in, IsThere, without_entry, replaced};
+ghost use Rattle.nm_spaces.specs.views.ProcessTable.{new_task, task_info, task_table, entries_in, IsThere, without_entry, put_entry};
 ghost use Rattle.nm_model.specs.definitions.PageTables.{entry_at, with_entry};
 ghost use Rattle.nm_model.specs.definitions.Seen.{between};
 
@@ -162,7 +162,7 @@ impl<A: Allocator + Copy> ProcessTable<A> {
     /// Replaces the entry at a page number of a process that has one. Does not allocate.
     pub(crate) fn replace(&mut self, pid: Pid, vpn: Vpn, entry: Entry)
         requires { IsThere self.old (pid, vpn) }
-        ensures { self.new ≡ replaced self.old entry (pid, vpn) }
+        ensures { self.new ≡ put_entry self.old entry (pid, vpn) }
     {
         let Some(place) = place_of(&self.tasks, self.next, pid) else {
             unreachable!()

@@ -29,7 +29,7 @@ use Rattle.nm_spaces.specs.views.AddressSpaces.{AddressSpacesView, spaces_view, 
 use Rattle.nm_spaces.specs.views.Held.{is_taken}
 use Rattle.nm_laws.specs.Midway.{entry_in_flight, hold_entry}
 use Rattle.nm_spaces.specs.definitions.Moves.{CanRemap, all_moved}
-use Rattle.nm_spaces.specs.views.ProcessTable.{names, IsThere, with_other_entry, replaced, replaced_in, all_replaced, remapped}
+use Rattle.nm_spaces.specs.views.ProcessTable.{names, IsThere, with_other_entry, put_entry, replaced_in, all_replaced, with_frame_at_all}
 use Rattle.nm_spaces.specs.definitions.Tied.{IsTied, AreInOrder, has_spot}
 use Rattle.nm_spaces.proofs.Tied.Beginnings.{entry_again, seen_here}
 use Rattle.nm_spaces.proofs.Moves.OnePage.{IsSpare, frame_held, move_tied, move_shows}
@@ -44,21 +44,21 @@ changed_replaced c tasks p v e (Some t) =
     with_values-replace exact_unsigned (λ pid. with_changed c) tasks p (with_other_entry t v e)
     ∙ ap (λ (table : Map ℕ Entry). replace nat_cmp (with_entries c tasks) p (record t { table = table })) (with_values-replace exact_unsigned (λ v e. c e) t.table v e)
 
-changed_one : (c : Entry → Entry) (tasks : Map ℕ Task) (e : Entry) (s : ℕ × ℕ) → with_entries c (replaced tasks e s) ≡ replaced (with_entries c tasks) (c e) s
+changed_one : (c : Entry → Entry) (tasks : Map ℕ Task) (e : Entry) (s : ℕ × ℕ) → with_entries c (put_entry tasks e s) ≡ put_entry (with_entries c tasks) (c e) s
 changed_one c tasks e s =
     changed_replaced c tasks s.0 s.1 e (get nat_cmp tasks s.0)
     ∙ ap (λ (o : Option Task). replaced_in (with_entries c tasks) o s.0 s.1 (c e)) (sym (get-values exact_unsigned (λ pid. with_changed c) tasks s.0))
 
 changed_all : (c : Entry → Entry) (tasks : Map ℕ Task) (l : List (ℕ × ℕ)) (e : Entry) → with_entries c (all_replaced tasks l e) ≡ all_replaced (with_entries c tasks) l (c e)
 changed_all c tasks [] e = refl
-changed_all c tasks (s ∷ l) e = changed_all c (replaced tasks e s) l e ∙ ap (λ (ts : Map ℕ Task). all_replaced ts l (c e)) (changed_one c tasks e s)
+changed_all c tasks (s ∷ l) e = changed_all c (put_entry tasks e s) l e ∙ ap (λ (ts : Map ℕ Task). all_replaced ts l (c e)) (changed_one c tasks e s)
 
 -- what is found after other entries
 entry_at-all_replaced : (tasks : Map ℕ Task) (l : List (ℕ × ℕ)) (e : Entry) (q : ℕ × ℕ) → AllByRecursion (IsThere tasks) l
     → entry_at (all_replaced tasks l e) q.0 q.1 ≡ cond (has_spot l q) (Some e) (entry_at tasks q.0 q.1)
 entry_at-all_replaced tasks [] e q h = refl
 entry_at-all_replaced tasks (s ∷ l) e q h =
-    entry_at-all_replaced (replaced tasks e s) l e q (all_there_stay tasks e s l h.0 h.1)
+    entry_at-all_replaced (put_entry tasks e s) l e q (all_there_stay tasks e s l h.0 h.1)
     ∙ ap (cond (has_spot l q) (Some e)) (entry_at-replaced tasks e s q h.0)
     ∙ elim (same_spot q s) as (λ a. cond (has_spot l q) (Some e) (cond a (Some e) (entry_at tasks q.0 q.1)) ≡ cond (a || has_spot l q) (Some e) (entry_at tasks q.0 q.1)) [
       | true ↦ elim (has_spot l q) as (λ b. cond b (Some e) (Some e) ≡ Some e) [ true ↦ refl | false ↦ refl ]
@@ -172,7 +172,7 @@ module _ (tasks : Map ℕ Task) (l : List (ℕ × ℕ)) (f : ℕ) (named : (pid 
       ] refl (sym (entry_at-all_replaced tasks l (Frame f) (pid, v) named_there) ∙ h)
 
 module _ (tasks : Map ℕ Task) (m : Mapping) (r : Mappers) (p : Page) (from to : ℕ) (t : IsTied (with_entries arrival_of tasks) m r) (placed : get page_cmp m.place p ≡ Some from) (spare : IsSpare m r to) where
-  arrives : with_entries arrival_of (all_replaced tasks (mappers_of r from) (Held to)) ≡ remapped (with_entries arrival_of tasks) (mappers_of r from) to
+  arrives : with_entries arrival_of (all_replaced tasks (mappers_of r from) (Held to)) ≡ with_frame_at_all (with_entries arrival_of tasks) (mappers_of r from) to
   arrives = changed_all arrival_of tasks (mappers_of r from) (Held to)
 
   pub hold_tied : IsTied (with_entries arrival_of (all_replaced tasks (mappers_of r from) (Held to))) (with_frame m p to) (carry r from to)

@@ -14,7 +14,7 @@ use Rattle.nm_types.specs.Map.{Map, get, replace, with_values, spot_cmp}
 use Rattle.nm_types.specs.declared.entry.Entry.{Entry}
 use Rattle.nm_types.specs.declared.entry.Entry.TheVariants.{Zero, Frame, Held}
 use Rattle.nm_model.specs.definitions.PageTables.{Task, entry_at, entry_in}
-use Rattle.nm_spaces.specs.views.ProcessTable.{names, IsThere, with_other_entry, replaced, replaced_in, remapped}
+use Rattle.nm_spaces.specs.views.ProcessTable.{names, IsThere, with_other_entry, put_entry, replaced_in, with_frame_at_all}
 use Rattle.nm_model.specs.definitions.PageTables.{process_of, sight_of}
 use Rattle.nm_spaces.specs.definitions.Tied.{has_spot}
 use Rattle.nm_types.proofs.Maps.{equal, spot_cmp_total, with_values-replace_alike, get-replace}
@@ -57,7 +57,7 @@ replaced_in_shows areas tasks pid v to (Some t) e h =
 
 -- an entry that names another frame shows what it showed
 pub replaced_shows : (areas : Map (ℕ × ℕ) Area) (tasks : Map ℕ Task) (q : ℕ × ℕ) (to : ℕ) → is_mapped (entry_at tasks q.0 q.1) ≡ true
-    → with_values (process_of areas) (replaced tasks (Frame to) q) ≡ with_values (process_of areas) tasks
+    → with_values (process_of areas) (put_entry tasks (Frame to) q) ≡ with_values (process_of areas) tasks
 replaced_shows areas tasks q to h = replaced_in_shows areas tasks q.0 q.1 to (get nat_cmp tasks q.0) refl h
 
 in_replaced : (tasks : Map ℕ Task) (e : Entry) (p v : ℕ) (o : Option Task) (q w : ℕ) → get nat_cmp tasks p ≡ o → IsSome (entry_in o v)
@@ -74,16 +74,16 @@ in_replaced tasks e p v (Some t) q w g h =
 
 -- what is found after another entry is put where there is one
 pub entry_at-replaced : (tasks : Map ℕ Task) (e : Entry) (s q : ℕ × ℕ) → IsThere tasks s
-    → entry_at (replaced tasks e s) q.0 q.1 ≡ cond (same_spot q s) (Some e) (entry_at tasks q.0 q.1)
+    → entry_at (put_entry tasks e s) q.0 q.1 ≡ cond (same_spot q s) (Some e) (entry_at tasks q.0 q.1)
 entry_at-replaced tasks e s q h =
     in_replaced tasks e s.0 s.1 (get nat_cmp tasks s.0) q.0 q.1 refl h
     ∙ ap (λ b. cond b (Some e) (entry_at tasks q.0 q.1)) (tied_then (nat_cmp s.0 q.0) (nat_cmp s.1 q.1) ∙ flip_spot s q)
 
-there_stays : (tasks : Map ℕ Task) (e : Entry) (s q : ℕ × ℕ) → IsThere tasks s → IsThere tasks q → IsThere (replaced tasks e s) q
+there_stays : (tasks : Map ℕ Task) (e : Entry) (s q : ℕ × ℕ) → IsThere tasks s → IsThere tasks q → IsThere (put_entry tasks e s) q
 there_stays tasks e s q h k = subst IsSome (sym (entry_at-replaced tasks e s q h)) (elim (same_spot q s) as (λ b. IsSome (cond b (Some e) (entry_at tasks q.0 q.1))) [ true ↦ refl | false ↦ k ])
 
 -- entries that are there stay there
-pub all_there_stay : (tasks : Map ℕ Task) (e : Entry) (s : ℕ × ℕ) (mappings : List (ℕ × ℕ)) → IsThere tasks s → AllByRecursion (IsThere tasks) mappings → AllByRecursion (IsThere (replaced tasks e s)) mappings
+pub all_there_stay : (tasks : Map ℕ Task) (e : Entry) (s : ℕ × ℕ) (mappings : List (ℕ × ℕ)) → IsThere tasks s → AllByRecursion (IsThere tasks) mappings → AllByRecursion (IsThere (put_entry tasks e s)) mappings
 all_there_stay tasks e s [] h k = tt
 all_there_stay tasks e s (q ∷ mappings) h k = (there_stays tasks e s q h k.0, all_there_stay tasks e s mappings h k.1)
 
@@ -91,25 +91,25 @@ all_there_stay tasks e s (q ∷ mappings) h k = (there_stays tasks e s q h k.0, 
 abbrev pub AllMapped : Map ℕ Task → List (ℕ × ℕ) → Type 0
 AllMapped tasks mappings = AllByRecursion (λ q. is_mapped (entry_at tasks q.0 q.1) ≡ true) mappings
 
-mapped_stays : (tasks : Map ℕ Task) (s q : ℕ × ℕ) (to : ℕ) → is_mapped (entry_at tasks s.0 s.1) ≡ true → is_mapped (entry_at tasks q.0 q.1) ≡ true → is_mapped (entry_at (replaced tasks (Frame to) s) q.0 q.1) ≡ true
+mapped_stays : (tasks : Map ℕ Task) (s q : ℕ × ℕ) (to : ℕ) → is_mapped (entry_at tasks s.0 s.1) ≡ true → is_mapped (entry_at tasks q.0 q.1) ≡ true → is_mapped (entry_at (put_entry tasks (Frame to) s) q.0 q.1) ≡ true
 mapped_stays tasks s q to h k =
     ap is_mapped (entry_at-replaced tasks (Frame to) s q (there _ h)) ∙ elim (same_spot q s) as (λ b. is_mapped (cond b (Some (Frame to)) (entry_at tasks q.0 q.1)) ≡ true) [ true ↦ refl | false ↦ k ]
 
-all_stay : (tasks : Map ℕ Task) (s : ℕ × ℕ) (to : ℕ) (mappings : List (ℕ × ℕ)) → is_mapped (entry_at tasks s.0 s.1) ≡ true → AllMapped tasks mappings → AllMapped (replaced tasks (Frame to) s) mappings
+all_stay : (tasks : Map ℕ Task) (s : ℕ × ℕ) (to : ℕ) (mappings : List (ℕ × ℕ)) → is_mapped (entry_at tasks s.0 s.1) ≡ true → AllMapped tasks mappings → AllMapped (put_entry tasks (Frame to) s) mappings
 all_stay tasks s to [] h k = tt
 all_stay tasks s to (q ∷ mappings) h k = (mapped_stays tasks s q to h k.0, all_stay tasks s to mappings h k.1)
 
 -- what processes see stays
-pub remapped_shows : (areas : Map (ℕ × ℕ) Area) (tasks : Map ℕ Task) (mappings : List (ℕ × ℕ)) (to : ℕ) → AllMapped tasks mappings → with_values (process_of areas) (remapped tasks mappings to) ≡ with_values (process_of areas) tasks
+pub remapped_shows : (areas : Map (ℕ × ℕ) Area) (tasks : Map ℕ Task) (mappings : List (ℕ × ℕ)) (to : ℕ) → AllMapped tasks mappings → with_values (process_of areas) (with_frame_at_all tasks mappings to) ≡ with_values (process_of areas) tasks
 remapped_shows areas tasks [] to h = refl
-remapped_shows areas tasks (s ∷ mappings) to h = remapped_shows areas (replaced tasks (Frame to) s) mappings to (all_stay tasks s to mappings h.0 h.1) ∙ replaced_shows areas tasks s to h.0
+remapped_shows areas tasks (s ∷ mappings) to h = remapped_shows areas (put_entry tasks (Frame to) s) mappings to (all_stay tasks s to mappings h.0 h.1) ∙ replaced_shows areas tasks s to h.0
 
 -- what is found after the entries at some places name another frame
 pub entry_at-remapped : (tasks : Map ℕ Task) (mappings : List (ℕ × ℕ)) (to : ℕ) (q : ℕ × ℕ) → AllMapped tasks mappings
-    → entry_at (remapped tasks mappings to) q.0 q.1 ≡ cond (has_spot mappings q) (Some (Frame to)) (entry_at tasks q.0 q.1)
+    → entry_at (with_frame_at_all tasks mappings to) q.0 q.1 ≡ cond (has_spot mappings q) (Some (Frame to)) (entry_at tasks q.0 q.1)
 entry_at-remapped tasks [] to q h = refl
 entry_at-remapped tasks (s ∷ mappings) to q h =
-    entry_at-remapped (replaced tasks (Frame to) s) mappings to q (all_stay tasks s to mappings h.0 h.1)
+    entry_at-remapped (put_entry tasks (Frame to) s) mappings to q (all_stay tasks s to mappings h.0 h.1)
     ∙ ap (cond (has_spot mappings q) (Some (Frame to))) (entry_at-replaced tasks (Frame to) s q (there _ h.0))
     ∙ elim (same_spot q s) as (λ a. cond (has_spot mappings q) (Some (Frame to)) (cond a (Some (Frame to)) (entry_at tasks q.0 q.1)) ≡ cond (a || has_spot mappings q) (Some (Frame to)) (entry_at tasks q.0 q.1)) [
       | true ↦ elim (has_spot mappings q) as (λ b. cond b (Some (Frame to)) (Some (Frame to)) ≡ Some (Frame to)) [ true ↦ refl | false ↦ refl ]
@@ -140,9 +140,9 @@ keys-replaced_in : (tasks : Map ℕ Task) (o : Option Task) (p v : ℕ) (e : Ent
 keys-replaced_in tasks None p v e = refl
 keys-replaced_in tasks (Some t) p v e = keys-replace nat_cmp tasks p (with_other_entry t v e)
 
-pub keys-remapped : (tasks : Map ℕ Task) (mappings : List (ℕ × ℕ)) (to : ℕ) → keys_of (remapped tasks mappings to) ≡ keys_of tasks
+pub keys-remapped : (tasks : Map ℕ Task) (mappings : List (ℕ × ℕ)) (to : ℕ) → keys_of (with_frame_at_all tasks mappings to) ≡ keys_of tasks
 keys-remapped tasks [] to = refl
-keys-remapped tasks (s ∷ mappings) to = keys-remapped (replaced tasks (Frame to) s) mappings to ∙ keys-replaced_in tasks (get nat_cmp tasks s.0) s.0 s.1 (Frame to)
+keys-remapped tasks (s ∷ mappings) to = keys-remapped (put_entry tasks (Frame to) s) mappings to ∙ keys-replaced_in tasks (get nat_cmp tasks s.0) s.0 s.1 (Frame to)
 
 -- every table has its page numbers in order
 abbrev pub TablesInOrder : Map ℕ Task → Type 0
@@ -157,7 +157,7 @@ order-replaced_in tasks (Some t) p v e g h =
     All-replace nat_cmp TableInOrder tasks p (with_other_entry t v e) h
     (subst (IsStrictlySortedBy nat_cmp) (sym (keys-replace nat_cmp t.table v e)) (All-get nat_cmp TableInOrder tasks p t h g))
 
-pub order-remapped : (tasks : Map ℕ Task) (mappings : List (ℕ × ℕ)) (to : ℕ) → TablesInOrder tasks → TablesInOrder (remapped tasks mappings to)
+pub order-remapped : (tasks : Map ℕ Task) (mappings : List (ℕ × ℕ)) (to : ℕ) → TablesInOrder tasks → TablesInOrder (with_frame_at_all tasks mappings to)
 order-remapped tasks [] to h = h
 order-remapped tasks (s ∷ mappings) to h =
-    order-remapped (replaced tasks (Frame to) s) mappings to (order-replaced_in tasks (get nat_cmp tasks s.0) s.0 s.1 (Frame to) refl h)
+    order-remapped (put_entry tasks (Frame to) s) mappings to (order-replaced_in tasks (get nat_cmp tasks s.0) s.0 s.1 (Frame to) refl h)

@@ -16,7 +16,7 @@ use Rattle.nm_model.specs.definitions.Areas.{Mapping}
 use Rattle.nm_model.specs.definitions.Areas.{with_frame}
 use Rattle.nm_rmap.specs.Mappers.{Mappers, mappers_of, frame_pins, carry}
 use Rattle.nm_model.specs.definitions.PageTables.{Task, entry_at}
-use Rattle.nm_spaces.specs.views.ProcessTable.{names, remapped}
+use Rattle.nm_spaces.specs.views.ProcessTable.{names, with_frame_at_all}
 use Rattle.nm_spaces.specs.views.AddressSpaces.{AddressSpacesView, spaces_view, pins_in, with_moved}
 use Rattle.nm_spaces.specs.definitions.Tied.{IsTied, has_spot}
 use Rattle.nm_types.proofs.Maps.{equal, get-set, page_cmp_total, exact_page, spot_cmp_total, with_values-moved, keys-set}
@@ -96,7 +96,7 @@ module _ (tasks : Map ℕ Task) (m : Mapping) (r : Mappers) (p : Page) (from to 
   pub frames_apart : from ≡ to → ⊥
   frames_apart e = spare.place p (placed ∙ ap Some e)
 
-  entry_after : (pid v : ℕ) → entry_at (remapped tasks (mappers_of r from) to) pid v ≡ cond (names from (entry_at tasks pid v)) (Some (Frame to)) (entry_at tasks pid v)
+  entry_after : (pid v : ℕ) → entry_at (with_frame_at_all tasks (mappers_of r from) to) pid v ≡ cond (names from (entry_at tasks pid v)) (Some (Frame to)) (entry_at tasks pid v)
   entry_after pid v =
       entry_at-remapped tasks (mappers_of r from) to (pid, v) (mappers_mapped tasks (mappers_of r from) from (t.mappers from))
       ∙ ap (λ b. cond b (Some (Frame to)) (entry_at tasks pid v)) (t.mappers from pid v)
@@ -114,7 +114,7 @@ module _ (tasks : Map ℕ Task) (m : Mapping) (r : Mappers) (p : Page) (from to 
       get_or-set (slice_set r.pins to (frame_pins r from)) from f 0 0 (omega (arith, below, t.as_many, length-set r.pins to (frame_pins r from)))
       ∙ ap (cond (f == from) 0) (get_or-set r.pins to f (frame_pins r from) 0 (omega (arith, spare.frame, t.as_many)))
 
-  mapped_after : (f pid v : ℕ) → has_spot (mappers_of (carry r from to) f) (pid, v) ≡ names f (entry_at (remapped tasks (mappers_of r from) to) pid v)
+  mapped_after : (f pid v : ℕ) → has_spot (mappers_of (carry r from to) f) (pid, v) ≡ names f (entry_at (with_frame_at_all tasks (mappers_of r from) to) pid v)
   mapped_after f pid v =
       let o = entry_at tasks pid v in
       ap (λ l. has_spot l (pid, v)) (mappers_after f)
@@ -124,7 +124,7 @@ module _ (tasks : Map ℕ Task) (m : Mapping) (r : Mappers) (p : Page) (from to 
       ]
       ∙ sym (ap (names f) (entry_after pid v) ∙ names_after f from to o (λ e. frames_apart (sym e)) (spare_unnamed tasks m r to t spare pid v))
 
-  shown_after : (f pid v : ℕ) → names f (entry_at (remapped tasks (mappers_of r from) to) pid v) ≡ true → (q : Page) × (page_at m.areas pid v ≡ Some q) × (get page_cmp (set page_cmp m.place p to) q ≡ Some f)
+  shown_after : (f pid v : ℕ) → names f (entry_at (with_frame_at_all tasks (mappers_of r from) to) pid v) ≡ true → (q : Page) × (page_at m.areas pid v ≡ Some q) × (get page_cmp (set page_cmp m.place p to) q ≡ Some f)
   shown_after f pid v h =
       let o = entry_at tasks pid v in
       elim (names from o) as (λ b. names from o ≡ b → names f (cond b (Some (Frame to)) o) ≡ true → (q : Page) × (page_at m.areas pid v ≡ Some q) × (get page_cmp (set page_cmp m.place p to) q ≡ Some f)) [
@@ -163,7 +163,7 @@ module _ (tasks : Map ℕ Task) (m : Mapping) (r : Mappers) (p : Page) (from to 
         | inr a ↦ t.in_range q f a.1
       ])
 
-  settled_after : (f pid v : ℕ) → entry_at (remapped tasks (mappers_of r from) to) pid v ≡ Some (Held f) → ⊥
+  settled_after : (f pid v : ℕ) → entry_at (with_frame_at_all tasks (mappers_of r from) to) pid v ≡ Some (Held f) → ⊥
   settled_after f pid v h =
       elim (names from (entry_at tasks pid v)) as (λ b. cond b (Some (Frame to)) (entry_at tasks pid v) ≡ Some (Held f) → ⊥) [
         | true ↦ λ k. frame_held k
@@ -171,7 +171,7 @@ module _ (tasks : Map ℕ Task) (m : Mapping) (r : Mappers) (p : Page) (from to 
       ] (sym (entry_after pid v) ∙ h)
 
   -- they stay tied
-  pub move_tied : IsTied (remapped tasks (mappers_of r from) to) (with_frame m p to) (carry r from to)
+  pub move_tied : IsTied (with_frame_at_all tasks (mappers_of r from) to) (with_frame m p to) (carry r from to)
   move_tied = record {
     pids = subst (λ ks. IsStrictlySortedBy nat_cmp ks) (sym (keys-remapped tasks (mappers_of r from) to)) t.pids;
     tables = order-remapped tasks (mappers_of r from) to t.tables;
@@ -195,7 +195,7 @@ module _ (tasks : Map ℕ Task) (m : Mapping) (r : Mappers) (p : Page) (from to 
       ∙ get_or-set_other r.pins to f _ 0 (λ e. spare.place q (found ∙ ap Some e)))
 
   -- what is seen and how often pages are pinned stays
-  pub move_shows : spaces_view (remapped tasks (mappers_of r from) to) (with_frame m p to) (carry r from to) ≡ with_moved (spaces_view tasks m r) p to
+  pub move_shows : spaces_view (with_frame_at_all tasks (mappers_of r from) to) (with_frame m p to) (carry r from to) ≡ with_moved (spaces_view tasks m r) p to
   move_shows = λ i. record {
     processes = remapped_shows m.areas tasks (mappers_of r from) to (mappers_mapped tasks (mappers_of r from) from (t.mappers from)) i;
     areas = m.areas;

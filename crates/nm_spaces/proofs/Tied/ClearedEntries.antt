@@ -24,11 +24,11 @@ use Rattle.nm_types.specs.declared.entry.Entry.TheVariants.{Zero}
 use Rattle.nm_model.specs.definitions.Areas.{Mapping}
 use Rattle.nm_rmap.specs.Mappers.{Mappers, mappers_of, without_mapper}
 use Rattle.nm_model.specs.definitions.PageTables.{Task, entry_at, entry_in}
-use Rattle.nm_spaces.specs.views.ProcessTable.{frame_named, names, without_entry, cleared_between, cleared}
+use Rattle.nm_spaces.specs.views.ProcessTable.{frame_named, names, without_entry, cleared_between, without_entries}
 use Rattle.nm_spaces.proofs.ProcessTable.NamedFrames.{names_alone}
 use Rattle.nm_spaces.specs.views.AddressSpaces.{AddressSpacesView, spaces_view}
 use Rattle.nm_model.specs.definitions.PageTables.{process_of, sight_of}
-use Rattle.nm_spaces.specs.definitions.Tied.{IsTied, IsCleared, IsLess, IsWithout, has_spot, is_between}
+use Rattle.nm_spaces.specs.definitions.Tied.{IsTied, IsCleared, IsLess, IsWithout, has_spot, is_in_range}
 use Rattle.nm_types.proofs.Maps.{equal, agree, get-values, get-replace, spot_cmp_total, with_values-without}
 use Rattle.nm_types.proofs.Keys.{keys-replace, sorted-without, All-get}
 use Rattle.nm_spaces.proofs.ProcessTable.Changes.{same_tables}
@@ -109,16 +109,16 @@ not_out a b w h =
       | false ↦ λ c k. (ltb-false w a c, leb-false b w k)
     ] refl h
 
-pub between_parts : (pid a b q w : ℕ) → is_between pid a b (q, w) ≡ true → (q ≡ pid) × (a ≤ w) × (w < b)
+pub between_parts : (pid a b q w : ℕ) → is_in_range pid a b (q, w) ≡ true → (q ≡ pid) × (a ≤ w) × (w < b)
 between_parts pid a b q w h =
     let both = and_parts (q == pid) _ h in
     let range = and_parts (nat_le a w) _ both.1 in
     (eqb-true q pid both.0, leb-true a w range.0, ltb-true w b range.1)
 
-between_from : (pid a b q w : ℕ) → q ≡ pid → a ≤ w → w < b → is_between pid a b (q, w) ≡ true
+between_from : (pid a b q w : ℕ) → q ≡ pid → a ≤ w → w < b → is_in_range pid a b (q, w) ≡ true
 between_from pid a b q w e low high = and_from _ _ (eq-eqb q pid e) (and_from _ _ (le-leb a w low) (lt-ltb w b high))
 
-not_between : (pid a b q w : ℕ) → b ≤ w → is_between pid a b (q, w) ≡ false
+not_between : (pid a b q w : ℕ) → b ≤ w → is_in_range pid a b (q, w) ≡ false
 not_between pid a b q w h = false_from_ne_true _ (λ k. let parts = between_parts pid a b q w k in let less = parts.2 in omega (arith, less, h))
 
 between_out : (a b w : ℕ) → out a b w ≡ not (nat_le a w && nat_lt w b)
@@ -216,20 +216,20 @@ table_end m a at end s up none =
 abbrev pub one_cleared : ℕ → ℕ → ℕ → ℕ → Task → Task
 one_cleared pid a b q t = if q == pid then cleared_between a b t else t
 
-pub keys-cleared : (ts : Map ℕ Task) (pid a b : ℕ) → keys_of (cleared ts pid a b) ≡ keys_of ts
+pub keys-cleared : (ts : Map ℕ Task) (pid a b : ℕ) → keys_of (without_entries ts pid a b) ≡ keys_of ts
 keys-cleared ts pid a b = keys-values (one_cleared pid a b) ts
 
-sorted_cleared : (ts : Map ℕ Task) (pid a b : ℕ) → IsStrictlySortedBy nat_cmp (keys_of ts) → IsStrictlySortedBy nat_cmp (keys_of (cleared ts pid a b))
+sorted_cleared : (ts : Map ℕ Task) (pid a b : ℕ) → IsStrictlySortedBy nat_cmp (keys_of ts) → IsStrictlySortedBy nat_cmp (keys_of (without_entries ts pid a b))
 sorted_cleared ts pid a b s = subst (IsStrictlySortedBy nat_cmp) (sym (keys-cleared ts pid a b)) s
 
-pub tables-cleared : (ts : Map ℕ Task) (pid a b : ℕ) → AllByRecursion (λ e. TableInOrder e.1) ts → AllByRecursion (λ e. TableInOrder e.1) (cleared ts pid a b)
+pub tables-cleared : (ts : Map ℕ Task) (pid a b : ℕ) → AllByRecursion (λ e. TableInOrder e.1) ts → AllByRecursion (λ e. TableInOrder e.1) (without_entries ts pid a b)
 tables-cleared [] pid a b h = tt
 tables-cleared (e ∷ ts) pid a b h = (
   elim (e.0 == pid) as (λ c. TableInOrder (if c then cleared_between a b e.1 else e.1)) [ true ↦ sorted_kept (out a b) e.1.table h.0 | false ↦ h.0 ],
   tables-cleared ts pid a b h.1,
 )
 
-get_cleared : (ts : Map ℕ Task) (pid a b : ℕ) (t : Task) → get nat_cmp ts pid ≡ Some t → get nat_cmp (cleared ts pid a b) pid ≡ Some (cleared_between a b t)
+get_cleared : (ts : Map ℕ Task) (pid a b : ℕ) (t : Task) → get nat_cmp ts pid ≡ Some t → get nat_cmp (without_entries ts pid a b) pid ≡ Some (cleared_between a b t)
 get_cleared ts pid a b t h =
     get-values exact_unsigned (one_cleared pid a b) ts pid ∙ ap (option_map (one_cleared pid a b pid)) h ∙ ap (λ c. Some (if c then cleared_between a b t else t)) (eq-eqb pid pid refl)
 
@@ -237,11 +237,11 @@ same_option : (q pid a b : ℕ) (o : Option Task) → (q == pid) ≡ false → o
 same_option q pid a b None h = refl
 same_option q pid a b (Some t) h = ap (λ c. Some (if c then cleared_between a b t else t)) h
 
-get_other : (ts : Map ℕ Task) (pid a b q : ℕ) → (q == pid) ≡ false → get nat_cmp (cleared ts pid a b) q ≡ get nat_cmp ts q
+get_other : (ts : Map ℕ Task) (pid a b q : ℕ) → (q == pid) ≡ false → get nat_cmp (without_entries ts pid a b) q ≡ get nat_cmp ts q
 get_other ts pid a b q h = get-values exact_unsigned (one_cleared pid a b) ts q ∙ same_option q pid a b (get nat_cmp ts q) h
 
-entry_in_cleared : (pid a b q w : ℕ) (o : Option Task) → entry_in (option_map (one_cleared pid a b q) o) w ≡ cond (is_between pid a b (q, w)) None (entry_in o w)
-entry_in_cleared pid a b q w None = let nothing : Option Entry = None in elim (is_between pid a b (q, w)) as (λ c. nothing ≡ cond c nothing nothing) [ true ↦ refl | false ↦ refl ]
+entry_in_cleared : (pid a b q w : ℕ) (o : Option Task) → entry_in (option_map (one_cleared pid a b q) o) w ≡ cond (is_in_range pid a b (q, w)) None (entry_in o w)
+entry_in_cleared pid a b q w None = let nothing : Option Entry = None in elim (is_in_range pid a b (q, w)) as (λ c. nothing ≡ cond c nothing nothing) [ true ↦ refl | false ↦ refl ]
 entry_in_cleared pid a b q w (Some t) =
     elim (q == pid) as (λ c. entry_in (Some (if c then cleared_between a b t else t)) w ≡ cond (c && (nat_le a w && nat_lt w b)) None (get nat_cmp t.table w)) [
       | true ↦
@@ -251,21 +251,21 @@ entry_in_cleared pid a b q w (Some t) =
     ]
 
 -- what is found after the entries in a range were removed
-pub entry_cleared : (ts : Map ℕ Task) (pid a b q w : ℕ) → entry_at (cleared ts pid a b) q w ≡ cond (is_between pid a b (q, w)) None (entry_at ts q w)
+pub entry_cleared : (ts : Map ℕ Task) (pid a b q w : ℕ) → entry_at (without_entries ts pid a b) q w ≡ cond (is_in_range pid a b (q, w)) None (entry_at ts q w)
 entry_cleared ts pid a b q w = ap (λ o. entry_in o w) (get-values exact_unsigned (one_cleared pid a b) ts q) ∙ entry_in_cleared pid a b q w (get nat_cmp ts q)
 
 -- after the range entries are as they were
-pub entry_behind : (ts : Map ℕ Task) (pid a b w : ℕ) → b ≤ w → entry_at (cleared ts pid a b) pid w ≡ entry_at ts pid w
+pub entry_behind : (ts : Map ℕ Task) (pid a b w : ℕ) → b ≤ w → entry_at (without_entries ts pid a b) pid w ≡ entry_at ts pid w
 entry_behind ts pid a b w h = entry_cleared ts pid a b pid w ∙ ap (λ c. cond c None (entry_at ts pid w)) (not_between pid a b pid w h)
 
 task_of_entry : (ts : Map ℕ Task) (pid w : ℕ) (e : Entry) → entry_at ts pid w ≡ Some e → (t : Task) × (get nat_cmp ts pid ≡ Some t)
 task_of_entry ts pid w e h =
     elim (get nat_cmp ts pid) as (λ o. entry_in o w ≡ Some e → (t : Task) × (o ≡ Some t)) [ None ↦ λ k. absurd (none_some k) | Some t ↦ λ k. (t, refl) ] h
 
-pub cleared_none : (ts : Map ℕ Task) (pid a : ℕ) → cleared ts pid a a ≡ ts
+pub cleared_none : (ts : Map ℕ Task) (pid a : ℕ) → without_entries ts pid a a ≡ ts
 cleared_none [] pid a = refl
 cleared_none (e ∷ ts) pid a =
-    ap (λ (x : Task). (e.0, x) ∷ cleared ts pid a a)
+    ap (λ (x : Task). (e.0, x) ∷ without_entries ts pid a a)
     (elim (e.0 == pid) as (λ c. (if c then cleared_between a a e.1 else e.1) ≡ e.1) [
       | true ↦ ap (λ m. record (e.1) { table = m }) (kept_all (out a a) e.1.table (λ w. between_out a a w ∙ ap not (false_from_ne_true _ (λ h.
           let range = and_parts (nat_le a w) _ h in
@@ -276,7 +276,7 @@ cleared_none (e ∷ ts) pid a =
     ])
     ∙ ap (λ es. e ∷ es) (cleared_none ts pid a)
 
-module _ (ts now : Map ℕ Task) (pid a at : ℕ) (s : IsStrictlySortedBy nat_cmp (keys_of ts)) (tables : AllByRecursion (λ e. TableInOrder e.1) ts) (is : now ≡ cleared ts pid a at) (low : a ≤ at) where
+module _ (ts now : Map ℕ Task) (pid a at : ℕ) (s : IsStrictlySortedBy nat_cmp (keys_of ts)) (tables : AllByRecursion (λ e. TableInOrder e.1) ts) (is : now ≡ without_entries ts pid a at) (low : a ≤ at) where
   -- the entry that is found was there
   pub entry_was : (v : ℕ) (o : Option Entry) → at ≤ v → entry_at now pid v ≡ o → entry_at ts pid v ≡ o
   entry_was v o h found = sym (entry_behind ts pid a at v h) ∙ ap (λ ts. entry_at ts pid v) (sym is) ∙ found
@@ -286,7 +286,7 @@ module _ (ts now : Map ℕ Task) (pid a at : ℕ) (s : IsStrictlySortedBy nat_cm
 
   -- the entry is removed
   pub tasks_step : (v : ℕ) (e : Entry) (new : Map ℕ Task) → at ≤ v → entry_at now pid v ≡ Some e → ((w : ℕ) → at ≤ w → w < v → entry_at now pid w ≡ None)
-      → ((t : Task) → get nat_cmp now pid ≡ Some t → new ≡ replace nat_cmp now pid (without_entry t v)) → new ≡ cleared ts pid a (v + 1)
+      → ((t : Task) → get nat_cmp now pid ≡ Some t → new ≡ replace nat_cmp now pid (without_entry t v)) → new ≡ without_entries ts pid a (v + 1)
   tasks_step v e new high found none gone =
       let t = task_of_entry ts pid v e (entry_was v (Some e) high found) in
       let there : get nat_cmp now pid ≡ Some (cleared_between a at t.0) = ap (λ ts. get nat_cmp ts pid) is ∙ get_cleared ts pid a at t.0 t.1 in
@@ -295,17 +295,17 @@ module _ (ts now : Map ℕ Task) (pid a at : ℕ) (s : IsStrictlySortedBy nat_cm
       ap (λ m. record (t.0) { table = m }) (table_step t.0.table a at v (All-get nat_cmp TableInOrder ts pid t.0 tables t.1) low high (λ w l h. table_now t.0 w t.1 (none w l h))) in
       let sorted : IsStrictlySortedBy nat_cmp (keys_of now) = subst (λ ts. IsStrictlySortedBy nat_cmp (keys_of ts)) (sym is) (sorted_cleared ts pid a at s) in
       gone (cleared_between a at t.0) there
-      ∙ same_tables (replace nat_cmp now pid shorter) (cleared ts pid a (v + 1)) (subst (IsStrictlySortedBy nat_cmp) (sym (keys-replace nat_cmp now pid shorter)) sorted) (sorted_cleared ts pid a (v + 1) s) (λ q.
+      ∙ same_tables (replace nat_cmp now pid shorter) (without_entries ts pid a (v + 1)) (subst (IsStrictlySortedBy nat_cmp) (sym (keys-replace nat_cmp now pid shorter)) sorted) (sorted_cleared ts pid a (v + 1) s) (λ q.
       get-replace nat_cmp_total exact_unsigned now pid shorter q (subst IsSome (sym there) refl)
-      ∙ elim (is_eq (nat_cmp pid q)) as (λ b. is_eq (nat_cmp pid q) ≡ b → cond b (Some shorter) (get nat_cmp now q) ≡ get nat_cmp (cleared ts pid a (v + 1)) q) [
-        | true ↦ λ b. ap Some same ∙ sym (get_cleared ts pid a (v + 1) t.0 t.1) ∙ ap (get nat_cmp (cleared ts pid a (v + 1))) (exact_unsigned pid q (equal _ b))
+      ∙ elim (is_eq (nat_cmp pid q)) as (λ b. is_eq (nat_cmp pid q) ≡ b → cond b (Some shorter) (get nat_cmp now q) ≡ get nat_cmp (without_entries ts pid a (v + 1)) q) [
+        | true ↦ λ b. ap Some same ∙ sym (get_cleared ts pid a (v + 1) t.0 t.1) ∙ ap (get nat_cmp (without_entries ts pid a (v + 1))) (exact_unsigned pid q (equal _ b))
         | false ↦ λ b.
             let other : (q == pid) ≡ false = false_from_ne_true _ (λ h. true_false (sym (subst (λ q. is_eq (nat_cmp pid q) ≡ true) (sym (eqb-true q pid h)) (ap is_eq (tied_itself nat_cmp_total pid))) ∙ b)) in
             ap (λ ts. get nat_cmp ts q) is ∙ get_other ts pid a at q other ∙ sym (get_other ts pid a (v + 1) q other)
       ] refl)
 
   -- none is left
-  pub tasks_end : (end : ℕ) → at ≤ a + (end - a) → ((w : ℕ) → at ≤ w → w < end → entry_at now pid w ≡ None) → now ≡ cleared ts pid a end
+  pub tasks_end : (end : ℕ) → at ≤ a + (end - a) → ((w : ℕ) → at ≤ w → w < end → entry_at now pid w ≡ None) → now ≡ without_entries ts pid a end
   tasks_end end up none =
       is ∙ agree nat_cmp_total exact_unsigned (one_cleared pid a at) (one_cleared pid a end) ts s (λ q t found.
       elim (q == pid) as (λ c. (q == pid) ≡ c → (if c then cleared_between a at t else t) ≡ (if c then cleared_between a end t else t)) [
@@ -387,21 +387,21 @@ less_named r t f spot e named below sorted is =
 pub mappers_none : (r : Mappers) (pid a : ℕ) (ts : Map ℕ Task) → IsCleared r r pid a a ts
 mappers_none r pid a ts = record {
   mappings = λ g s. and_true (has_spot (mappers_of r g) s) ∙ ap (λ c. has_spot (mappers_of r g) s && not (c && names g (entry_at ts s.0 s.1)))
-      (sym (false_from_ne_true (is_between pid a a s) (λ h. let parts = between_parts pid a a s.0 s.1 h in let low = parts.1 in let high = parts.2 in omega (arith, low, high))));
+      (sym (false_from_ne_true (is_in_range pid a a s) (λ h. let parts = between_parts pid a a s.0 s.1 h in let low = parts.1 in let high = parts.2 in omega (arith, low, high))));
   frames = refl;
   pins = refl;
 }
 
 -- which entries were in a range after one more is
 between_step : (ts : Map ℕ Task) (pid a at v g : ℕ) (s : ℕ × ℕ) → a ≤ at → at ≤ v → ((w : ℕ) → at ≤ w → w < v → entry_at ts pid w ≡ None) → same_spot s (pid, v) ≡ false
-    → (is_between pid a at s && names g (entry_at ts s.0 s.1)) ≡ (is_between pid a (v + 1) s && names g (entry_at ts s.0 s.1))
+    → (is_in_range pid a at s && names g (entry_at ts s.0 s.1)) ≡ (is_in_range pid a (v + 1) s && names g (entry_at ts s.0 s.1))
 between_step ts pid a at v g s low high none other =
-    elim (is_between pid a at s) as (λ b. is_between pid a at s ≡ b → (b && names g (entry_at ts s.0 s.1)) ≡ (is_between pid a (v + 1) s && names g (entry_at ts s.0 s.1))) [
+    elim (is_in_range pid a at s) as (λ b. is_in_range pid a at s ≡ b → (b && names g (entry_at ts s.0 s.1)) ≡ (is_in_range pid a (v + 1) s && names g (entry_at ts s.0 s.1))) [
       | true ↦ λ b.
           let parts = between_parts pid a at s.0 s.1 b in
           let less = parts.2 in
           sym (ap (λ c. c && names g (entry_at ts s.0 s.1)) (between_from pid a (v + 1) s.0 s.1 parts.0 parts.1 (omega (arith, less, high))))
-      | false ↦ λ b. elim (is_between pid a (v + 1) s) as (λ c. is_between pid a (v + 1) s ≡ c → false ≡ (c && names g (entry_at ts s.0 s.1))) [
+      | false ↦ λ b. elim (is_in_range pid a (v + 1) s) as (λ c. is_in_range pid a (v + 1) s ≡ c → false ≡ (c && names g (entry_at ts s.0 s.1))) [
         | true ↦ λ c.
             let parts = between_parts pid a (v + 1) s.0 s.1 c in
             let past = parts.2 in
@@ -428,17 +428,17 @@ mappers_step r t u pid a at v ts o h low high none found less frames pins = reco
       let had = has_spot (mappers_of r g) s in
       let named = names g (entry_at ts s.0 s.1) in
       less g s ∙ ap (λ c. c && not (same_spot s (pid, v) && names g o)) (h.mappings g s)
-      ∙ elim (same_spot s (pid, v)) as (λ b. same_spot s (pid, v) ≡ b → ((had && not (is_between pid a at s && named)) && not (b && names g o)) ≡ (had && not (is_between pid a (v + 1) s && named))) [
+      ∙ elim (same_spot s (pid, v)) as (λ b. same_spot s (pid, v) ≡ b → ((had && not (is_in_range pid a at s && named)) && not (b && names g o)) ≡ (had && not (is_in_range pid a (v + 1) s && named))) [
         | true ↦ λ b.
             let is : s ≡ (pid, v) = exact_spot s (pid, v) b in
             let this : names g o ≡ named = sym (ap (λ (s : ℕ × ℕ). names g (entry_at ts s.0 s.1)) is ∙ ap (names g) found) in
-            let before : is_between pid a at s ≡ false = ap (is_between pid a at) is ∙ not_between pid a at pid v high in
-            let after : is_between pid a (v + 1) s ≡ true = ap (is_between pid a (v + 1)) is ∙ between_from pid a (v + 1) pid v refl (omega (arith, low, high)) (omega arith) in
+            let before : is_in_range pid a at s ≡ false = ap (is_in_range pid a at) is ∙ not_between pid a at pid v high in
+            let after : is_in_range pid a (v + 1) s ≡ true = ap (is_in_range pid a (v + 1)) is ∙ between_from pid a (v + 1) pid v refl (omega (arith, low, high)) (omega arith) in
             ap (λ c. (had && not (c && named)) && not (names g o)) before
             ∙ ap (λ c. c && not (names g o)) (sym (and_true had))
             ∙ ap (λ c. had && not c) this
             ∙ ap (λ c. had && not (c && named)) (sym after)
-        | false ↦ λ b. sym (and_true (had && not (is_between pid a at s && named))) ∙ ap (λ c. had && not c) (between_step ts pid a at v g s low high none b)
+        | false ↦ λ b. sym (and_true (had && not (is_in_range pid a at s && named))) ∙ ap (λ c. had && not c) (between_step ts pid a at v g s low high none b)
       ] refl;
   frames = frames ∙ h.frames;
   pins = pins ∙ h.pins;
@@ -446,15 +446,15 @@ mappers_step r t u pid a at v ts o h low high none found less frames pins = reco
 
 -- the entries of a range when none is left there
 between_end : (ts : Map ℕ Task) (pid a at end g : ℕ) (s : ℕ × ℕ) → at ≤ a + (end - a) → ((w : ℕ) → at ≤ w → w < end → entry_at ts pid w ≡ None)
-    → (is_between pid a at s && names g (entry_at ts s.0 s.1)) ≡ (is_between pid a end s && names g (entry_at ts s.0 s.1))
+    → (is_in_range pid a at s && names g (entry_at ts s.0 s.1)) ≡ (is_in_range pid a end s && names g (entry_at ts s.0 s.1))
 between_end ts pid a at end g s up none =
-    elim (is_between pid a at s) as (λ b. is_between pid a at s ≡ b → (b && names g (entry_at ts s.0 s.1)) ≡ (is_between pid a end s && names g (entry_at ts s.0 s.1))) [
+    elim (is_in_range pid a at s) as (λ b. is_in_range pid a at s ≡ b → (b && names g (entry_at ts s.0 s.1)) ≡ (is_in_range pid a end s && names g (entry_at ts s.0 s.1))) [
       | true ↦ λ b.
           let parts = between_parts pid a at s.0 s.1 b in
           let from = parts.1 in
           let less = parts.2 in
           sym (ap (λ c. c && names g (entry_at ts s.0 s.1)) (between_from pid a end s.0 s.1 parts.0 from (omega (arith, from, less, up))))
-      | false ↦ λ b. elim (is_between pid a end s) as (λ c. is_between pid a end s ≡ c → false ≡ (c && names g (entry_at ts s.0 s.1))) [
+      | false ↦ λ b. elim (is_in_range pid a end s) as (λ c. is_in_range pid a end s ≡ c → false ≡ (c && names g (entry_at ts s.0 s.1))) [
         | true ↦ λ c.
             let parts = between_parts pid a end s.0 s.1 c in
             elim (nat_lt s.1 at) as (λ d. nat_lt s.1 at ≡ d → false ≡ names g (entry_at ts s.0 s.1)) [
@@ -477,14 +477,14 @@ mappers_end r t pid a at end ts h up none = record {
 pub record IsClearing (ts now : Map ℕ Task) (r t : Mappers) (pid a at end : ℕ) : Type 0 where
   pub pids : IsStrictlySortedBy nat_cmp (keys_of ts)
   pub tables : AllByRecursion (λ e. TableInOrder e.1) ts
-  pub tasks : now ≡ cleared ts pid a at
+  pub tasks : now ≡ without_entries ts pid a at
   pub rmap : IsCleared r t pid a at ts
   pub from : a ≤ at
   pub up : at ≤ a + (end - a)
 
 -- the same of the page number under another name
 pub clearing : (ts now : Map ℕ Task) (r t : Mappers) (pid a at end n : ℕ) → n ≡ at → IsStrictlySortedBy nat_cmp (keys_of ts) → AllByRecursion (λ e. TableInOrder e.1) ts
-    → now ≡ cleared ts pid a at → IsCleared r t pid a at ts → a ≤ at → at ≤ a + (end - a) → IsClearing ts now r t pid a n end
+    → now ≡ without_entries ts pid a at → IsCleared r t pid a at ts → a ≤ at → at ≤ a + (end - a) → IsClearing ts now r t pid a n end
 clearing ts now r t pid a at end n is pids tables tasks rmap from up =
     subst (λ n. IsClearing ts now r t pid a n end) (sym is) (record { pids = pids; tables = tables; tasks = tasks; rmap = rmap; from = from; up = up })
 
@@ -493,7 +493,7 @@ module _ (ts now : Map ℕ Task) (r t : Mappers) (pid a at end : ℕ) (k : IsCle
   was = entry_was ts now pid a at k.pids k.tables k.tasks k.from
 
   -- where none is left, all are removed
-  pub cleared_all : ((w : ℕ) → at ≤ w → w < end → entry_at now pid w ≡ None) → (now ≡ cleared ts pid a end) × IsCleared r t pid a end ts
+  pub cleared_all : ((w : ℕ) → at ≤ w → w < end → entry_at now pid w ≡ None) → (now ≡ without_entries ts pid a end) × IsCleared r t pid a end ts
   cleared_all none = (
     tasks_end ts now pid a at k.pids k.tables k.tasks k.from end k.up none,
     mappers_end r t pid a at end ts k.rmap k.up (λ w l h. was w None l (none w l h)),
@@ -506,7 +506,7 @@ module _ (ts now : Map ℕ Task) (r t : Mappers) (pid a at end : ℕ) (k : IsCle
   -- one entry is removed, and the mapper that it was
   pub cleared_one : (v : ℕ) (e : Entry) (new : Map ℕ Task) (u : Mappers) → at ≤ v → entry_at now pid v ≡ Some e → ((w : ℕ) → at ≤ w → w < v → entry_at now pid w ≡ None)
       → ((t : Task) → get nat_cmp now pid ≡ Some t → new ≡ replace nat_cmp now pid (without_entry t v)) → IsWithout t u (pid, v) (Some e)
-      → (new ≡ cleared ts pid a (v + 1)) × IsCleared r u pid a (v + 1) ts
+      → (new ≡ without_entries ts pid a (v + 1)) × IsCleared r u pid a (v + 1) ts
   cleared_one v e new u low found none gone less = (
     tasks_step ts now pid a at k.pids k.tables k.tasks k.from v e new low found none gone,
     mappers_step r t u pid a at v ts (Some e) k.rmap k.from low (λ w l h. was w None l (none w l h)) (was v (Some e) low found) less.less less.frames less.pins,

@@ -28,10 +28,10 @@ use Rattle.nm_rmap.specs.Mappers.{Mappers, mappers_of, frame_pins}
 use Rattle.nm_model.specs.definitions.Effect.{shows_pinned}
 use Rattle.nm_model.specs.definitions.Effect.{blind_between}
 use Rattle.nm_model.specs.definitions.PageTables.{Task, entry_at}
-use Rattle.nm_spaces.specs.views.ProcessTable.{names, cleared_between, cleared}
+use Rattle.nm_spaces.specs.views.ProcessTable.{names, cleared_between, without_entries}
 use Rattle.nm_spaces.specs.views.AddressSpaces.{AddressSpacesView, spaces_view, pins_in, without_range}
 use Rattle.nm_model.specs.definitions.PageTables.{process_of, sight_of}
-use Rattle.nm_spaces.specs.definitions.Tied.{IsTied, IsCleared, has_spot, is_between}
+use Rattle.nm_spaces.specs.definitions.Tied.{IsTied, IsCleared, has_spot, is_in_range}
 use Rattle.nm_types.proofs.Maps.{equal, agree, get-values, exact_page, page_cmp_total, with_values-without}
 use Rattle.nm_types.proofs.Keys.{sorted-without, All-get}
 use Rattle.nm_laws.proofs.Soundness.Allocated.{area_covers}
@@ -170,7 +170,7 @@ filter_values F test (e ∷ m) =
       | false ↦ filter_values F test m
     ]
 
-out_between : (pid a b q w : ℕ) → out a b w ≡ true → is_between pid a b (q, w) ≡ false
+out_between : (pid a b q w : ℕ) → out a b w ≡ true → is_in_range pid a b (q, w) ≡ false
 out_between pid a b q w h = false_from_ne_true _ (λ k. let parts = between_parts pid a b q w k in true_false (sym h ∙ out_not a b w parts.1 parts.2))
 
 both_not : (b : Bool) → (b && not b) ≡ false
@@ -188,10 +188,10 @@ module _ (tasks : Map ℕ Task) (m : Mapping) (r u : Mappers) (pid first end : �
   abbrev kept : Map Page ℕ
   kept = fold (place_left left) m.place listed
 
-  page_same : (q v : ℕ) → is_between pid first end (q, v) ≡ false → page_at left q v ≡ page_at m.areas q v
+  page_same : (q v : ℕ) → is_in_range pid first end (q, v) ≡ false → page_at left q v ≡ page_at m.areas q v
   page_same q v h = pages q v ∙ ap (λ c. cond c None (page_at m.areas q v)) h
 
-  sight_same : (q v : ℕ) (e : Entry) → is_between pid first end (q, v) ≡ false → sight_of left q v e ≡ sight_of m.areas q v e
+  sight_same : (q v : ℕ) (e : Entry) → is_in_range pid first end (q, v) ≡ false → sight_of left q v e ≡ sight_of m.areas q v e
   sight_same q v Zero h = refl
   sight_same q v (Frame f) h = ap (λ o. Sees (unwrap_or o (record { segment = 0; index = 0 }))) (page_same q v h)
   sight_same q v (Held f) h = ap (λ o. Sees (unwrap_or o (record { segment = 0; index = 0 }))) (page_same q v h)
@@ -215,7 +215,7 @@ module _ (tasks : Map ℕ Task) (m : Mapping) (r u : Mappers) (pid first end : �
       ] refl
 
   -- what processes see, and the areas, frames and pins
-  pub removed_shows : spaces_view (cleared tasks pid first end) (after_removal m pid first end) u ≡ without_range (spaces_view tasks m r) pid first end
+  pub removed_shows : spaces_view (without_entries tasks pid first end) (after_removal m pid first end) u ≡ without_range (spaces_view tasks m r) pid first end
   removed_shows = λ i. record {
     processes =
         (values_twice (process_of left) (one_cleared pid first end) tasks
@@ -229,18 +229,18 @@ module _ (tasks : Map ℕ Task) (m : Mapping) (r u : Mappers) (pid first end : �
     frames = gone.frames i;
   }
 
-  mapped_left : (f q v : ℕ) → has_spot (mappers_of u f) (q, v) ≡ names f (entry_at (cleared tasks pid first end) q v)
+  mapped_left : (f q v : ℕ) → has_spot (mappers_of u f) (q, v) ≡ names f (entry_at (without_entries tasks pid first end) q v)
   mapped_left f q v =
       let o = entry_at tasks q v in
-      let own = is_between pid first end (q, v) in
+      let own = is_in_range pid first end (q, v) in
       gone.mappings f (q, v) ∙ ap (λ b. b && not (own && names f o)) (t.mappers f q v)
       ∙ elim own as (λ b. (names f o && not (b && names f o)) ≡ names f (cond b None o)) [ true ↦ both_not (names f o) | false ↦ sym (and_true (names f o)) ]
       ∙ sym (ap (names f) (entry_cleared tasks pid first end q v))
 
-  shown_left : (f q v : ℕ) → names f (entry_at (cleared tasks pid first end) q v) ≡ true → (p : Page) × (page_at left q v ≡ Some p) × (get page_cmp kept p ≡ Some f)
+  shown_left : (f q v : ℕ) → names f (entry_at (without_entries tasks pid first end) q v) ≡ true → (p : Page) × (page_at left q v ≡ Some p) × (get page_cmp kept p ≡ Some f)
   shown_left f q v h =
       let o = entry_at tasks q v in
-      elim (is_between pid first end (q, v)) as (λ b. is_between pid first end (q, v) ≡ b → names f (cond b None o) ≡ true → (p : Page) × (page_at left q v ≡ Some p) × (get page_cmp kept p ≡ Some f)) [
+      elim (is_in_range pid first end (q, v)) as (λ b. is_in_range pid first end (q, v) ≡ b → names f (cond b None o) ≡ true → (p : Page) × (page_at left q v ≡ Some p) × (get page_cmp kept p ≡ Some f)) [
         | true ↦ λ b k. absurd (true_false (sym k))
         | false ↦ λ b k.
             let s = t.shows f q v k in
@@ -248,9 +248,9 @@ module _ (tasks : Map ℕ Task) (m : Mapping) (r u : Mappers) (pid first end : �
             (s.0, at, places_kept left listed m.place s.0 f t.places (covered_at left q v s.0 at) s.2)
       ] refl (sym (ap (names f) (entry_cleared tasks pid first end q v)) ∙ h)
 
-  settled_left : (f q v : ℕ) → entry_at (cleared tasks pid first end) q v ≡ Some (Held f) → ⊥
+  settled_left : (f q v : ℕ) → entry_at (without_entries tasks pid first end) q v ≡ Some (Held f) → ⊥
   settled_left f q v h =
-      elim (is_between pid first end (q, v)) as (λ b. cond b None (entry_at tasks q v) ≡ Some (Held f) → ⊥) [ true ↦ λ k. none_some k | false ↦ λ k. t.settled f q v k ]
+      elim (is_in_range pid first end (q, v)) as (λ b. cond b None (entry_at tasks q v) ≡ Some (Held f) → ⊥) [ true ↦ λ k. none_some k | false ↦ λ k. t.settled f q v k ]
       (sym (entry_cleared tasks pid first end q v) ∙ h)
 
   had : (p : Page) (f : ℕ) → get page_cmp kept p ≡ Some f → get page_cmp m.place p ≡ Some f
@@ -269,7 +269,7 @@ module _ (tasks : Map ℕ Task) (m : Mapping) (r u : Mappers) (pid first end : �
       ] refl
 
   -- they stay tied
-  pub removed_tied : ((p : Page) (f : ℕ) → Listed p listed → get page_cmp m.place p ≡ Some f → frame_pins r f ≡ 0) → IsTied (cleared tasks pid first end) (after_removal m pid first end) u
+  pub removed_tied : ((p : Page) (f : ℕ) → Listed p listed → get page_cmp m.place p ≡ Some f → frame_pins r f ≡ 0) → IsTied (without_entries tasks pid first end) (after_removal m pid first end) u
   removed_tied free = record {
     pids = subst (IsStrictlySortedBy nat_cmp) (sym (keys-cleared tasks pid first end)) t.pids;
     tables = tables-cleared tasks pid first end t.tables;

@@ -23,7 +23,7 @@ use Rattle.nm_model.specs.definitions.Areas.{Mapping}
 use Rattle.nm_model.specs.definitions.Areas.{without_frame}
 use Rattle.nm_rmap.specs.Mappers.{Mappers, mappers_of, frame_pins}
 use Rattle.nm_model.specs.definitions.PageTables.{Task, entry_at, entry_in, with_entry}
-use Rattle.nm_spaces.specs.views.ProcessTable.{names, without_entry, replaced, replaced_in}
+use Rattle.nm_spaces.specs.views.ProcessTable.{names, without_entry, put_entry, replaced_in}
 use Rattle.nm_spaces.specs.views.AddressSpaces.{AddressSpacesView, spaces_view, pins_in, with_seen, without_seen, without_page}
 use Rattle.nm_model.specs.definitions.PageTables.{process_of, sight_of, page_here}
 use Rattle.nm_spaces.specs.definitions.Tied.{IsTied, IsWithout, has_spot}
@@ -138,19 +138,19 @@ module _ (tasks : Map ℕ Task) (m : Mapping) (r u : Mappers) (pid v : ℕ) (t :
       (with_values-without nat_cmp (sight_of areas pid) t.table v))
 
   -- it shows the page of zeros
-  replaced_set : IsSome (entry_at tasks pid v) → replaced tasks Zero (pid, v) ≡ replace nat_cmp tasks pid (with_entry t v Zero)
+  replaced_set : IsSome (entry_at tasks pid v) → put_entry tasks Zero (pid, v) ≡ replace nat_cmp tasks pid (with_entry t v Zero)
   replaced_set there =
       ap (λ o. replaced_in tasks o pid v Zero) task
       ∙ ap (λ table. replace nat_cmp tasks pid (record t { table = table }))
       (replace_is_set nat_cmp_total exact_unsigned t.table v Zero in_order (subst IsSome (ap (λ o. entry_in o v) task) there))
 
-  pub zero_tied : IsSome (entry_at tasks pid v) → IsTied (replaced tasks Zero (pid, v)) m u
+  pub zero_tied : IsSome (entry_at tasks pid v) → IsTied (put_entry tasks Zero (pid, v)) m u
   zero_tied there =
       subst (λ ts. IsTied ts m u) (sym (replaced_set there))
       (bare_tied tasks (replace nat_cmp tasks pid (with_entry t v Zero)) m r u pid v (Some Zero) h less (λ q w. entry_at-set tasks pid t v Zero q w task) (λ f. refl) (pids_with (with_entry t v Zero))
       (All-replace nat_cmp TableInOrder tasks pid (with_entry t v Zero) h.tables (sorted-set nat_cmp nat_cmp_total t.table v Zero in_order)) (λ f k. zero_held k))
 
-  pub zero_shows : IsSome (entry_at tasks pid v) → spaces_view (replaced tasks Zero (pid, v)) m u ≡ with_seen (spaces_view tasks m r) pid (process_of m.areas pid t) v ZeroPage
+  pub zero_shows : IsSome (entry_at tasks pid v) → spaces_view (put_entry tasks Zero (pid, v)) m u ≡ with_seen (spaces_view tasks m r) pid (process_of m.areas pid t) v ZeroPage
   zero_shows there =
       ap (λ ts. spaces_view ts m u) (replaced_set there)
       ∙ other_rmap (replace nat_cmp tasks pid (with_entry t v Zero))

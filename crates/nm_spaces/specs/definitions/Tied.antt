@@ -46,15 +46,15 @@ pub record IsTied (tasks : Map ℕ Task) (m : Mapping) (r : Mappers) : Type 0 wh
   pub settled : (f pid v : ℕ) → entry_at tasks pid v ≡ Some (Held f) → ⊥
 
 -- whether a page number of a process is in this range of a process
-abbrev pub is_between : ℕ → ℕ → ℕ → ℕ × ℕ → Bool
-is_between pid first end spot = (spot.0 == pid) && (nat_le first spot.1 && nat_lt spot.1 end)
+abbrev pub is_in_range : ℕ → ℕ → ℕ → ℕ × ℕ → Bool
+is_in_range pid first end spot = (spot.0 == pid) && (nat_le first spot.1 && nat_lt spot.1 end)
 
 -- mappers that were entries of the process in the range are removed, and pins do not change
 pub record IsCleared (r t : Mappers) (pid first end : ℕ) (tasks : Map ℕ Task) : Type 0 where
   pub mappings :
       (f : ℕ) (spot : ℕ × ℕ) →
       has_spot (mappers_of t f) spot
-      ≡ (has_spot (mappers_of r f) spot && not (is_between pid first end spot && names f (entry_at tasks spot.0 spot.1)))
+      ≡ (has_spot (mappers_of r f) spot && not (is_in_range pid first end spot && names f (entry_at tasks spot.0 spot.1)))
   pub frames : length t.mappings ≡ length r.mappings
   pub pins : t.pins ≡ r.pins
 

@@ -98,9 +98,9 @@ abbrev pub pins_here : AddressSpacesView → Page → ℕ
 pins_here y page = unwrap_or (get page_cmp y.pins page) 0
 
 -- whether there is a page, and it has a pin
-abbrev pub is_pinned : AddressSpacesView → Option Page → Bool
-is_pinned y None = false
-is_pinned y (Some page) = nat_lt 0 (pins_here y page)
+abbrev pub is_page_pinned : AddressSpacesView → Option Page → Bool
+is_page_pinned y None = false
+is_page_pinned y (Some page) = nat_lt 0 (pins_here y page)
 
 -- the number of pins of a page is set
 abbrev pub with_pins_of : AddressSpacesView → Page → ℕ → AddressSpacesView

@@ -61,21 +61,21 @@ replaced_in tasks None pid v e = tasks
 replaced_in tasks (Some t) pid v e = replace nat_cmp tasks pid (with_other_entry t v e)
 
 -- another entry at a page number of a process
-abbrev pub replaced : Map ℕ Task → Entry → ℕ × ℕ → Map ℕ Task
-replaced tasks e spot = replaced_in tasks (get nat_cmp tasks spot.0) spot.0 spot.1 e
+abbrev pub put_entry : Map ℕ Task → Entry → ℕ × ℕ → Map ℕ Task
+put_entry tasks e spot = replaced_in tasks (get nat_cmp tasks spot.0) spot.0 spot.1 e
 
 -- another entry at all these page numbers
 abbrev pub all_replaced : Map ℕ Task → List (ℕ × ℕ) → Entry → Map ℕ Task
-all_replaced tasks mappings e = fold (λ ts spot. replaced ts e spot) tasks mappings
+all_replaced tasks mappings e = fold (λ ts spot. put_entry ts e spot) tasks mappings
 
 -- the entries at all these page numbers name this frame
-abbrev pub remapped : Map ℕ Task → List (ℕ × ℕ) → ℕ → Map ℕ Task
-remapped tasks mappings frame = all_replaced tasks mappings (Frame frame)
+abbrev pub with_frame_at_all : Map ℕ Task → List (ℕ × ℕ) → ℕ → Map ℕ Task
+with_frame_at_all tasks mappings frame = all_replaced tasks mappings (Frame frame)
 
 -- a table without the entries from one page number up to another
 abbrev pub cleared_between : ℕ → ℕ → Task → Task
 cleared_between first end t = record t { table = filter (λ e. nat_lt e.0 first || nat_le end e.0) t.table }
 
 -- a process has no entries from one page number up to another
-abbrev pub cleared : Map ℕ Task → ℕ → ℕ → ℕ → Map ℕ Task
-cleared tasks pid first end = with_values (λ q t. if q == pid then cleared_between first end t else t) tasks
+abbrev pub without_entries : Map ℕ Task → ℕ → ℕ → ℕ → Map ℕ Task
+without_entries tasks pid first end = with_values (λ q t. if q == pid then cleared_between first end t else t) tasks

@@ -14,9 +14,9 @@ ghost use Rattle.nm_model.specs.definitions.AreaRefusal.{insert_refusal, stretch
 ghost use Rattle.nm_model.specs.definitions.Areas.{frames_lost};
 ghost use Rattle.nm_model.specs.definitions.Effect.{shows_pinned};
 ghost use Rattle.nm_model.specs.definitions.PageTables.{entry_at};
-ghost use Rattle.nm_spaces.specs.views.ProcessTable.{names, cleared};
+ghost use Rattle.nm_spaces.specs.views.ProcessTable.{names, without_entries};
 ghost use Rattle.nm_spaces.specs.definitions.Tied.{IsCleared};
-ghost use Rattle.nm_spaces.specs.views.AddressSpaces.{is_pinned, mapped_of, with_mapped, without_range};
+ghost use Rattle.nm_spaces.specs.views.AddressSpaces.{is_page_pinned, mapped_of, with_mapped, without_range};
 
 use crate::address_spaces::AddressSpaces;
 use crate::entry::frame_named;
@@ -136,7 +136,7 @@ impl<A: Allocator + Copy> AddressSpaces<A> {
 
     /// Whether the page that an area of a process shows at a page number has a pin.
     pub fn has_pin_at(&self, pid: Pid, vpn: Vpn) -> bool
-        ensures pinned { result ≡ is_pinned self.now (page_at self.now.areas pid vpn) }
+        ensures pinned { result ≡ is_page_pinned self.now (page_at self.now.areas pid vpn) }
         ensures around { result ≡ true →
             (first end : ℕ) →
             first ≤ vpn →
@@ -210,7 +210,7 @@ fn clear_between<A: Allocator + Copy>(
         f < length rmap.old.mappings }
     requires pids { IsStrictlySortedBy nat_cmp (keys_of tasks.old) }
     requires tables { AllByRecursion (λ e. IsStrictlySortedBy nat_cmp (keys_of e.1.table)) tasks.old }
-    ensures tasks { tasks.new ≡ cleared tasks.old pid first end }
+    ensures tasks { tasks.new ≡ without_entries tasks.old pid first end }
     ensures rmap { IsCleared rmap.old rmap.new pid first end tasks.old }
 {
     let mut at = first.number();

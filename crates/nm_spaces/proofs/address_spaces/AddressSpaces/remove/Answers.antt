@@ -4,7 +4,7 @@ use Rattle.nm_types.specs.Map.{Map}
 use Rattle.nm_model.specs.definitions.Areas.{Mapping}
 use Rattle.nm_model.specs.definitions.Areas.{areas_left, page_outside}
 use Rattle.nm_model.specs.definitions.PageTables.{Task}
-use Rattle.nm_spaces.specs.views.ProcessTable.{cleared}
+use Rattle.nm_spaces.specs.views.ProcessTable.{without_entries}
 use Rattle.nm_spaces.specs.views.AddressSpaces.{AddressSpacesView, spaces_view, without_range}
 use Rattle.nm_spaces.specs.definitions.Tied.{IsTied}
 use Rattle.nm_spaces.proofs.Boxed.{seen, tied}
@@ -21,7 +21,7 @@ invariant_of-self-2 g c =
     let x = c.deref_mut-parts.result.now in
     let a = c.args in
     subst (λ (ts : Map ℕ Task). IsTied ts c.remove.new.self c.clear_between.new.rmap) (sym c.clear_between.ensures.tasks)
-    (subst (λ (n : Mapping). IsTied (cleared x.tasks a.pid a.range.first a.range.end) n c.clear_between.new.rmap) (sym c.in_ok-freed.ensures.ok)
+    (subst (λ (n : Mapping). IsTied (without_entries x.tasks a.pid a.range.first a.range.end) n c.clear_between.new.rmap) (sym c.in_ok-freed.ensures.ok)
     (removed_tied x.tasks x.areas x.rmap c.clear_between.new.rmap a.pid a.range.first a.range.end (tied c.deref_mut-parts.ensures.value c.self.invariant) (shown_outside g c) c.clear_between.ensures.rmap
     (unpinned_pages a.self.now x.tasks x.areas x.rmap a.pid a.range.first a.range.end (seen c.deref_mut-parts.ensures.value c.self.view_is) c.requires.unpinned)))
 

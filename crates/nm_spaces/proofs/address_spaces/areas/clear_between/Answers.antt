@@ -1,6 +1,6 @@
 use Rattle.std.proofs.Common.{ℕ, ◌+◌, ap, sym, subst, ◌∙◌, arith}
 use Rattle.std.specs.Prelude.{Some}
-use Rattle.nm_spaces.specs.views.ProcessTable.{cleared}
+use Rattle.nm_spaces.specs.views.ProcessTable.{without_entries}
 use Rattle.nm_spaces.proofs.ProcessTable.NamedFrames.{names_it, zero_if_none}
 use Rattle.nm_model.specs.definitions.PageTables.{entry_at}
 use Rattle.nm_spaces.specs.definitions.Tied.{IsCleared, IsWithout}
@@ -13,7 +13,7 @@ loop-vpn-init g c =
     let x = c.args in
     let at = c.number-at.ensures in
     record {
-      tasks = sym (cleared_none x.tasks.now x.pid x.first) ∙ ap (cleared x.tasks.now x.pid x.first) (sym at);
+      tasks = sym (cleared_none x.tasks.now x.pid x.first) ∙ ap (without_entries x.tasks.now x.pid x.first) (sym at);
       rmap = subst (λ (n : ℕ). IsCleared x.rmap.now x.rmap.now x.pid x.first n x.tasks.now) (sym at) (mappers_none x.rmap.now x.pid x.first x.tasks.now);
       from = omega (arith, at);
       up = omega (arith, at);
@@ -72,7 +72,7 @@ loop-vpn-preserved g c =
     ]) in
     let at = c.number-at-in-Some.ensures in
     record {
-      tasks = both.0 ∙ ap (λ (n : ℕ). cleared x.tasks.now x.pid x.first (n + 1)) (sym at);
+      tasks = both.0 ∙ ap (λ (n : ℕ). without_entries x.tasks.now x.pid x.first (n + 1)) (sym at);
       rmap = subst (λ (n : ℕ). IsCleared x.rmap.now c.match-frame_named.rmap x.pid x.first (n + 1) x.tasks.now) (sym at) both.1;
       from = omega (arith, at, low, c.new.ensures, c.loop-vpn.invariant.from);
       up = omega (arith, at, low, c.new.ensures, c.loop-vpn.invariant.from, c.if-number.false, c.number.ensures, c.number-in-Some.ensures);
