@@ -5,8 +5,8 @@ ghost use Rattle.std.specs.Thread.{IsSync, IsSend};
 ghost use Rattle.nm_frames.specs.Job.{copied};
 ghost use Rattle.nm_board.specs.Shown.{all_shares};
 ghost use Rattle.nm_board.specs.Tickets.{InTicketOrder};
-ghost use Rattle.nm_threads.specs.Named.{named};
-ghost use Rattle.nm_threads.specs.Hands.{IsReady, IsOver};
+ghost use Rattle.nm_threads.specs.Named.{identity_of};
+ghost use Rattle.nm_threads.specs.Hands.{IsReady, HasNoJob};
 ghost use Rattle.nm_threads.specs.Others.{others_of, IsSizeOfAll};
 
 use crate::gate::Gate;
@@ -124,7 +124,7 @@ fn copy_by<
     gate: &G,
     work: W,
 ) -> (Vec<CopyJob<A>, A>, T)
-    requires room { named board ≡ B.board }
+    requires room { identity_of board ≡ B.board }
     requires own { own ≡ all_shares board }
     requires others { others < 64 }
     requires work { W.pre work }
@@ -147,7 +147,7 @@ fn hire<A: Allocator + Copy, B: Room>(
     own: &mut Hand<A>,
     others: usize,
 ) -> Vec<Worker<A, B>, A>
-    requires room { named board.now ≡ B.board }
+    requires room { identity_of board.now ≡ B.board }
     requires ready { IsReady board.now own.old }
     requires others { others < own.old.shares }
     ensures ready { IsReady board.now own.new }
@@ -167,7 +167,7 @@ fn hire<A: Allocator + Copy, B: Room>(
 
 /// Makes a worker with one share of the hand.
 fn hired<A: Allocator + Copy, B: Room>(board: &Board<A>, own: &mut Hand<A>) -> Worker<A, B>
-    requires room { named board.now ≡ B.board }
+    requires room { identity_of board.now ≡ B.board }
     requires ready { IsReady board.now own.old }
     requires shares { 1 < own.old.shares }
     ensures ready { IsReady board.now own.new }
@@ -196,10 +196,10 @@ fn work_beside<
     gate: &'x G,
     work: W,
 ) -> (Hand<A>, T, Vec<Worker<A, B>, A>)
-    requires room { named board.now ≡ B.board }
+    requires room { identity_of board.now ≡ B.board }
     requires ready { IsReady board.now own }
     requires work { W.pre work }
-    ensures over { IsOver board.now own.shares result.0 }
+    ensures over { HasNoJob board.now own.shares result.0 }
     ensures work { W.post work result.1 }
     ensures workers { vec_len result.2 ≡ vec_len workers }
 {
@@ -208,9 +208,9 @@ fn work_beside<
         thread::scope_env(),
         rt,
         |scope| -> (Hand<A>, T)
-            requires { (named board.now ≡ B.board) × IsReady board.now own × W.pre work
+            requires { (identity_of board.now ≡ B.board) × IsReady board.now own × W.pre work
                 × IsSync G.row × IsSync B.row × IsSend B.row × IsSync A.row × IsSend A.row }
-            ensures { IsOver board.entry.now own.shares result.0 × W.post work result.1 }
+            ensures { HasNoJob board.entry.now own.shares result.0 × W.post work result.1 }
         {
             start_each(scope, all, board, gate);
             let answer = work();
@@ -229,14 +229,14 @@ fn start_each<'s, E, A: Allocator + Copy + Send + Sync, B: Room + Send + Sync, G
     board: &'s Board<A>,
     gate: &'s G,
 )
-    requires { named board.now ≡ B.board }
+    requires { identity_of board.now ≡ B.board }
 {
     for (index, worker) in workers.iter_mut().enumerate() {
         let number = index + 1;
         let started = gate.builder(number).spawn_scoped(
             scope,
             move ||
-                requires { named board.now ≡ B.board }
+                requires { identity_of board.now ≡ B.board }
             { worker.run(board, gate, number) },
         );
         drop(started);
@@ -249,9 +249,9 @@ fn gather<A: Allocator + Copy, B: Room>(
     own: &mut Hand<A>,
     mut workers: Vec<Worker<A, B>, A>,
 )
-    requires room { named board.now ≡ B.board }
-    requires over { IsOver board.now own.old.shares own.old }
-    ensures { IsOver board.now (own.old.shares + vec_len workers) own.new }
+    requires room { identity_of board.now ≡ B.board }
+    requires over { HasNoJob board.now own.old.shares own.old }
+    ensures { HasNoJob board.now (own.old.shares + vec_len workers) own.new }
 {
     while let Some(worker) = workers.pop() {
         let Worker { hand, .. } = worker;

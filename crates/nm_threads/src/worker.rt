@@ -1,8 +1,8 @@
 //! The workers, and what each of them does.
 
 ghost use Rattle.std.specs.Prelude.{◌≡◌, [], true};
-ghost use Rattle.nm_threads.specs.Named.{named};
-ghost use Rattle.nm_threads.specs.Hands.{IsReady, IsOver};
+ghost use Rattle.nm_threads.specs.Named.{identity_of};
+ghost use Rattle.nm_threads.specs.Hands.{IsReady, HasNoJob};
 
 use crate::gate::Gate;
 use crate::room::Room;
@@ -16,7 +16,7 @@ use std::marker::PhantomData;
 pub(crate) struct Worker<A: Allocator + Copy, B: Room> {
     pub(crate) hand: Hand<A>,
     pub(crate) room: PhantomData<B>,
-    pub(crate) ghost own: { named hand.board ≡ B.board },
+    pub(crate) ghost own: { identity_of hand.board ≡ B.board },
     pub(crate) ghost one: { hand.shares ≡ 1 },
     pub(crate) ghost back: { hand.out ≡ [] },
 }
@@ -24,7 +24,7 @@ pub(crate) struct Worker<A: Allocator + Copy, B: Room> {
 impl<A: Allocator + Copy, B: Room> Worker<A, B> {
     /// Works until no job is left to draw.
     pub(crate) fn run<G: Gate>(&mut self, board: &Board<A>, gate: &G, number: usize)
-        requires { named board.now ≡ B.board }
+        requires { identity_of board.now ≡ B.board }
         ensures { self.new.hand.past_end ≡ true }
     {
         if !self.hand.past_end() {
@@ -41,7 +41,7 @@ pub(crate) fn work_off<A: Allocator + Copy, G: Gate>(
     worker: usize,
 )
     requires { IsReady board.now hand.old }
-    ensures { IsOver board.now hand.old.shares hand.new }
+    ensures { HasNoJob board.now hand.old.shares hand.new }
 {
     while let Some(mut job) = board.draw(hand) {
         gate.pass(worker, job.ticket);
