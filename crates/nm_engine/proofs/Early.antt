@@ -8,19 +8,19 @@ use Rattle.nm_memory.specs.declared.pending_access.PendingAccess.{PendingAccess 
 use Rattle.nm_memory.specs.views.Accesses.{pending_shown}
 use Rattle.nm_laws.proofs.Early.Phases.{pages_of, touched_all}
 use Rattle.nm_engine.specs.views.Early.{Prepares}
-use Rattle.nm_engine.specs.views.MidRun.{MidRun}
+use Rattle.nm_engine.specs.views.MidRun.{RunState}
 
-module _ {A : Type 0} (old : MidRun) (target : ℕ) (moves : List Taken) (accesses : List Access) (new : MidRun) (dues : Vec (Left A) A) (h : Prepares old target moves accesses new dues) where
+module _ {A : Type 0} (old : RunState) (target : ℕ) (moves : List Taken) (accesses : List Access) (new : RunState) (dues : Vec (Left A) A) (h : Prepares old target moves accesses new dues) where
   -- the state once all touches are made, and what is then left to do
   pub early_state : new.state ≡ (touched_all old.state target moves accesses).state
-  early_state = ap (λ (x : MidRun). x.state) h.touches.touched ∙ ap (λ (s : State). (all_before_copy s (pages_of moves) accesses).state) h.frames.state
+  early_state = ap (λ (x : RunState). x.state) h.touches.touched ∙ ap (λ (s : State). (all_before_copy s (pages_of moves) accesses).state) h.frames.state
 
   pub early_dues : map pending_shown dues.items ≡ (touched_all old.state target moves accesses).dues
   early_dues = h.touches.dues ∙ ap (λ (s : State). (all_before_copy s (pages_of moves) accesses).dues) h.frames.state
 
   -- the run's frames, and room for those that its pages leave
   pub early_left : new.left ≡ frames_taken moves
-  early_left = ap (λ (x : MidRun). x.left) h.touches.touched ∙ h.frames.left
+  early_left = ap (λ (x : RunState). x.left) h.touches.touched ∙ h.frames.left
 
   pub early_room : length moves ≤ new.room
-  early_room = omega (arith, ap (λ (x : MidRun). x.room) h.touches.touched, h.frames.room)
+  early_room = omega (arith, ap (λ (x : RunState). x.room) h.touches.touched, h.frames.room)

@@ -17,7 +17,7 @@ ghost use Rattle.nm_engine.specs.views.Runs.{asked_by, ran_by};
 ghost use Rattle.nm_model.specs.definitions.Effect.{new_machine};
 ghost use Rattle.nm_model.specs.definitions.Seen.{sight_at};
 ghost use Rattle.nm_model.specs.definitions.Sound.{IsSound};
-ghost use Rattle.nm_engine.specs.definitions.Orders.{EndsSo, GoesByEvents, run_asked};
+ghost use Rattle.nm_engine.specs.definitions.Orders.{EndsSo, GoesByEvents, result_of_run};
 ghost use Rattle.nm_engine.specs.definitions.Does.{Accesses, AsksLast};
 ghost use Rattle.nm_engine.specs.views.Spaces.{spaces_of};
 
@@ -214,7 +214,7 @@ impl<A: Allocator + Copy + Send + Sync> Machine<A> {
 
         // On success
         ensures run { IfOk result
-            (λ flown. ran_by self.new flown ≡ run_asked self.old (asked_by requests.now accesses.now)) }
+            (λ flown. ran_by self.new flown ≡ result_of_run self.old (asked_by requests.now accesses.now)) }
         ensures failed { IfOk result (λ flown. flown.failed ≡ failures flown.statuses.items) }
 
         // Events that lead to it, with jobs that the crew has done, and beside them entries held and these answers given

@@ -7,7 +7,7 @@ ghost use Rattle.nm_laws.specs.Moves.{IsPlanOf};
 ghost use Rattle.std.specs.declared.vec.Vec.{Vec};
 ghost use Rattle.nm_frames.specs.declared.job.CopyJob.{CopyJob as Job};
 ghost use Rattle.nm_model.specs.definitions.Run.{failures, HasOneAll};
-ghost use Rattle.nm_engine.specs.definitions.Orders.{GoesByEvents, run_asked};
+ghost use Rattle.nm_engine.specs.definitions.Orders.{GoesByEvents, result_of_run};
 ghost use Rattle.nm_memory.specs.declared.answers.AccessAnswer.{AccessAnswer as Given};
 ghost use Rattle.nm_engine.specs.views.Flights.{Flight};
 ghost use Rattle.nm_engine.specs.views.Runs.{asked_by, ran_by};
@@ -51,7 +51,7 @@ where
     // On success
     ensures run { IfOk result.1
         (λ flown. ran_by result.0 flown
-        ≡ run_asked machine (asked_by planned.entry.requests.now planned.entry.accesses.now)) }
+        ≡ result_of_run machine (asked_by planned.entry.requests.now planned.entry.accesses.now)) }
     ensures failed { IfOk result.1 (λ flown. flown.failed ≡ failures flown.statuses.items) }
     ensures events { IfOk result.1
         (λ flown. (x : Flight) × (jobs : Vec (Job _) _)

@@ -6,7 +6,7 @@ ghost use Rattle.nm_laws.specs.Laws.{with_moves};
 ghost use Rattle.nm_model.specs.definitions.BeforeCopy.{PendingAccess as Pending, with_fronts, frames_taken, IsPending};
 ghost use Rattle.nm_spaces.specs.definitions.Moves.{all_moved};
 ghost use Rattle.nm_memory.specs.definitions.AfterCopy.{CanDo};
-ghost use Rattle.nm_engine.specs.views.Flights.{AreOutIn, BeginsSo, HoldsMovingPages, IsReadyFor, pair_of, state_meanwhile};
+ghost use Rattle.nm_engine.specs.views.Flights.{AreOutIn, BeginsSo, HoldsMovingPages, IsReadyFor, pair_of, state_in_flight};
 ghost use Rattle.nm_engine.specs.views.Spaces.{spaces_of};
 
 mod prepare;
@@ -35,9 +35,9 @@ pub(crate) struct PreparedRun<A: Allocator + Copy> {
 
 impl<A: Allocator + Copy> Model for PreparedRun<A> {
     ghost use Rattle.nm_engine.specs.views.Shown.{shown_by};
-    ghost use Rattle.nm_engine.specs.views.MidRun.{MidRun, IsKept};
+    ghost use Rattle.nm_engine.specs.views.MidRun.{RunState, IsSoundMachine};
 
-    ghost Value = { MidRun };
+    ghost Value = { RunState };
 
     ghost view = { λ p. record {
       state = shown_by p.spaces p.frames p.online p.totals.moved p.totals.failed;
@@ -45,7 +45,7 @@ impl<A: Allocator + Copy> Model for PreparedRun<A> {
       room = p.frames.room;
     } };
 
-    ghost invariant = { λ p. IsKept (shown_by p.spaces p.frames p.online p.totals.moved p.totals.failed) p.frames.vacated p.spaces.frames };
+    ghost invariant = { λ p. IsSoundMachine (shown_by p.spaces p.frames p.online p.totals.moved p.totals.failed) p.frames.vacated p.spaces.frames };
 }
 
 impl<A: Allocator + Copy + Send + Sync> PreparedRun<A> {
@@ -92,7 +92,7 @@ impl<A: Allocator + Copy + Send + Sync> PreparedRun<A> {
         ensures moves { result.0.moves ≡ moves.now }
         ensures state { (target : ℕ) →
             IsReadyFor self target moves.now →
-            state_meanwhile result.0 result.1.items
+            state_in_flight result.0 result.1.items
             ≡ with_moves (with_fronts self.state target (frames_taken moves.now)) target moves.now }
 
         // The run machine that has begun the same run

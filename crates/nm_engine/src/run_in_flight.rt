@@ -10,7 +10,7 @@ ghost use Rattle.nm_memory.specs.definitions.AfterCopy.{CanDo, all_stored_after_
 ghost use Rattle.nm_memory.specs.views.Accesses.{answer_shown, pending_shown, HasRoom};
 ghost use Rattle.std.specs.declared.vec.Vec.{Vec};
 ghost use Rattle.nm_memory.specs.declared.answers.AccessAnswer.{AccessAnswer as Given};
-ghost use Rattle.nm_engine.specs.views.Flights.{Flight, AnswersEach, AnswersSo, AreOutIn, CanAnswer, EndsAs, FliesSo, state_meanwhile, with_store};
+ghost use Rattle.nm_engine.specs.views.Flights.{Flight, AnswersEach, AnswersSo, AreOutIn, CanAnswer, EndsAs, FliesSo, state_in_flight, with_store};
 
 use crate::machine::{Machine, Totals};
 use crate::run_crew::RunCrew;
@@ -37,13 +37,13 @@ pub(crate) struct RunInFlight<'m, A: Allocator + Copy> {
 }
 
 impl<'m, A: Allocator + Copy> Model for RunInFlight<'m, A> {
-    ghost use Rattle.nm_engine.specs.views.Flights.{Flight, flight_of, IsUnderWay};
+    ghost use Rattle.nm_engine.specs.views.Flights.{Flight, flight_of, IsSoundFlight};
 
     ghost Value = { Flight };
 
     ghost view = { λ r. flight_of r.spaces r.frames r.online r.totals.moved r.totals.failed r.moves.now };
 
-    ghost invariant = { λ r. IsUnderWay (flight_of r.spaces r.frames r.online r.totals.moved r.totals.failed r.moves.now) };
+    ghost invariant = { λ r. IsSoundFlight (flight_of r.spaces r.frames r.online r.totals.moved r.totals.failed r.moves.now) };
 }
 
 impl<'m, A: Allocator + Copy> RunInFlight<'m, A> {
@@ -135,10 +135,10 @@ impl<'m, A: Allocator + Copy + Send + Sync> RunInFlight<'m, A> {
         ensures jobs { result.1.items ≡ map copied jobs.items }
         ensures done { C.has_done crew.now result.1 (Flight × Vec (Given _) _) (result.0, result.2) }
         ensures out { AreOutIn result.0 result.1.items }
-        ensures state { state_meanwhile result.0 result.1.items
-            ≡ (all_after_copy (state_meanwhile self.entry jobs.items) (map pending_shown dues.entry.items)).state }
+        ensures state { state_in_flight result.0 result.1.items
+            ≡ (all_after_copy (state_in_flight self.entry jobs.items) (map pending_shown dues.entry.items)).state }
         ensures answers { map answer_shown result.2.items
-            ≡ (all_after_copy (state_meanwhile self.entry jobs.items) (map pending_shown dues.entry.items)).answers }
+            ≡ (all_after_copy (state_in_flight self.entry jobs.items) (map pending_shown dues.entry.items)).answers }
 
         // The run machine in which jobs are drawn and given back, and such accesses made
         ensures event { FliesSo self.entry jobs.items (map pending_shown dues.entry.items) result.0 result.1.items
@@ -162,7 +162,7 @@ impl<'m, A: Allocator + Copy + Send + Sync> RunInFlight<'m, A> {
         requires out { AreOutIn self jobs.items }
         requires done { map copied jobs.items ≡ jobs.items }
         ensures state { result.0
-            ≡ with_counts (with_all_free (state_meanwhile self.entry jobs.items) (frames_left self.entry.moves))
+            ≡ with_counts (with_all_free (state_in_flight self.entry jobs.items) (frames_left self.entry.moves))
             (length self.entry.moves) (failures statuses.now) }
         ensures failed { result.1 ≡ failures statuses.now }
 

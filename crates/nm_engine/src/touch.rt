@@ -8,7 +8,7 @@ ghost use Rattle.nm_model.specs.definitions.Seen.{frame_of};
 ghost use Rattle.nm_model.specs.definitions.Order.{first_touch_order};
 ghost use Rattle.nm_model.specs.definitions.Touch.{first_free, fill_page, share_page};
 ghost use Rattle.nm_engine.specs.views.Parts.{AreKept, HasSite, TouchesBoth, TouchesLast, noted_by, seen_by, touched_by};
-ghost use Rattle.nm_engine.specs.definitions.Undo.{noted, touched_at};
+ghost use Rattle.nm_engine.specs.definitions.Undo.{undo_of, touched_at};
 
 use crate::prepared_run::undo::Undo;
 use crate::resolved_address::ResolvedAddress;
@@ -159,7 +159,7 @@ impl ResolvedAddress {
         ensures some { IfOk result (λ touched. IsSome touched.frame) }
         ensures undo { IfOk result
             (λ touched. touched.undo
-            ≡ noted self.pid self.vpn self.page None (get page_cmp spaces.old.place self.page) touched.frame) }
+            ≡ undo_of self.pid self.vpn self.page None (get page_cmp spaces.old.place self.page) touched.frame) }
     {
         let ResolvedAddress { pid, vpn, page, .. } = self;
         let Some(frame) = spaces.areas().page_frame(page) else {

@@ -16,17 +16,17 @@ use Rattle.nm_spaces.specs.views.AddressSpaces.{AddressSpacesView, with_pins_of}
 use Rattle.nm_memory.specs.views.Frames.{FramesView}
 use Rattle.nm_engine.specs.views.Shown.{shown_by}
 use Rattle.nm_model.specs.definitions.Sound.{IsSoundInFlight}
-use Rattle.nm_engine.specs.views.MidRun.{IsKept}
+use Rattle.nm_engine.specs.views.MidRun.{IsSoundMachine}
 use Rattle.nm_laws.proofs.Soundness.Called.{repinned_sound, few_pins}
 use Rattle.nm_model.proofs.looks.{sees_page}
 
-module _ (y z : AddressSpacesView) (k : FramesView) (online : List ℕ) (moved failed : ℕ) (page : Page) (n : ℕ) (kept : IsKept (shown_by y k online moved failed) k.vacated y.frames) where
+module _ (y z : AddressSpacesView) (k : FramesView) (online : List ℕ) (moved failed : ℕ) (page : Page) (n : ℕ) (kept : IsSoundMachine (shown_by y k online moved failed) k.vacated y.frames) where
   -- another number of pins, or none
-  pub pinned_kept : (r : Result (Unit {0}) Errno) → OnOk r (n ≤ 65535) → OnOk r (z ≡ with_pins_of y page n) → OnErr r (z ≡ y) → IsKept (shown_by z k online moved failed) k.vacated z.frames
+  pub pinned_kept : (r : Result (Unit {0}) Errno) → OnOk r (n ≤ 65535) → OnOk r (z ≡ with_pins_of y page n) → OnErr r (z ≡ y) → IsSoundMachine (shown_by z k online moved failed) k.vacated z.frames
   pinned_kept (Ok done) most ok err =
-      subst (λ (w : AddressSpacesView). IsKept (shown_by w k online moved failed) k.vacated w.frames) (sym ok)
+      subst (λ (w : AddressSpacesView). IsSoundMachine (shown_by w k online moved failed) k.vacated w.frames) (sym ok)
       (record { sound = repinned_sound (shown_by y k online moved failed) k.vacated page n kept.sound most; as_many = kept.as_many })
-  pinned_kept (Err e) most ok err = subst (λ (w : AddressSpacesView). IsKept (shown_by w k online moved failed) k.vacated w.frames) (sym err) kept
+  pinned_kept (Err e) most ok err = subst (λ (w : AddressSpacesView). IsSoundMachine (shown_by w k online moved failed) k.vacated w.frames) (sym err) kept
 
 -- one pin fewer
 pub one_fewer : (s : State) (l : List ℕ) (page : Page) → IsSoundInFlight s l → (r : Result (Unit {0}) Errno) → OnOk r (pins_of s page - 1 ≤ 65535)

@@ -21,8 +21,8 @@ use Rattle.nm_model.specs.definitions.Touch.{AccessSite, site, site_of, site_ove
 use Rattle.nm_engine.specs.views.Shown.{PagedFrames}
 use Rattle.nm_engine.proofs.Shown.PagedFrames.{HasItsFrames, free_of, stock_page}
 use Rattle.nm_model.specs.views.Table.{Table}
-use Rattle.nm_engine.specs.views.Shown.{shown}
-use Rattle.nm_engine.specs.views.MidRun.{MidRun, IsKept}
+use Rattle.nm_engine.specs.views.Shown.{state_of_parts}
+use Rattle.nm_engine.specs.views.MidRun.{RunState, IsSoundMachine}
 use Rattle.nm_engine.specs.views.Parts.{IsSiteOf, access_site}
 use Rattle.nm_model.specs.definitions.Frames.{bytes_of, overwrite}
 use Rattle.nm_types.proofs.Maps.{page_cmp_total, get-set}
@@ -35,11 +35,11 @@ use Rattle.nm_engine.proofs.Shown.FrameChanges.{page_stocked_shows, written_show
 use Rattle.nm_laws.proofs.Seen.Frames.{page_of_frame, zero_sees}
 
 -- what holds of the state that the parts show holds of the parts
-pub inside : (s : State) (left : List ℕ) (room : ℕ) (y : MidRun) → record { state = s; left = left; room = room } ≡ y → (P : State → Type 0) → P y.state → P s
-inside s left room y is P h = subst (λ (z : MidRun). P z.state) (sym is) h
+pub inside : (s : State) (left : List ℕ) (room : ℕ) (y : RunState) → record { state = s; left = left; room = room } ≡ y → (P : State → Type 0) → P y.state → P s
+inside s left room y is P h = subst (λ (z : RunState). P z.state) (sym is) h
 
-pub outside : (s : State) (left : List ℕ) (room : ℕ) (y : MidRun) → record { state = s; left = left; room = room } ≡ y → (P : State → Type 0) → P s → P y.state
-outside s left room y is P h = subst (λ (z : MidRun). P z.state) is h
+pub outside : (s : State) (left : List ℕ) (room : ℕ) (y : RunState) → record { state = s; left = left; room = room } ≡ y → (P : State → Type 0) → P s → P y.state
+outside s left room y is P h = subst (λ (z : RunState). P z.state) is h
 
 pub spot_there : (s : State) (t : ResolvedAddress) (p : Process) (a : Placed) → IsSiteOf s.processes s.areas t p a → IsSpot s (access_site t p a)
 spot_there s t p a h = record { process = h.known; area = h.over }
@@ -66,67 +66,67 @@ pub found_free : (free : List (List ℕ)) (order : List ℕ) (node : ℕ) → fi
 found_free free order node h = some_length _ (has_front free order node h)
 
 module _ {c : ℕ} (tasks : Map ℕ Process) (m : Table) (x : PagedFrames) (online : List ℕ) (moved failed : ℕ) (l : List ℕ) (t : ResolvedAddress) (p : Process) (a : Placed)
-    (kept : IsKept (shown tasks m x online moved failed) l c) (touch_site : IsSiteOf tasks m.areas t p a) where
+    (kept : IsSoundMachine (state_of_parts tasks m x online moved failed) l c) (touch_site : IsSiteOf tasks m.areas t p a) where
   -- the process sees something else
-  pub seen_kept : (sight : Sight) (new : Map ℕ Process) → new ≡ replace nat_cmp tasks t.pid (seeing p t.vpn sight) → Fits (shown tasks m x online moved failed) (access_site t p a) sight
-      → ((q : Page) → sight_at (shown tasks m x online moved failed) t.pid t.vpn ≡ Some (Sees q) → ⊥) → IsKept (shown new m x online moved failed) l c
+  pub seen_kept : (sight : Sight) (new : Map ℕ Process) → new ≡ replace nat_cmp tasks t.pid (seeing p t.vpn sight) → Fits (state_of_parts tasks m x online moved failed) (access_site t p a) sight
+      → ((q : Page) → sight_at (state_of_parts tasks m x online moved failed) t.pid t.vpn ≡ Some (Sees q) → ⊥) → IsSoundMachine (state_of_parts new m x online moved failed) l c
   seen_kept sight new is fits unseen =
-      subst (λ ps. IsKept (shown ps m x online moved failed) l c) (sym is)
+      subst (λ ps. IsSoundMachine (state_of_parts ps m x online moved failed) l c) (sym is)
       (record {
-        sound = with_sight_sound (shown tasks m x online moved failed) l (access_site t p a) sight kept.sound (spot_there (shown tasks m x online moved failed) t p a touch_site) fits unseen;
+        sound = with_sight_sound (state_of_parts tasks m x online moved failed) l (access_site t p a) sight kept.sound (spot_there (state_of_parts tasks m x online moved failed) t p a touch_site) fits unseen;
         as_many = kept.as_many;
       })
 
   pub sees_now : (sight : Sight) (new : Map ℕ Process) → new ≡ replace nat_cmp tasks t.pid (seeing p t.vpn sight) → sight_in (get nat_cmp new t.pid) t.vpn ≡ Some sight
   sees_now sight new is =
       ap (λ (ps : Map ℕ Process). sight_in (get nat_cmp ps t.pid) t.vpn) is
-      ∙ sight_here (shown tasks m x online moved failed) (access_site t p a) sight (spot_there (shown tasks m x online moved failed) t p a touch_site)
+      ∙ sight_here (state_of_parts tasks m x online moved failed) (access_site t p a) sight (spot_there (state_of_parts tasks m x online moved failed) t p a touch_site)
 
   -- the page has a frame then
   pub filled_shows : (node : ℕ) (new : Map ℕ Process) (after : PagedFrames) → HasItsFrames x → new ≡ replace nat_cmp tasks t.pid (seeing p t.vpn (Sees t.page)) → after ≡ stock_page x t.page node
       → get page_cmp x.place t.page ≡ None → 0 < length (free_of x node)
-      → shown new m after online moved failed ≡ with_sight (placed_front (shown tasks m x online moved failed) node (free_of x node) (shown_at (access_site t p a))) (access_site t p a) (Sees (shown_at (access_site t p a)))
+      → state_of_parts new m after online moved failed ≡ with_sight (placed_front (state_of_parts tasks m x online moved failed) node (free_of x node) (shown_at (access_site t p a))) (access_site t p a) (Sees (shown_at (access_site t p a)))
   filled_shows node new after paged_frames is to unplaced some =
-      ap (λ y. shown new m y online moved failed) to
+      ap (λ y. state_of_parts new m y online moved failed) to
       ∙ page_stocked_shows new m x online moved failed paged_frames t.page node unplaced some
-      ∙ ap (λ ps. placed_front (shown ps m x online moved failed) node (free_of x node) t.page) is
-      ∙ ap (λ q. with_sight (placed_front (shown tasks m x online moved failed) node (free_of x node) q) (access_site t p a) (Sees q)) (sym touch_site.page)
+      ∙ ap (λ ps. placed_front (state_of_parts ps m x online moved failed) node (free_of x node) t.page) is
+      ∙ ap (λ q. with_sight (placed_front (state_of_parts tasks m x online moved failed) node (free_of x node) q) (access_site t p a) (Sees q)) (sym touch_site.page)
 
   pub filled_kept : (node : ℕ) (new : Map ℕ Process) (after : PagedFrames) → HasItsFrames x → new ≡ replace nat_cmp tasks t.pid (seeing p t.vpn (Sees t.page)) → after ≡ stock_page x t.page node
-      → get page_cmp x.place t.page ≡ None → 0 < length (free_of x node) → ((q : Page) → sight_at (shown tasks m x online moved failed) t.pid t.vpn ≡ Some (Sees q) → ⊥)
-      → IsKept (shown new m after online moved failed) l c
+      → get page_cmp x.place t.page ≡ None → 0 < length (free_of x node) → ((q : Page) → sight_at (state_of_parts tasks m x online moved failed) t.pid t.vpn ≡ Some (Sees q) → ⊥)
+      → IsSoundMachine (state_of_parts new m after online moved failed) l c
   filled_kept node new after paged_frames is to unplaced some unseen =
-      subst (λ s. IsKept s l c) (sym (filled_shows node new after paged_frames is to unplaced some))
+      subst (λ s. IsSoundMachine s l c) (sym (filled_shows node new after paged_frames is to unplaced some))
       (record {
-        sound = placed_sound (shown tasks m x online moved failed) l (access_site t p a) node kept.sound (spot_there (shown tasks m x online moved failed) t p a touch_site) unseen
+        sound = placed_sound (state_of_parts tasks m x online moved failed) l (access_site t p a) node kept.sound (spot_there (state_of_parts tasks m x online moved failed) t p a touch_site) unseen
             (subst (λ q. get page_cmp x.place q ≡ None) (sym touch_site.page) unplaced) (ne_eqb (length (free_of x node)) 0 (λ e. absurd (omega (arith, e, some))));
         as_many = kept.as_many;
       })
 
   -- and that is what the definition says
   pub filled_is : (node : ℕ) → first_free x.free (first_touch_order x.layout online t.info.home t.info.allowed t.policy t.page.index) ≡ Some node
-      → fill_page (shown tasks m x online moved failed) (access_site t p a)
-      ≡ Ok (with_sight (placed_front (shown tasks m x online moved failed) node (free_of x node) (shown_at (access_site t p a))) (access_site t p a) (Sees (shown_at (access_site t p a))))
+      → fill_page (state_of_parts tasks m x online moved failed) (access_site t p a)
+      ≡ Ok (with_sight (placed_front (state_of_parts tasks m x online moved failed) node (free_of x node) (shown_at (access_site t p a))) (access_site t p a) (Sees (shown_at (access_site t p a))))
   filled_is node found =
       let order : first_touch_order x.layout online p.home p.allowed a.1.policy (page_of a t.vpn).index ≡ first_touch_order x.layout online t.info.home t.info.allowed t.policy t.page.index =
       λ i. first_touch_order x.layout online (touch_site.info i).home (touch_site.info i).allowed (touch_site.policy i) (touch_site.page i).index in
-      ap (allocate_page (shown tasks m x online moved failed) (access_site t p a)) (ap (first_free x.free) order ∙ found)
+      ap (allocate_page (state_of_parts tasks m x online moved failed) (access_site t p a)) (ap (first_free x.free) order ∙ found)
 
   -- a private page that the process does not see has no frame
   pub private_here : is_shared m.segments t.page.segment ≡ false → is_shared m.segments (shown_at (access_site t p a)).segment ≡ false
   private_here private = ap (λ (q : Page). is_shared m.segments q.segment) touch_site.page ∙ private
 
-  pub private_unplaced_here : ((q : Page) → sight_at (shown tasks m x online moved failed) t.pid t.vpn ≡ Some (Sees q) → ⊥) → is_shared m.segments t.page.segment ≡ false
+  pub private_unplaced_here : ((q : Page) → sight_at (state_of_parts tasks m x online moved failed) t.pid t.vpn ≡ Some (Sees q) → ⊥) → is_shared m.segments t.page.segment ≡ false
       → get page_cmp x.place t.page ≡ None
   private_unplaced_here unseen private =
       ap (get page_cmp x.place) (sym touch_site.page)
-      ∙ private_unplaced (shown tasks m x online moved failed) l (access_site t p a) kept.sound (spot_there (shown tasks m x online moved failed) t p a touch_site) unseen (private_here private)
+      ∙ private_unplaced (state_of_parts tasks m x online moved failed) l (access_site t p a) kept.sound (spot_there (state_of_parts tasks m x online moved failed) t p a touch_site) unseen (private_here private)
 
   -- where the process sees the page of zeros, its page is private
-  pub zero_unplaced : sight_at (shown tasks m x online moved failed) t.pid t.vpn ≡ Some ZeroPage → get page_cmp x.place t.page ≡ None
+  pub zero_unplaced : sight_at (state_of_parts tasks m x online moved failed) t.pid t.vpn ≡ Some ZeroPage → get page_cmp x.place t.page ≡ None
   zero_unplaced sees =
       let zero = kept.sound.zeros t.pid t.vpn sees in
-      let same : zero.0 ≡ shown_at (access_site t p a) = some_is (sym zero.1 ∙ page_at_spot (shown tasks m x online moved failed) (access_site t p a) (spot_there (shown tasks m x online moved failed) t p a touch_site)) in
+      let same : zero.0 ≡ shown_at (access_site t p a) = some_is (sym zero.1 ∙ page_at_spot (state_of_parts tasks m x online moved failed) (access_site t p a) (spot_there (state_of_parts tasks m x online moved failed) t p a touch_site)) in
       private_unplaced_here (zero_sees sees) (ap (λ (q : Page). is_shared m.segments q.segment) (sym touch_site.page ∙ sym same) ∙ zero.2)
 
 pub get_set_same : (places : Map Page ℕ) (page : Page) (frame : ℕ) → get page_cmp (set page_cmp places page frame) page ≡ Some frame
@@ -179,19 +179,19 @@ pub touch_is : (s t : State) (pid address len : ℕ) (writes : Bool) (at : Acces
 touch_is s t pid address len writes at e h = ap (touch_site s writes) e ∙ h
 
 -- bytes that are written into the frame of the page that is seen
-module _ {c : ℕ} (tasks : Map ℕ Process) (m : Table) (x : PagedFrames) (online : List ℕ) (moved failed : ℕ) (l : List ℕ) (pid address f : ℕ) (new : List ℕ) (after : PagedFrames) (kept : IsKept (shown tasks m x online moved failed) l c) (paged_frames : HasItsFrames x)
-    (seen : frame_seen (shown tasks m x online moved failed) pid (address / 4096) ≡ Some f) (is : after ≡ record x { frames = slice_set x.frames f (Some (overwrite (bytes_of x.frames f) (address % 4096) new)) }) where
-  pub written_is : shown tasks m after online moved failed
-      ≡ with_bytes (shown tasks m x online moved failed) (sight_at (shown tasks m x online moved failed) pid (address / 4096)) (address % 4096) new
+module _ {c : ℕ} (tasks : Map ℕ Process) (m : Table) (x : PagedFrames) (online : List ℕ) (moved failed : ℕ) (l : List ℕ) (pid address f : ℕ) (new : List ℕ) (after : PagedFrames) (kept : IsSoundMachine (state_of_parts tasks m x online moved failed) l c) (paged_frames : HasItsFrames x)
+    (seen : frame_seen (state_of_parts tasks m x online moved failed) pid (address / 4096) ≡ Some f) (is : after ≡ record x { frames = slice_set x.frames f (Some (overwrite (bytes_of x.frames f) (address % 4096) new)) }) where
+  pub written_is : state_of_parts tasks m after online moved failed
+      ≡ with_bytes (state_of_parts tasks m x online moved failed) (sight_at (state_of_parts tasks m x online moved failed) pid (address / 4096)) (address % 4096) new
   written_is =
-      let page = page_of_frame x.place (sight_at (shown tasks m x online moved failed) pid (address / 4096)) f seen in
-      ap (λ y. shown tasks m y online moved failed) is
+      let page = page_of_frame x.place (sight_at (state_of_parts tasks m x online moved failed) pid (address / 4096)) f seen in
+      ap (λ y. state_of_parts tasks m y online moved failed) is
       ∙ written_shows tasks m x online moved failed paged_frames page.0 f (address % 4096) new page.2
-      ∙ ap (λ o. with_bytes (shown tasks m x online moved failed) o (address % 4096) new) (sym page.1)
+      ∙ ap (λ o. with_bytes (state_of_parts tasks m x online moved failed) o (address % 4096) new) (sym page.1)
 
-  pub written_kept : address % 4096 + length new ≤ 4096 → IsKept (shown tasks m after online moved failed) l c
+  pub written_kept : address % 4096 + length new ≤ 4096 → IsSoundMachine (state_of_parts tasks m after online moved failed) l c
   written_kept fits =
-      let page = page_of_frame x.place (sight_at (shown tasks m x online moved failed) pid (address / 4096)) f seen in
-      let sound = bytes_sound (shown tasks m x online moved failed) l pid (address / 4096) (address % 4096) new (Some (Sees page.0)) kept.sound page.1 fits in
-      subst (λ s. IsKept s l c) (sym (written_is ∙ ap (λ o. with_bytes (shown tasks m x online moved failed) o (address % 4096) new) page.1))
+      let page = page_of_frame x.place (sight_at (state_of_parts tasks m x online moved failed) pid (address / 4096)) f seen in
+      let sound = bytes_sound (state_of_parts tasks m x online moved failed) l pid (address / 4096) (address % 4096) new (Some (Sees page.0)) kept.sound page.1 fits in
+      subst (λ s. IsSoundMachine s l c) (sym (written_is ∙ ap (λ o. with_bytes (state_of_parts tasks m x online moved failed) o (address % 4096) new) page.1))
       (record { sound = sound; as_many = kept.as_many })

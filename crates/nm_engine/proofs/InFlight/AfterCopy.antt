@@ -18,7 +18,7 @@ use Rattle.nm_model.specs.definitions.Frames.{Store, bytes_of, overwrite}
 use Rattle.nm_engine.specs.views.Shown.{PagedFrames}
 use Rattle.nm_model.specs.definitions.Memory.{stretch_of}
 use Rattle.nm_model.specs.definitions.Touch.{AccessResults}
-use Rattle.nm_engine.specs.views.Shown.{shown, bytes_in}
+use Rattle.nm_engine.specs.views.Shown.{state_of_parts, bytes_in}
 use Rattle.nm_model.specs.definitions.Sound.{PlacesAreApart}
 use Rattle.nm_model.specs.definitions.Touch.{AccessAnswer, Bytes}
 use Rattle.nm_model.specs.definitions.BeforeCopy.{PendingAccess, Known, ToRead, ToWrite, at_page, after_copy, answer_after_copy, all_after_copy}
@@ -52,7 +52,7 @@ written_bytes place store p f g sorted apart placed inside =
 module _ (processes : Map ℕ Process) (table : Table) (online : List ℕ) (moved failed : ℕ) where
   -- the state with these bytes in its frames
   abbrev with_store : PagedFrames → Store → State
-  with_store x store = shown processes table (record x { frames = store }) online moved failed
+  with_store x store = state_of_parts processes table (record x { frames = store }) online moved failed
 
   module _ (x : PagedFrames) (sorted : IsStrictlySortedBy page_cmp (keys_of x.place)) (apart : PlacesAreApart x.place) where
     frame_is : (p : Page) (f : ℕ) → get page_cmp x.place p ≡ Some f → frame_at x.place p ≡ f

@@ -19,7 +19,7 @@ use Rattle.nm_memory.specs.views.Copies.{without_both, emptied, with_copies, Can
 use Rattle.nm_memory.specs.views.Frames.{FramesView, HasAllFrames, free_on}
 use Rattle.nm_model.specs.definitions.Touch.{AccessResults}
 use Rattle.nm_laws.specs.Laws.{with_moves}
-use Rattle.nm_engine.specs.views.MidRun.{MidRun, IsKept}
+use Rattle.nm_engine.specs.views.MidRun.{RunState, IsSoundMachine}
 use Rattle.nm_laws.specs.Moves.{CanMove}
 use Rattle.nm_spaces.specs.definitions.Moves.{CanRemap, all_moved}
 use Rattle.nm_model.specs.definitions.Run.{frames_left}
@@ -144,7 +144,7 @@ module _ (y : AddressSpacesView) (k : FramesView) (online : List ℕ) (moved fai
 
   -- what holds before
   pub record IsPrepared : Type 0 where
-    pub kept : IsKept (shown_by y k online moved failed) k.vacated y.frames
+    pub kept : IsSoundMachine (shown_by y k online moved failed) k.vacated y.frames
     pub reserved : k.vacated ≡ frames_taken taken
     pub shelf : HasAllFrames k
     pub inside : target < length k.free
@@ -154,19 +154,19 @@ module _ (y : AddressSpacesView) (k : FramesView) (online : List ℕ) (moved fai
     pub populated : AllByRecursion (IsPopulated k.frames) k.vacated
 
   -- by what is known of the machine
-  pub prepared : (x : MidRun) → record { state = shown_by y k online moved failed; left = k.vacated; room = k.room } ≡ x → IsKept (shown_by y k online moved failed) k.vacated y.frames → HasAllFrames k
+  pub prepared : (x : RunState) → record { state = shown_by y k online moved failed; left = k.vacated; room = k.room } ≡ x → IsSoundMachine (shown_by y k online moved failed) k.vacated y.frames → HasAllFrames k
       → target < node_count x.state.layout → x.left ≡ frames_taken taken → IsSound (with_fronts (x.state) target (frames_taken taken)) → CanMove (with_fronts (x.state) target (frames_taken taken)) target taken
       → AllByRecursion (IsPending (pages_of taken) (x.state)) dues → AllByRecursion (IsPopulated k.frames) k.vacated → IsPrepared
   prepared x is kept shelf inside taken_now sound can due populated =
-      let same = ap (λ (z : MidRun). node_count z.state.layout) is in
+      let same = ap (λ (z : RunState). node_count z.state.layout) is in
       record {
         kept = kept;
-        reserved = ap (λ (z : MidRun). z.left) is ∙ taken_now;
+        reserved = ap (λ (z : RunState). z.left) is ∙ taken_now;
         shelf = shelf;
         inside = omega (arith, same, shelf.lists, inside);
-        back = subst (λ (z : MidRun). IsSound (with_fronts (z.state) target (frames_taken taken))) (sym is) sound;
-        can = subst (λ (z : MidRun). CanMove (with_fronts (z.state) target (frames_taken taken)) target taken) (sym is) can;
-        due = subst (λ (z : MidRun). AllByRecursion (IsPending (pages_of taken) (z.state)) dues) (sym is) due;
+        back = subst (λ (z : RunState). IsSound (with_fronts (z.state) target (frames_taken taken))) (sym is) sound;
+        can = subst (λ (z : RunState). CanMove (with_fronts (z.state) target (frames_taken taken)) target taken) (sym is) can;
+        due = subst (λ (z : RunState). AllByRecursion (IsPending (pages_of taken) (z.state)) dues) (sym is) due;
         populated = populated;
       }
 
@@ -177,10 +177,10 @@ module _ (y : AddressSpacesView) (k : FramesView) (online : List ℕ) (moved fai
       subst (AllByRecursion (λ f. node_of k.layout f ≡ target)) (sym (tos_are taken state_given target can)) (all_taken (length taken) (free_on given target) k.layout target (sound.frames.own target)) in
       left_populated taken state_given target k.frames sound.bytes.whole (all_leave taken state_given target on can)
 
-  pub lefts_populated : (x : MidRun) → record { state = shown_by y k online moved failed; left = k.vacated; room = k.room } ≡ x
+  pub lefts_populated : (x : RunState) → record { state = shown_by y k online moved failed; left = k.vacated; room = k.room } ≡ x
       → IsSound (with_fronts (x.state) target (frames_taken taken)) → CanMove (with_fronts (x.state) target (frames_taken taken)) target taken → AllByRecursion (IsPopulated k.frames) (frames_left taken)
   lefts_populated x is sound can =
-      lefts (subst (λ (z : MidRun). IsSound (with_fronts (z.state) target (frames_taken taken))) (sym is) sound) (subst (λ (z : MidRun). CanMove (with_fronts (z.state) target (frames_taken taken)) target taken) (sym is) can)
+      lefts (subst (λ (z : RunState). IsSound (with_fronts (z.state) target (frames_taken taken))) (sym is) sound) (subst (λ (z : RunState). CanMove (with_fronts (z.state) target (frames_taken taken)) target taken) (sym is) can)
 
   module _ (h : IsPrepared) where
     shelf_given : HasAllFrames given
@@ -189,7 +189,7 @@ module _ (y : AddressSpacesView) (k : FramesView) (online : List ℕ) (moved fai
     inside_given : target < length given.free
     inside_given = omega (arith, h.inside, length-set k.free target (frames_taken taken ++ free_on k target))
 
-    kept_given : IsKept state_given [] y.frames
+    kept_given : IsSoundMachine state_given [] y.frames
     kept_given = record { sound = h.back; as_many = h.kept.as_many }
 
     done : IsCarried y given online moved failed target taken
@@ -210,8 +210,8 @@ module _ (y : AddressSpacesView) (k : FramesView) (online : List ℕ) (moved fai
     shows : shown_by spaces_then frames_then online moved failed ≡ with_moves state_given target taken
     shows = ap (λ (x : FramesView). shown_by spaces_then x online moved failed) (sym all_is) ∙ done.shown
 
-    kept_then : IsKept (shown_by spaces_then frames_then online moved failed) (frames_left taken) spaces_then.frames
-    kept_then = subst (λ (x : FramesView). IsKept (shown_by spaces_then x online moved failed) x.vacated spaces_then.frames) all_is done.kept
+    kept_then : IsSoundMachine (shown_by spaces_then frames_then online moved failed) (frames_left taken) spaces_then.frames
+    kept_then = subst (λ (x : FramesView). IsSoundMachine (shown_by spaces_then x online moved failed) x.vacated spaces_then.frames) all_is done.kept
 
     -- frames that no move names are home and have their bytes in memory
     abbrev Beside : Store → Type 0
@@ -258,7 +258,7 @@ module _ (y : AddressSpacesView) (k : FramesView) (online : List ℕ) (moved fai
     pub finished_shows : (z : FramesView) → z ≡ record k { frames = finished.store; vacated = frames_left taken; room = z.room } → shown_by spaces_then z online moved failed ≡ (all_after_copy (with_moves state_given target taken) dues).state
     finished_shows z is = ap (λ (x : FramesView). shown_by spaces_then x online moved failed) is ∙ ap (λ (x : AccessResults). x.state) both
 
-    pub finished_kept : (z : FramesView) → z ≡ record k { frames = finished.store; vacated = frames_left taken; room = z.room } → IsKept (shown_by spaces_then z online moved failed) z.vacated spaces_then.frames
+    pub finished_kept : (z : FramesView) → z ≡ record k { frames = finished.store; vacated = frames_left taken; room = z.room } → IsSoundMachine (shown_by spaces_then z online moved failed) z.vacated spaces_then.frames
     finished_kept z is =
         record {
           sound = subst (λ (l : List ℕ). IsSoundInFlight (shown_by spaces_then z online moved failed) l) (sym (ap (λ (x : FramesView). x.vacated) is))

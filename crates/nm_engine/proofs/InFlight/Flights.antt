@@ -19,8 +19,8 @@ use Rattle.nm_memory.proofs.AfterCopy.Refilled.{all_after, all_refilled}
 use Rattle.nm_memory.proofs.Copies.Copied.{refilled_is, can_refill, copies_as_many, copies_home}
 use Rattle.nm_memory.proofs.Copies.Populated.{can_inside, done_populated}
 use Rattle.nm_spaces.specs.views.AddressSpaces.{table_of}
-use Rattle.nm_engine.specs.views.Flights.{Flight, frames_then, state_meanwhile, with_store, AreOutIn}
-use Rattle.nm_engine.specs.views.MidRun.{IsKept}
+use Rattle.nm_engine.specs.views.Flights.{Flight, frames_then, state_in_flight, with_store, AreOutIn}
+use Rattle.nm_engine.specs.views.MidRun.{IsSoundMachine}
 use Rattle.nm_engine.specs.views.Shown.{shown_by, paged_frames}
 use Rattle.nm_engine.proofs.InFlight.AfterCopy.{all_done_shows}
 use Rattle.nm_engine.proofs.InFlight.AllAtOnce.{all_made_sound}
@@ -79,16 +79,16 @@ module _ {A : Type 0} (x : Flight) (jobs : List (CopyJob A)) (dues : List Pendin
   inside : AllByRecursion IsInside dues
   inside = can_inside x.spaces.place x.frames.frames dues can
 
-  both : record { state = shown_by x.spaces (record (frames_then x jobs) { frames = made.store }) x.online x.moved x.failed; answers = made.answers } ≡ all_after_copy (state_meanwhile x jobs) dues
+  both : record { state = shown_by x.spaces (record (frames_then x jobs) { frames = made.store }) x.online x.moved x.failed; answers = made.answers } ≡ all_after_copy (state_in_flight x jobs) dues
   both = all_done_shows x.spaces.processes (table_of x.spaces) x.online x.moved x.failed (paged_frames x.spaces (frames_then x jobs)) h.kept.sound.order.place h.kept.sound.apart dues store_once_home can_then
 
   later : refilled after.frames.frames home_jobs ≡ made.store
   later = ap (λ (s : StoreAfterCopy). s.store) (all_after dues x.spaces.place home_jobs x.frames.frames h.can can).0
 
-  pub answers_then : (all_stored_after_copy x.spaces.place x.frames.frames dues).answers ≡ (all_after_copy (state_meanwhile x jobs) dues).answers
+  pub answers_then : (all_stored_after_copy x.spaces.place x.frames.frames dues).answers ≡ (all_after_copy (state_in_flight x jobs) dues).answers
   answers_then = ap (λ (s : StoreAfterCopy). s.answers) (all_after dues x.spaces.place home_jobs x.frames.frames h.can can).0 ∙ ap (λ (a : AccessResults). a.answers) both
 
-  pub state_then : state_meanwhile after jobs ≡ (all_after_copy (state_meanwhile x jobs) dues).state
+  pub state_then : state_in_flight after jobs ≡ (all_after_copy (state_in_flight x jobs) dues).state
   state_then = ap (λ (s : Store). shown_by x.spaces (record (x.frames) { frames = s }) x.online x.moved x.failed) later ∙ ap (λ (a : AccessResults). a.state) both
 
   pub out_then : AreOutIn after jobs
@@ -100,7 +100,7 @@ module _ {A : Type 0} (x : Flight) (jobs : List (CopyJob A)) (dues : List Pendin
       home = λ f below. subst (λ (s : Store). IsHome s f) (sym later) (done_home x.spaces.place dues store_once_home f (h.whole.home f below));
     };
     kept = record {
-      sound = subst (λ (s : State). IsSoundInFlight s x.frames.vacated) (sym state_then) (all_made_sound dues (state_meanwhile x jobs) x.frames.vacated inside h.kept.sound);
+      sound = subst (λ (s : State). IsSoundInFlight s x.frames.vacated) (sym state_then) (all_made_sound dues (state_in_flight x jobs) x.frames.vacated inside h.kept.sound);
       as_many = h.kept.as_many;
     };
     populated = subst (λ (s : Store). AllByRecursion (IsPopulated s) x.frames.vacated) (sym later)
@@ -114,9 +114,9 @@ out_done {A} x jobs h =
     record {
       can = subst (CanRefill x.frames.frames) same h.can;
       whole = subst (λ (js : List (CopyJob A)). HasAllFrames (let k = x.frames in record k { frames = refilled k.frames js })) same h.whole;
-      kept = subst (λ (js : List (CopyJob A)). IsKept (shown_by x.spaces (let k = x.frames in record k { frames = refilled k.frames js }) x.online x.moved x.failed) x.frames.vacated x.spaces.frames) same h.kept;
+      kept = subst (λ (js : List (CopyJob A)). IsSoundMachine (shown_by x.spaces (let k = x.frames in record k { frames = refilled k.frames js }) x.online x.moved x.failed) x.frames.vacated x.spaces.frames) same h.kept;
       populated = subst (λ (js : List (CopyJob A)). AllByRecursion (IsPopulated (refilled x.frames.frames js)) x.frames.vacated) same h.populated;
     }
 
-pub state_done : {A : Type 0} (x : Flight) (jobs : List (CopyJob A)) → state_meanwhile x (map copied jobs) ≡ state_meanwhile x jobs
+pub state_done : {A : Type 0} (x : Flight) (jobs : List (CopyJob A)) → state_in_flight x (map copied jobs) ≡ state_in_flight x jobs
 state_done {A} x jobs = ap (λ (js : List (CopyJob A)). shown_by x.spaces (let k = x.frames in record k { frames = refilled k.frames js }) x.online x.moved x.failed) (copied_twice jobs)

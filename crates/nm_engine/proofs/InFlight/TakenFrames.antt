@@ -7,7 +7,7 @@ use Rattle.nm_types.specs.declared.taken.Taken.{Taken}
 use Rattle.nm_spaces.specs.views.AddressSpaces.{AddressSpacesView}
 use Rattle.nm_model.specs.definitions.BeforeCopy.{without_fronts, with_fronts, frames_taken}
 use Rattle.nm_memory.specs.views.Frames.{FramesView, free_on}
-use Rattle.nm_engine.specs.views.MidRun.{IsKept}
+use Rattle.nm_engine.specs.views.MidRun.{IsSoundMachine}
 use Rattle.nm_laws.specs.Moves.{CanMove}
 use Rattle.nm_engine.specs.views.Shown.{shown_by}
 use Rattle.nm_model.specs.definitions.Sound.{IsSoundInFlight}
@@ -15,10 +15,10 @@ use Rattle.nm_laws.proofs.Early.Fronts.{fronts_sound}
 use Rattle.nm_laws.proofs.Early.Phases.{tos_are}
 
 -- the machine is sound with the frames taken
-pub taken_kept : (y : AddressSpacesView) (k w : FramesView) (online : List ℕ) (moved failed target : ℕ) (moves : List Taken) → IsKept (shown_by y k online moved failed) k.vacated y.frames
+pub taken_kept : (y : AddressSpacesView) (k w : FramesView) (online : List ℕ) (moved failed target : ℕ) (moves : List Taken) → IsSoundMachine (shown_by y k online moved failed) k.vacated y.frames
     → k.vacated ≡ [] → target < length k.free → CanMove (shown_by y k online moved failed) target moves
     → w ≡ record k { free = slice_set k.free target (drop (length moves) (free_on k target)); vacated = k.vacated ++ frames_taken moves }
-    → IsKept (shown_by y w online moved failed) w.vacated y.frames
+    → IsSoundMachine (shown_by y w online moved failed) w.vacated y.frames
 taken_kept y k w online moved failed target moves kept none inside can is =
     let s = shown_by y k online moved failed in
     let n = length moves in
@@ -26,7 +26,7 @@ taken_kept y k w online moved failed target moves kept none inside can is =
     let there : w ≡ now = is ∙ ap (λ (l : List ℕ). record now { vacated = l ++ frames_taken moves }) none in
     let sound = fronts_sound s target n inside (subst (IsSoundInFlight s) none kept.sound) in
     let known = subst (IsSoundInFlight (without_fronts s target n)) (sym (tos_are moves s target inside can)) sound in
-    subst (λ (x : FramesView). IsKept (shown_by y x online moved failed) x.vacated y.frames) (sym there) (record { sound = known; as_many = kept.as_many })
+    subst (λ (x : FramesView). IsSoundMachine (shown_by y x online moved failed) x.vacated y.frames) (sym there) (record { sound = known; as_many = kept.as_many })
 
 -- frames that are given back are where they were
 pub back_again : (s : State) (target : ℕ) (moves : List Taken) → target < length s.free → CanMove s target moves → with_fronts (without_fronts s target (length moves)) target (frames_taken moves) ≡ s

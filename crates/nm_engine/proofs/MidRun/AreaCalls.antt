@@ -23,8 +23,8 @@ use Rattle.nm_model.specs.views.Table.{Table}
 use Rattle.nm_memory.specs.views.Frames.{FramesView}
 use Rattle.nm_engine.specs.views.Shown.{PagedFrames}
 use Rattle.nm_spaces.specs.views.AddressSpaces.{AddressSpacesView, no_spaces}
-use Rattle.nm_engine.specs.views.Shown.{shown, shown_by}
-use Rattle.nm_engine.specs.views.MidRun.{IsKept}
+use Rattle.nm_engine.specs.views.Shown.{state_of_parts, shown_by}
+use Rattle.nm_engine.specs.views.MidRun.{IsSoundMachine}
 use Rattle.nm_model.specs.definitions.Effect.{info_of}
 use Rattle.nm_laws.proofs.Soundness.Called.{spawn_sound}
 use Rattle.nm_laws.proofs.Soundness.New.{new_sound}
@@ -40,26 +40,26 @@ insert_next (suc k) n m e =
 -- a state that is shown
 module _ (tasks : Map ℕ Process) (areas : Table) (paged : PagedFrames) (online : List ℕ) (moved failed : ℕ) where
   abbrev pub seen : State
-  seen = shown tasks areas paged online moved failed
+  seen = state_of_parts tasks areas paged online moved failed
 
-  pub kept_spawned : {c : ℕ} (now : Map ℕ Process) (pid : ℕ) (p : Process) → paged.vacated ≡ [] → IsKept seen paged.vacated c → spawn_refusal seen pid p.home p.allowed ≡ None → p.sees ≡ [] → now ≡ set nat_cmp tasks pid p
-      → IsKept (shown now areas paged online moved failed) paged.vacated c
+  pub kept_spawned : {c : ℕ} (now : Map ℕ Process) (pid : ℕ) (p : Process) → paged.vacated ≡ [] → IsSoundMachine seen paged.vacated c → spawn_refusal seen pid p.home p.allowed ≡ None → p.sees ≡ [] → now ≡ set nat_cmp tasks pid p
+      → IsSoundMachine (state_of_parts now areas paged online moved failed) paged.vacated c
   kept_spawned now pid p none h fine bare e =
       let sound : IsSound seen = subst (λ l. IsSoundInFlight seen l) none h.sound in
       let after : IsSound (spawn seen pid p.uid p.home p.allowed p.privileged) = spawn_sound seen pid p.uid p.home p.allowed p.privileged sound fine in
-      let same : spawn seen pid p.uid p.home p.allowed p.privileged ≡ shown now areas paged online moved failed =
-      ap (λ ss. shown (set nat_cmp tasks pid (record { uid = p.uid; privileged = p.privileged; home = p.home; allowed = p.allowed; sees = ss })) areas paged online moved failed) (sym bare)
-      ∙ ap (λ m. shown m areas paged online moved failed) (sym e) in
+      let same : spawn seen pid p.uid p.home p.allowed p.privileged ≡ state_of_parts now areas paged online moved failed =
+      ap (λ ss. state_of_parts (set nat_cmp tasks pid (record { uid = p.uid; privileged = p.privileged; home = p.home; allowed = p.allowed; sees = ss })) areas paged online moved failed) (sym bare)
+      ∙ ap (λ m. state_of_parts m areas paged online moved failed) (sym e) in
       record {
-        sound = subst (λ l. IsSoundInFlight (shown now areas paged online moved failed) l) (sym none) (subst IsSound same after);
+        sound = subst (λ l. IsSoundInFlight (state_of_parts now areas paged online moved failed) l) (sym none) (subst IsSound same after);
         as_many = h.as_many;
       }
 
   -- other areas
-  pub kept_mapped : {c : ℕ} (now : Table) → paged.vacated ≡ [] → IsKept seen paged.vacated c → (IsSound seen → IsSound (shown tasks now paged online moved failed)) → IsKept (shown tasks now paged online moved failed) paged.vacated c
+  pub kept_mapped : {c : ℕ} (now : Table) → paged.vacated ≡ [] → IsSoundMachine seen paged.vacated c → (IsSound seen → IsSound (state_of_parts tasks now paged online moved failed)) → IsSoundMachine (state_of_parts tasks now paged online moved failed) paged.vacated c
   kept_mapped now none h keeps =
       record {
-        sound = subst (λ l. IsSoundInFlight (shown tasks now paged online moved failed) l) (sym none) (keeps (subst (λ l. IsSoundInFlight seen l) none h.sound));
+        sound = subst (λ l. IsSoundInFlight (state_of_parts tasks now paged online moved failed) l) (sym none) (keeps (subst (λ l. IsSoundInFlight seen l) none h.sound));
         as_many = h.as_many;
       }
 
@@ -117,7 +117,7 @@ spawn_full s pid home allowed o some e unknown there nodes below full =
 pub list_fine : (s : State) (node : ℕ) → node < node_count s.layout → list_refusal s node ≡ None
 list_fine s node h = ap (λ b. if b then Some Einval else None) (lt-leb (node_count s.layout) node h)
 
-pub kept_new : (g : Layout) (s : State) (left : List ℕ) (frames : ℕ) → s ≡ new_machine g → left ≡ [] → frames ≡ frame_count g → IsKept s left frames
+pub kept_new : (g : Layout) (s : State) (left : List ℕ) (frames : ℕ) → s ≡ new_machine g → left ≡ [] → frames ≡ frame_count g → IsSoundMachine s left frames
 kept_new g s left frames e none count =
     let sound : IsSound s = subst IsSound (sym e) (new_sound g) in
     record {

@@ -13,7 +13,7 @@ use Rattle.nm_memory.specs.views.Frames.{FramesView}
 use Rattle.nm_engine.specs.views.Shown.{shown_by, paged_frames}
 use Rattle.nm_model.specs.definitions.Effect.{map_refusal, attach_refusal}
 use Rattle.nm_model.specs.definitions.Sound.{IsSound}
-use Rattle.nm_engine.specs.views.MidRun.{IsKept}
+use Rattle.nm_engine.specs.views.MidRun.{IsSoundMachine}
 use Rattle.nm_engine.proofs.MidRun.AreaCalls.{kept_mapped}
 use Rattle.nm_laws.proofs.Soundness.Called.{map_sound, attach_sound}
 use Rattle.nm_laws.proofs.Soundness.Policed.{policy_sound}
@@ -24,28 +24,28 @@ made_or_same (Ok value) h same made = made h.0 h.1
 made_or_same (Err (Refused errno)) h same made = same h.1
 made_or_same (Err HostMemory) h same made = same h
 
-module _ (y z : AddressSpacesView) (k : FramesView) (online : List ℕ) (moved failed : ℕ) (is : z ≡ with_mapped y (mapped_of z)) (kept : IsKept (shown_by y k online moved failed) k.vacated y.frames) where
-  pub kept_same : mapped_of z ≡ mapped_of y → IsKept (shown_by z k online moved failed) k.vacated z.frames
-  kept_same same = subst (λ (w : AddressSpacesView). IsKept (shown_by w k online moved failed) k.vacated w.frames) (sym (is ∙ ap (with_mapped y) same)) kept
+module _ (y z : AddressSpacesView) (k : FramesView) (online : List ℕ) (moved failed : ℕ) (is : z ≡ with_mapped y (mapped_of z)) (kept : IsSoundMachine (shown_by y k online moved failed) k.vacated y.frames) where
+  pub kept_same : mapped_of z ≡ mapped_of y → IsSoundMachine (shown_by z k online moved failed) k.vacated z.frames
+  kept_same same = subst (λ (w : AddressSpacesView). IsSoundMachine (shown_by w k online moved failed) k.vacated w.frames) (sym (is ∙ ap (with_mapped y) same)) kept
 
-  kept_after : (m : Mapping) → mapped_of z ≡ m → k.vacated ≡ [] → (IsSound (shown_by y k online moved failed) → IsSound (shown_by (with_mapped y m) k online moved failed)) → IsKept (shown_by z k online moved failed) k.vacated z.frames
+  kept_after : (m : Mapping) → mapped_of z ≡ m → k.vacated ≡ [] → (IsSound (shown_by y k online moved failed) → IsSound (shown_by (with_mapped y m) k online moved failed)) → IsSoundMachine (shown_by z k online moved failed) k.vacated z.frames
   kept_after m now none keeps =
-      subst (λ (w : AddressSpacesView). IsKept (shown_by w k online moved failed) k.vacated w.frames) (sym (is ∙ ap (with_mapped y) now))
+      subst (λ (w : AddressSpacesView). IsSoundMachine (shown_by w k online moved failed) k.vacated w.frames) (sym (is ∙ ap (with_mapped y) now))
       (kept_mapped y.processes (table_of y) (paged_frames y k) online moved failed (table_of (with_mapped y m)) none kept keeps)
 
   pub kept_inserted : (pid address pages : ℕ) (shared : Bool) → k.vacated ≡ [] → map_refusal (shown_by y k online moved failed) pid address pages ≡ None
-      → mapped_of z ≡ with_segment (mapped_of y) pid address pages shared → IsKept (shown_by z k online moved failed) k.vacated z.frames
+      → mapped_of z ≡ with_segment (mapped_of y) pid address pages shared → IsSoundMachine (shown_by z k online moved failed) k.vacated z.frames
   kept_inserted pid address pages shared none fine now =
       kept_after (with_segment (mapped_of y) pid address pages shared) now none (λ sound. map_sound (shown_by y k online moved failed) pid address pages shared sound fine)
 
   pub kept_attached : (pid address segment offset pages : ℕ) → k.vacated ≡ [] → attach_refusal (shown_by y k online moved failed) pid address segment offset pages ≡ None
-      → mapped_of z ≡ with_area (mapped_of y) pid address segment offset pages → IsKept (shown_by z k online moved failed) k.vacated z.frames
+      → mapped_of z ≡ with_area (mapped_of y) pid address segment offset pages → IsSoundMachine (shown_by z k online moved failed) k.vacated z.frames
   kept_attached pid address segment offset pages none fine now =
       kept_after (with_area (mapped_of y) pid address segment offset pages) now none (λ sound. attach_sound (shown_by y k online moved failed) pid address segment offset pages sound fine)
 
 -- a policy that is set keeps a machine sound, also between the beginning and the end of a run
-pub kept_policed : (y z : AddressSpacesView) (k : FramesView) (online : List ℕ) (moved failed : ℕ) → IsKept (shown_by y k online moved failed) k.vacated y.frames → (pid first end : ℕ) (policy : Policy)
-    → z ≡ with_mapped y (with_policy (mapped_of y) pid first end policy) → IsKept (shown_by z k online moved failed) k.vacated z.frames
+pub kept_policed : (y z : AddressSpacesView) (k : FramesView) (online : List ℕ) (moved failed : ℕ) → IsSoundMachine (shown_by y k online moved failed) k.vacated y.frames → (pid first end : ℕ) (policy : Policy)
+    → z ≡ with_mapped y (with_policy (mapped_of y) pid first end policy) → IsSoundMachine (shown_by z k online moved failed) k.vacated z.frames
 kept_policed y z k online moved failed kept pid first end policy now =
-    subst (λ (w : AddressSpacesView). IsKept (shown_by w k online moved failed) k.vacated w.frames) (sym now)
+    subst (λ (w : AddressSpacesView). IsSoundMachine (shown_by w k online moved failed) k.vacated w.frames) (sym now)
     (record { sound = policy_sound (shown_by y k online moved failed) k.vacated pid first end policy kept.sound; as_many = kept.as_many })

@@ -2,11 +2,11 @@
 use Rattle.std.proofs.Common.{ℕ, List}
 use Rattle.nm_spaces.specs.views.AddressSpaces.{AddressSpacesView}
 use Rattle.nm_memory.specs.views.Frames.{FramesView}
-use Rattle.nm_engine.specs.views.MidRun.{IsKept}
+use Rattle.nm_engine.specs.views.MidRun.{IsSoundMachine}
 use Rattle.nm_engine.specs.views.Parts.{AreKept}
 use Rattle.nm_engine.specs.views.Shown.{shown_by}
 
-pub whatever_counted : (y : AddressSpacesView) (k : FramesView) (online : List ℕ) (moved failed : ℕ) → IsKept (shown_by y k online moved failed) k.vacated y.frames → AreKept y k online
+pub whatever_counted : (y : AddressSpacesView) (k : FramesView) (online : List ℕ) (moved failed : ℕ) → IsSoundMachine (shown_by y k online moved failed) k.vacated y.frames → AreKept y k online
 whatever_counted y k online moved failed h m f =
     let s = h.sound in
     record {

@@ -22,8 +22,8 @@ use Rattle.nm_model.specs.definitions.Sound.{times, FramesAreOnce, IsSoundInFlig
 use Rattle.nm_spaces.specs.views.AddressSpaces.{AddressSpacesView, mapped_of, table_of, without_range}
 use Rattle.nm_memory.specs.views.Frames.{FramesView, with_freed, pool_of, CanFree}
 use Rattle.nm_engine.specs.views.Shown.{PagedFrames}
-use Rattle.nm_engine.specs.views.Shown.{bytes_in, shown, paged_frames, shown_by}
-use Rattle.nm_engine.specs.views.MidRun.{IsKept}
+use Rattle.nm_engine.specs.views.Shown.{bytes_in, state_of_parts, paged_frames, shown_by}
+use Rattle.nm_engine.specs.views.MidRun.{IsSoundMachine}
 use Rattle.std.proofs.lemmas.Map.Entries.{sum_by-remove_entry}
 use Rattle.nm_types.proofs.Cases.{some_none, none_is_not}
 use Rattle.nm_laws.proofs.Soundness.Frames.{here, times_push}
@@ -88,7 +88,7 @@ keys_left false m n p e = keys_same-without page_cmp m n p e
 
 module _ (processes : Map ℕ Process) (t : Table) (online : List ℕ) (moved failed : ℕ) where
   abbrev of : PagedFrames → State
-  of x = shown processes t x online moved failed
+  of x = state_of_parts processes t x online moved failed
 
   -- a page that no area covers
   frame_gone : (x : PagedFrames) (p : Page) (o : Option ℕ) → get page_cmp x.place p ≡ o → keys_of x.pins ≡ keys_of x.place
@@ -182,8 +182,8 @@ module _ (y : AddressSpacesView) (k : FramesView) (online : List ℕ) (moved fai
       ∙ ap (λ (s : FramesView). shown_by gone s online moved failed) (free ∙ ap (λ fs. record k { free = (with_freed (pool_of k) (frames_of fs)).lists }) lost_page)
       ∙ sym (pages_gone_shows gone.processes (table_of gone) online moved failed (pages_gone y.areas pid first end) (paged_frames y k) keys)
 
-  pub gone_kept : (z : AddressSpacesView) (after : FramesView) (freed : List (Page × ℕ)) → first ≤ end → k.vacated ≡ [] → IsKept (shown_by y k online moved failed) k.vacated y.frames → z ≡ without_range y pid first end
-      → freed ≡ frames_lost (mapped_of y) pid first end → after ≡ record k { free = (with_freed (pool_of k) (frames_of freed)).lists } → IsKept (shown_by z after online moved failed) after.vacated z.frames
+  pub gone_kept : (z : AddressSpacesView) (after : FramesView) (freed : List (Page × ℕ)) → first ≤ end → k.vacated ≡ [] → IsSoundMachine (shown_by y k online moved failed) k.vacated y.frames → z ≡ without_range y pid first end
+      → freed ≡ frames_lost (mapped_of y) pid first end → after ≡ record k { free = (with_freed (pool_of k) (frames_of freed)).lists } → IsSoundMachine (shown_by z after online moved failed) after.vacated z.frames
   gone_kept z after freed range none kept is lost_page free =
       let s = shown_by y k online moved failed in
       let same = gone_shows z after freed kept.sound.pins.same_pages is lost_page free in

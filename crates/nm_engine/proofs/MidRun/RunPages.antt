@@ -13,9 +13,9 @@ use Rattle.nm_model.specs.definitions.Run.{moved_page, decision, one_request, ea
 use Rattle.nm_engine.specs.views.Shown.{PagedFrames}
 use Rattle.nm_engine.proofs.Shown.PagedFrames.{HasItsFrames, free_of, restock_page, free_all}
 use Rattle.nm_model.specs.views.Table.{Table}
-use Rattle.nm_engine.specs.views.Shown.{shown}
+use Rattle.nm_engine.specs.views.Shown.{state_of_parts}
 use Rattle.nm_model.specs.definitions.Sound.{IsSoundInFlight}
-use Rattle.nm_engine.specs.views.MidRun.{IsKept}
+use Rattle.nm_engine.specs.views.MidRun.{IsSoundMachine}
 use Rattle.nm_laws.proofs.Soundness.Frames.{left-append}
 use Rattle.nm_laws.proofs.Soundness.Moved.{decided_sound, freed_sound, counted_sound}
 use Rattle.nm_engine.proofs.Shown.FrameChanges.{restocked_shows, freed_shows}
@@ -35,38 +35,38 @@ move_left s page from target some = sym (ap (λ fs. frames_left (moved_page s ta
 module _ (tasks : Map ℕ Process) (m : Table) (x : PagedFrames) (online : List ℕ) (moved failed : ℕ) where
   -- a run's end
   pub end_shows : (y : PagedFrames) (n k total failures : ℕ) → y ≡ free_all x → total ≡ total_after moved n → failures ≡ total_after failed k
-      → shown tasks m y online total failures ≡ with_counts (with_all_free (shown tasks m x online moved failed) x.vacated) n k
+      → state_of_parts tasks m y online total failures ≡ with_counts (with_all_free (state_of_parts tasks m x online moved failed) x.vacated) n k
   end_shows y n k total failures freed t f =
-      let s = with_all_free (shown tasks m x online moved failed) x.vacated in
-      let same : shown tasks m (free_all x) online moved failed ≡ s = freed_shows tasks m x online moved failed in
-      ap (λ y. shown tasks m y online total failures) freed
+      let s = with_all_free (state_of_parts tasks m x online moved failed) x.vacated in
+      let same : state_of_parts tasks m (free_all x) online moved failed ≡ s = freed_shows tasks m x online moved failed in
+      ap (λ y. state_of_parts tasks m y online total failures) freed
       ∙ ap (λ (s : State). record s { moved = total; failed = failures }) same
       ∙ ap (λ n. record s { moved = n; failed = failures }) (t ∙ ap (λ (s : State). total_after s.moved n) same)
       ∙ ap (λ k. record s { moved = total_after s.moved n; failed = k }) (f ∙ ap (λ (s : State). total_after s.failed k) same)
 
   pub end_kept : {c : ℕ} (y : PagedFrames) (n k total failures : ℕ) → y ≡ free_all x → total ≡ total_after moved n → failures ≡ total_after failed k
-      → IsKept (shown tasks m x online moved failed) x.vacated c → IsKept (shown tasks m y online total failures) y.vacated c
+      → IsSoundMachine (state_of_parts tasks m x online moved failed) x.vacated c → IsSoundMachine (state_of_parts tasks m y online total failures) y.vacated c
   end_kept y n k total failures freed t f h =
-      let s = shown tasks m x online moved failed in
+      let s = state_of_parts tasks m x online moved failed in
       record {
-        sound = subst (λ l. IsSoundInFlight (shown tasks m y online total failures) l) (sym (ap (λ (y : PagedFrames). y.vacated) freed))
+        sound = subst (λ l. IsSoundInFlight (state_of_parts tasks m y online total failures) l) (sym (ap (λ (y : PagedFrames). y.vacated) freed))
             (subst (λ s. IsSoundInFlight s []) (sym (end_shows y n k total failures freed t f)) (counted_sound (with_all_free s x.vacated) [] n k (freed_sound x.vacated s h.sound)));
         as_many = h.as_many ∙ sym (ap (λ (y : PagedFrames). frame_count y.layout) freed);
       }
 
   -- a page that moves
   pub move_shows : (y : PagedFrames) (page : Page) (from target : ℕ) → HasItsFrames x → get page_cmp x.place page ≡ Some from → 0 < length (free_of x target) → y ≡ restock_page x page from target
-      → shown tasks m y online moved failed ≡ (decision (shown tasks m x online moved failed) target (Move page from)).state
+      → state_of_parts tasks m y online moved failed ≡ (decision (state_of_parts tasks m x online moved failed) target (Move page from)).state
   move_shows y page from target h placed some is =
       let front = front_there (free_of x target) some in
-      ap (λ y. shown tasks m y online moved failed) is
+      ap (λ y. state_of_parts tasks m y online moved failed) is
       ∙ restocked_shows tasks m x online moved failed h page from target (slice_index (free_of x target) 0) (drop 1 (free_of x target)) placed front
-      ∙ sym (ap (λ fs. (moved_page (shown tasks m x online moved failed) target page from fs).state) front)
+      ∙ sym (ap (λ fs. (moved_page (state_of_parts tasks m x online moved failed) target page from fs).state) front)
 
   pub move_kept : {c : ℕ} (y : PagedFrames) (page : Page) (from target : ℕ) → HasItsFrames x → get page_cmp x.place page ≡ Some from → 0 < length (free_of x target) → y ≡ restock_page x page from target
-      → IsKept (shown tasks m x online moved failed) x.vacated c → IsKept (shown tasks m y online moved failed) y.vacated c
+      → IsSoundMachine (state_of_parts tasks m x online moved failed) x.vacated c → IsSoundMachine (state_of_parts tasks m y online moved failed) y.vacated c
   move_kept y page from target paged_frames placed some is h =
-      let s = shown tasks m x online moved failed in
+      let s = state_of_parts tasks m x online moved failed in
       let left_now : x.vacated ++ frames_left (decision s target (Move page from)).taken ≡ y.vacated =
       ap (λ l. x.vacated ++ l) (sym (move_left s page from target some)) ∙ sym (ap (λ (y : PagedFrames). y.vacated) is) in
       record {

@@ -18,17 +18,17 @@ use Rattle.nm_laws.proofs.InFlight.Beginning.{begun_is}
 use Rattle.nm_laws.proofs.InFlight.Orders.{allowed, before_end, every_order_is_the_run, flies}
 use Rattle.nm_laws.proofs.InFlight.Progress.{every_run_can_end}
 use Rattle.nm_laws.proofs.InFlight.Reading.{every_sound_state_is_read}
-use Rattle.nm_engine.specs.definitions.Orders.{GoesByEvents, RunAsked, run_asked}
-use Rattle.nm_engine.specs.views.Flights.{EndsAs, Flight, HoldsMovingPages, pair_of, state_meanwhile}
+use Rattle.nm_engine.specs.definitions.Orders.{GoesByEvents, RunRequest, result_of_run}
+use Rattle.nm_engine.specs.views.Flights.{EndsAs, Flight, HoldsMovingPages, pair_of, state_in_flight}
 use Rattle.nm_engine.proofs.InFlight.Moments.{at_moment, pages_of}
 
 module _ {A : Type 0} where
   -- a machine at rest in the state before begins the run of the plan, comes to where the engine's run is while its jobs are
   -- done, and ends as that does
-  pub goes_by_events : (s : State) (asked : RunAsked) (p : RunPlan) (moves : List Taken) (x : Flight) (jobs : List (CopyJob A)) (ran : RunResult)
+  pub goes_by_events : (s : State) (asked : RunRequest) (p : RunPlan) (moves : List Taken) (x : Flight) (jobs : List (CopyJob A)) (ran : RunResult)
       → IsSound s → HasOneAll asked.wanted → IsPlanOf s asked.target asked.wanted p → moves ≡ p.taken → x.moves ≡ moves → HoldsMovingPages x
-      → state_meanwhile x jobs ≡ (all_in_flight (with_moves s asked.target moves) (pages_of moves) asked.accesses).state
-      → map pair_of jobs ≡ map (λ t. (t.from, t.to)) moves → EndsAs x jobs ran.statuses ran.state → ran ≡ run_asked s asked → GoesByEvents s asked x jobs ran
+      → state_in_flight x jobs ≡ (all_in_flight (with_moves s asked.target moves) (pages_of moves) asked.accesses).state
+      → map pair_of jobs ≡ map (λ t. (t.from, t.to)) moves → EndsAs x jobs ran.statuses ran.state → ran ≡ result_of_run s asked → GoesByEvents s asked x jobs ran
   goes_by_events s asked p moves x jobs ran sound alike plan taken same held shows pairs finish made =
       let t = asked.target in
       let ws = asked.wanted in
@@ -46,7 +46,7 @@ module _ {A : Type 0} where
       let begins : state_of k ≡ with_moves s t moves = first.state ∙ ap (λ (z : State). (each_request z t ws).state) read.2 ∙ plan.agrees.state ∙ ap (with_moves s t) (sym taken) in
       let accesses = last.accesses ∙ end.4 in
       let midway : IsInFlight last.now (pages_of moves) = subst (λ (ts : List Taken). IsInFlight last.now (pages_of ts)) taken_is flown.midway in
-      let state : state_of last.now ≡ state_meanwhile x jobs = flown.state ∙ (λ i. (all_in_flight (begins i) (pages_of (taken_is i)) (accesses i)).state) ∙ sym shows in
+      let state : state_of last.now ≡ state_in_flight x jobs = flown.state ∙ (λ i. (all_in_flight (begins i) (pages_of (taken_is i)) (accesses i)).state) ∙ sym shows in
       let pair : List Taken → List (ℕ × ℕ) = map (λ t. (t.from, t.to)) in
       let ends = flown.ends ∙ first.ends ∙ ap pair taken_is in
       let moment = at_moment x jobs last.now held (subst (λ (ts : List Taken). IsInFlight last.now (pages_of ts)) (sym same) midway) state (ends ∙ ap pair (sym same)) in

@@ -10,7 +10,7 @@ use Rattle.nm_spaces.specs.views.AddressSpaces.{AddressSpacesView, with_moved, w
 use Rattle.nm_memory.specs.views.Frames.{FramesView, HasAllFrames, free_on}
 use Rattle.nm_engine.proofs.Shown.PagedFrames.{HasItsFrames, stock_page, restock_page}
 use Rattle.nm_engine.specs.views.Shown.{paged_frames, shown_by}
-use Rattle.nm_engine.specs.views.MidRun.{IsKept}
+use Rattle.nm_engine.specs.views.MidRun.{IsSoundMachine}
 use Rattle.nm_laws.proofs.Soundness.Counted.{index_front}
 use Rattle.nm_engine.proofs.Shown.FreeFrames.{front_below, apart_from_front, stocked_is}
 
@@ -20,7 +20,7 @@ pub record IsSpare (y : AddressSpacesView) (k : FramesView) (frame : ℕ) : Type
   pub known : frame < y.frames
   pub place : (q : Page) → get page_cmp y.place q ≡ Some frame → ⊥
 
-module _ (y : AddressSpacesView) (k : FramesView) (online : List ℕ) (moved failed : ℕ) (kept : IsKept (shown_by y k online moved failed) k.vacated y.frames) (shelf : HasAllFrames k) where
+module _ (y : AddressSpacesView) (k : FramesView) (online : List ℕ) (moved failed : ℕ) (kept : IsSoundMachine (shown_by y k online moved failed) k.vacated y.frames) (shelf : HasAllFrames k) where
   pub kept_stocked : HasItsFrames (paged_frames y k)
   kept_stocked = stocked_is y k online moved failed k.vacated refl kept.sound shelf
 

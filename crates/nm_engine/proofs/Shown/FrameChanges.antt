@@ -20,7 +20,7 @@ use Rattle.nm_engine.specs.views.Shown.{PagedFrames}
 use Rattle.nm_memory.specs.views.Frames.{with_freed}
 use Rattle.nm_engine.proofs.Shown.PagedFrames.{HasItsFrames, free_of, stock_page, restock_page, free_all}
 use Rattle.nm_model.specs.views.Table.{Table}
-use Rattle.nm_engine.specs.views.Shown.{bytes_in, shown}
+use Rattle.nm_engine.specs.views.Shown.{bytes_in, state_of_parts}
 use Rattle.nm_types.proofs.Maps.{page_cmp_total, exact_page, get-values, with_values-set, with_values-moved, set_agree, set_same, replace_is_set}
 use Rattle.nm_laws.proofs.Soundness.Once.{places_are_apart}
 use Rattle.nm_engine.proofs.Shown.FreeFrames.{place_below, front_below, apart_from_front}
@@ -47,14 +47,14 @@ keys_shown F (e ∷ m) = ap (λ ks. e.0 ∷ ks) (keys_shown F m)
 module _ (tasks : Map ℕ Process) (m : Table) (x : PagedFrames) (online : List ℕ) (moved failed : ℕ) where
   -- new bytes in a page
   pub written_shows : HasItsFrames x → (page : Page) (frame at : ℕ) (new : List ℕ) → get page_cmp x.place page ≡ Some frame
-      → shown tasks m (record x { frames = slice_set x.frames frame (Some (overwrite (bytes_of x.frames frame) at new)) }) online moved failed
-      ≡ record (shown tasks m x online moved failed) { bytes = replace page_cmp (bytes_in x.frames x.place) page (overwrite (unwrap_or (get page_cmp (bytes_in x.frames x.place) page) []) at new) }
+      → state_of_parts tasks m (record x { frames = slice_set x.frames frame (Some (overwrite (bytes_of x.frames frame) at new)) }) online moved failed
+      ≡ record (state_of_parts tasks m x online moved failed) { bytes = replace page_cmp (bytes_in x.frames x.place) page (overwrite (unwrap_or (get page_cmp (bytes_in x.frames x.place) page) []) at new) }
   written_shows h page frame at new placed =
       let whole = overwrite (bytes_of x.frames frame) at new in
       let frames = slice_set x.frames frame (Some whole) in
       let found : get page_cmp (bytes_in x.frames x.place) page ≡ Some (bytes_of x.frames frame) =
       get-values exact_page (λ q. bytes_of x.frames) x.place page ∙ ap (option_map (bytes_of x.frames)) placed in
-      ap (λ b. record (shown tasks m x online moved failed) { bytes = b })
+      ap (λ b. record (state_of_parts tasks m x online moved failed) { bytes = b })
       (ap (bytes_in frames) (sym (set_same page_cmp_total exact_page x.place page frame h.in_order placed))
       ∙ with_values-set exact_page (λ q. bytes_of frames) x.place page frame
       ∙ ap (set page_cmp (bytes_in frames x.place) page) (new_bytes x frame whole h (place_below x page frame h placed))
@@ -67,12 +67,12 @@ module _ (tasks : Map ℕ Process) (m : Table) (x : PagedFrames) (online : List 
 
   -- a page of zeros in the front frame of a node
   pub page_stocked_shows : HasItsFrames x → (page : Page) (node : ℕ) → get page_cmp x.place page ≡ None → 0 < length (free_of x node)
-      → shown tasks m (stock_page x page node) online moved failed ≡ with_page (without_front_frame (shown tasks m x online moved failed) node) page (slice_index (free_of x node) 0)
+      → state_of_parts tasks m (stock_page x page node) online moved failed ≡ with_page (without_front_frame (state_of_parts tasks m x online moved failed) node) page (slice_index (free_of x node) 0)
   page_stocked_shows h page node unplaced some =
       let frame = slice_index (free_of x node) 0 in
       let frames = slice_set x.frames frame (Some (replicate 4096 0)) in
       let front = front_got (free_of x node) some in
-      let s = without_front_frame (shown tasks m x online moved failed) node in
+      let s = without_front_frame (state_of_parts tasks m x online moved failed) node in
       let bytes = with_values-set exact_page (λ q. bytes_of frames) x.place page frame
       ∙ ap (set page_cmp (bytes_in frames x.place) page) (new_bytes x frame (replicate 4096 0) h (front_below x node frame h front))
       ∙ set_agree page_cmp_total exact_page (λ q. bytes_of frames) (λ q. bytes_of x.frames) x.place page (replicate 4096 0) h.in_order
@@ -81,10 +81,10 @@ module _ (tasks : Map ℕ Process) (m : Table) (x : PagedFrames) (online : List 
 
   -- a page goes to the front frame of a node with its bytes
   pub restocked_shows : HasItsFrames x → (page : Page) (from node frame : ℕ) (rest : List ℕ) → get page_cmp x.place page ≡ Some from → free_of x node ≡ frame ∷ rest
-      → shown tasks m (restock_page x page from node) online moved failed
-      ≡ record (shown tasks m x online moved failed) { place = set page_cmp x.place page frame; free = slice_set x.free node rest }
+      → state_of_parts tasks m (restock_page x page from node) online moved failed
+      ≡ record (state_of_parts tasks m x online moved failed) { place = set page_cmp x.place page frame; free = slice_set x.free node rest }
   restocked_shows h page from node frame rest placed front =
-      let s = shown tasks m x online moved failed in
+      let s = state_of_parts tasks m x online moved failed in
       let first = slice_index (free_of x node) 0 in
       let is : first ≡ frame = ap (λ fs. slice_index fs 0) front in
       let got : slice_get (free_of x node) 0 ≡ Some first = ap (λ fs. slice_get fs 0) front ∙ ap Some (sym is) in
@@ -100,5 +100,5 @@ all_free_shows s [] = refl
 all_free_shows s (frame ∷ frames) = all_free_shows (with_free s frame) frames
 
 pub freed_shows : (tasks : Map ℕ Process) (m : Table) (x : PagedFrames) (online : List ℕ) (moved failed : ℕ)
-    → shown tasks m (free_all x) online moved failed ≡ with_all_free (shown tasks m x online moved failed) x.vacated
-freed_shows tasks m x online moved failed = all_free_shows (shown tasks m x online moved failed) x.vacated
+    → state_of_parts tasks m (free_all x) online moved failed ≡ with_all_free (state_of_parts tasks m x online moved failed) x.vacated
+freed_shows tasks m x online moved failed = all_free_shows (state_of_parts tasks m x online moved failed) x.vacated

@@ -13,7 +13,7 @@ use Rattle.nm_spaces.specs.views.AddressSpaces.{AddressSpacesView, with_moved, t
 use Rattle.nm_memory.specs.views.Copies.{with_copy, with_copies, without_both, CanCopy}
 use Rattle.nm_memory.specs.views.Frames.{FramesView, HasAllFrames, free_on}
 use Rattle.nm_laws.specs.Laws.{with_move, with_moves}
-use Rattle.nm_engine.specs.views.MidRun.{IsKept}
+use Rattle.nm_engine.specs.views.MidRun.{IsSoundMachine}
 use Rattle.nm_laws.specs.Moves.{CanMove}
 use Rattle.nm_spaces.specs.definitions.Moves.{CanRemap, all_moved}
 use Rattle.nm_model.specs.definitions.Run.{moved_page, frames_left}
@@ -56,10 +56,10 @@ carried_shelf k target t h = record {
 -- what moves make of address spaces and frames together
 pub record IsCarried (y : AddressSpacesView) (k : FramesView) (online : List ℕ) (moved failed target : ℕ) (taken : List Taken) : Type 0 where
   pub shown : shown_by (all_moved y taken) (all_carried target k taken) online moved failed ≡ with_moves (shown_by y k online moved failed) target taken
-  pub kept : IsKept (shown_by (all_moved y taken) (all_carried target k taken) online moved failed) (all_carried target k taken).vacated (all_moved y taken).frames
+  pub kept : IsSoundMachine (shown_by (all_moved y taken) (all_carried target k taken) online moved failed) (all_carried target k taken).vacated (all_moved y taken).frames
   pub remap : CanRemap y taken
 
-pub is_carried : (taken : List Taken) (y : AddressSpacesView) (k : FramesView) (online : List ℕ) (moved failed target : ℕ) → IsKept (shown_by y k online moved failed) k.vacated y.frames → HasAllFrames k
+pub is_carried : (taken : List Taken) (y : AddressSpacesView) (k : FramesView) (online : List ℕ) (moved failed target : ℕ) → IsSoundMachine (shown_by y k online moved failed) k.vacated y.frames → HasAllFrames k
     → CanMove (shown_by y k online moved failed) target taken → IsCarried y k online moved failed target taken
 is_carried [] y k online moved failed target kept shelf can = record { shown = refl; kept = kept; remap = tt }
 is_carried (t ∷ taken) y k online moved failed target kept shelf can =
@@ -166,7 +166,7 @@ at_most a b c d true e part = omega (arith, e, part)
 at_most a b c d false e part = omega (arith, e, part)
 
 -- the frames of moves can be copied all at once
-pub carried_copy : (taken : List Taken) (y : AddressSpacesView) (k : FramesView) (online : List ℕ) (moved failed target : ℕ) → IsKept (shown_by y k online moved failed) k.vacated y.frames → HasAllFrames k → target < length k.free
+pub carried_copy : (taken : List Taken) (y : AddressSpacesView) (k : FramesView) (online : List ℕ) (moved failed target : ℕ) → IsSoundMachine (shown_by y k online moved failed) k.vacated y.frames → HasAllFrames k → target < length k.free
     → CanMove (shown_by y k online moved failed) target taken → IsCarried y k online moved failed target taken → CanCopy k.frames taken
 carried_copy taken y k online moved failed target kept shelf inside can done =
     let g = k.layout in

@@ -21,7 +21,7 @@ use Rattle.nm_laws.proofs.Early.Kept.{beside}
 use Rattle.nm_memory.specs.views.Copies.{HasBoth}
 use Rattle.nm_spaces.specs.views.AddressSpaces.{AddressSpacesView}
 use Rattle.nm_memory.specs.views.Frames.{FramesView, KeepsBytes}
-use Rattle.nm_engine.specs.views.MidRun.{MidRun, IsKept}
+use Rattle.nm_engine.specs.views.MidRun.{RunState, IsSoundMachine}
 use Rattle.nm_engine.specs.views.Shown.{bytes_in, shown_by}
 use Rattle.nm_model.specs.definitions.Sound.{IsSoundInFlight}
 
@@ -79,12 +79,12 @@ module _ (y : AddressSpacesView) (k after : FramesView) (online : List ℕ) (mov
   same_left : after.vacated ≡ k.vacated
   same_left = ap (λ (x : FramesView). x.vacated) is
 
-  pub kept_again : IsKept (shown_by y k online moved failed) k.vacated y.frames → IsKept (shown_by y after online moved failed) after.vacated y.frames
+  pub kept_again : IsSoundMachine (shown_by y k online moved failed) k.vacated y.frames → IsSoundMachine (shown_by y after online moved failed) after.vacated y.frames
   kept_again kept =
-      subst (λ l. IsKept (shown_by y after online moved failed) l y.frames) (sym same_left)
-      (subst (λ s. IsKept s k.vacated y.frames) (sym (same_shown k.vacated kept.sound)) kept)
+      subst (λ l. IsSoundMachine (shown_by y after online moved failed) l y.frames) (sym same_left)
+      (subst (λ s. IsSoundMachine s k.vacated y.frames) (sym (same_shown k.vacated kept.sound)) kept)
 
-  pub view_again : (x : MidRun) → IsKept (shown_by y k online moved failed) k.vacated y.frames → record { state = shown_by y k online moved failed; left = k.vacated; room = k.room } ≡ x
+  pub view_again : (x : RunState) → IsSoundMachine (shown_by y k online moved failed) k.vacated y.frames → record { state = shown_by y k online moved failed; left = k.vacated; room = k.room } ≡ x
       → record { state = shown_by y after online moved failed; left = after.vacated; room = after.room } ≡ x
   view_again x kept view =
       let state = same_shown k.vacated kept.sound in

@@ -31,7 +31,7 @@ use Rattle.nm_engine.specs.declared.prepared_run.undo.Undo.{Undo}
 use Rattle.nm_model.specs.definitions.Frames.{bytes_of}
 use Rattle.nm_spaces.specs.views.AddressSpaces.{AddressSpacesView, with_before, without_page}
 use Rattle.nm_memory.specs.views.Frames.{FramesView, CanFree, pool_of}
-use Rattle.nm_engine.specs.views.MidRun.{IsKept}
+use Rattle.nm_engine.specs.views.MidRun.{IsSoundMachine}
 use Rattle.nm_engine.specs.views.Parts.{IsSiteOf, access_site}
 use Rattle.nm_engine.specs.views.Shown.{shown_by}
 use Rattle.nm_model.specs.definitions.Seen.{frame_of, frame_seen}
@@ -41,7 +41,7 @@ use Rattle.nm_types.specs.declared.machine_error.MachineError.{MachineError}
 use Rattle.nm_types.specs.declared.machine_error.MachineError.TheVariants as error
 use Rattle.nm_engine.specs.definitions.Does.{Touches}
 use Rattle.nm_model.specs.definitions.Touch.{AccessSite, shown_at, with_sight, first_free, allocate_page, fill_page, share_page, touch_sight}
-use Rattle.nm_engine.specs.definitions.Undo.{seen_before, given_back, undone, all_undone, IsGiven, IsUndoable, CanUndo, IsStillUndone, given_now, noted, with_undo}
+use Rattle.nm_engine.specs.definitions.Undo.{seen_before, given_back, undo_touch, all_undone, IsGiven, IsUndoable, CanUndo, IsStillUndone, given_now, undo_of, with_undo}
 use Rattle.nm_laws.proofs.Seen.Sights.{IsSpot, page_at_spot, sight_here}
 use Rattle.nm_laws.proofs.Soundness.Allocated.{placed_front}
 use Rattle.nm_laws.proofs.Soundness.Once.{counted_place}
@@ -54,22 +54,22 @@ use Rattle.nm_laws.proofs.Seen.Frames.{none_sees, zero_sees, place_in_range}
 
 -- ---- one touch more
 
-pub all_undone-push : (s : State) (us : List Undo) (u : Undo) → all_undone s (us ++ u ∷ []) ≡ all_undone (undone s u) us
+pub all_undone-push : (s : State) (us : List Undo) (u : Undo) → all_undone s (us ++ u ∷ []) ≡ all_undone (undo_touch s u) us
 all_undone-push s [] u = refl
-all_undone-push s (x ∷ us) u = ap (λ t. undone t x) (all_undone-push s us u)
+all_undone-push s (x ∷ us) u = ap (λ t. undo_touch t x) (all_undone-push s us u)
 
-pub can_push : (s : State) (l : List ℕ) (us : List Undo) (u : Undo) → IsUndoable s l u → CanUndo (undone s u) l us → CanUndo s l (us ++ u ∷ [])
+pub can_push : (s : State) (l : List ℕ) (us : List Undo) (u : Undo) → IsUndoable s l u → CanUndo (undo_touch s u) l us → CanUndo s l (us ++ u ∷ [])
 can_push s l [] u h k = (tt, h)
 can_push s l (x ∷ us) u h k = (can_push s l us u h k.0, subst (λ t. IsUndoable t l x) (sym (all_undone-push s us u)) k.1)
 
-pub can_pop : (s : State) (l : List ℕ) (us : List Undo) (u : Undo) → CanUndo s l (us ++ u ∷ []) → IsUndoable s l u × CanUndo (undone s u) l us
+pub can_pop : (s : State) (l : List ℕ) (us : List Undo) (u : Undo) → CanUndo s l (us ++ u ∷ []) → IsUndoable s l u × CanUndo (undo_touch s u) l us
 can_pop s l [] u h = (h.1, tt)
 can_pop s l (x ∷ us) u h = let rest = can_pop s l us u h.0 in (rest.0, (rest.1, subst (λ t. IsUndoable t l x) (all_undone-push s us u) h.1))
 
 -- undoing a touch restores the state
 pub IsTakenBack : State → List ℕ → State → Option Undo → Type 0
 IsTakenBack s l new None = new ≡ s
-IsTakenBack s l new (Some u) = IsUndoable new l u × (undone new u ≡ s)
+IsTakenBack s l new (Some u) = IsUndoable new l u × (undo_touch new u ≡ s)
 
 pub still_undone : (s : State) (l : List ℕ) (new : State) (us : List Undo) (o : Option Undo) → IsTakenBack s l new o → IsStillUndone l s us new (with_undo us o)
 unfolding IsTakenBack
@@ -237,17 +237,17 @@ module _ (s : State) (l : List ℕ) (at : AccessSite) (h : IsSoundInFlight s l) 
   here_is = ap (λ o. sight_in o at.vpn) i.process
 
   filled_absent : (new : State) (frame : Option ℕ) → get page_cmp s.place (shown_at at) ≡ None → get nat_cmp at.process.sees at.vpn ≡ None → fill_page s at ≡ Ok new → frame ≡ frame_seen new at.pid at.vpn
-      → IsTakenBack s l new (noted at.pid at.vpn (shown_at at) None (get page_cmp s.place (shown_at at)) frame)
+      → IsTakenBack s l new (undo_of at.pid at.vpn (shown_at at) None (get page_cmp s.place (shown_at at)) frame)
   filled_absent new frame unplaced none found seen =
       let back = filled_back false new frame unplaced (nothing_before (Sees (shown_at at)) none) found seen in
-      subst (λ o. IsTakenBack s l new (noted at.pid at.vpn (shown_at at) None (get page_cmp s.place (shown_at at)) o)) (sym back.1)
-      (subst (λ o. IsTakenBack s l new (noted at.pid at.vpn (shown_at at) None o (Some back.0))) (sym unplaced) back.2)
+      subst (λ o. IsTakenBack s l new (undo_of at.pid at.vpn (shown_at at) None (get page_cmp s.place (shown_at at)) o)) (sym back.1)
+      (subst (λ o. IsTakenBack s l new (undo_of at.pid at.vpn (shown_at at) None o (Some back.0))) (sym unplaced) back.2)
 
   joined_back : (o : Option ℕ) (new : State) (frame : Option ℕ) → get page_cmp s.place (shown_at at) ≡ o → get nat_cmp at.process.sees at.vpn ≡ None → share_page s at o ≡ Ok new → frame ≡ frame_seen new at.pid at.vpn
-      → IsTakenBack s l new (noted at.pid at.vpn (shown_at at) None (get page_cmp s.place (shown_at at)) frame)
+      → IsTakenBack s l new (undo_of at.pid at.vpn (shown_at at) None (get page_cmp s.place (shown_at at)) frame)
   joined_back None new frame placed none found seen = filled_absent new frame placed none found seen
   joined_back (Some g) new frame placed none found seen =
-      subst (λ o. IsTakenBack s l new (noted at.pid at.vpn (shown_at at) None o frame)) (sym placed)
+      subst (λ o. IsTakenBack s l new (undo_of at.pid at.vpn (shown_at at) None o frame)) (sym placed)
       (subst (λ t. IsTakenBack s l t (Some (record { pid = at.pid; vpn = at.vpn; zero = false; given = None }))) (ok_is found) (seen_alone (Sees (shown_at at)) none))
 
   not_given : (o : Option ℕ) → given_now (shown_at at) o None ≡ None
@@ -255,23 +255,23 @@ module _ (s : State) (l : List ℕ) (at : AccessSite) (h : IsSoundInFlight s l) 
   not_given (Some g) = refl
 
   zero_seen : (new : State) (frame : Option ℕ) → get nat_cmp at.process.sees at.vpn ≡ None → okay (with_sight s at ZeroPage) ≡ Ok new → frame ≡ frame_seen new at.pid at.vpn
-      → IsTakenBack s l new (noted at.pid at.vpn (shown_at at) None (get page_cmp s.place (shown_at at)) frame)
+      → IsTakenBack s l new (undo_of at.pid at.vpn (shown_at at) None (get page_cmp s.place (shown_at at)) frame)
   zero_seen new frame none found seen =
       let is = ok_is found in
       let nothing : frame ≡ None = seen ∙ ap (λ t. frame_seen t at.pid at.vpn) (sym is) ∙ ap (frame_of s.place) (sight_here s at ZeroPage i) in
-      subst (λ o. IsTakenBack s l new (noted at.pid at.vpn (shown_at at) None (get page_cmp s.place (shown_at at)) o)) (sym nothing)
+      subst (λ o. IsTakenBack s l new (undo_of at.pid at.vpn (shown_at at) None (get page_cmp s.place (shown_at at)) o)) (sym nothing)
       (subst (λ g. IsTakenBack s l new (Some (record { pid = at.pid; vpn = at.vpn; zero = false; given = g }))) (sym (not_given (get page_cmp s.place (shown_at at))))
       (subst (λ t. IsTakenBack s l t (Some (record { pid = at.pid; vpn = at.vpn; zero = false; given = None }))) is (seen_alone ZeroPage none)))
 
   -- nothing was seen
   absent_back : (writes : Bool) (new : State) (frame : Option ℕ) → get nat_cmp at.process.sees at.vpn ≡ None → touch_sight s at writes None ≡ Ok new → frame ≡ frame_seen new at.pid at.vpn
-      → IsTakenBack s l new (noted at.pid at.vpn (shown_at at) None (get page_cmp s.place (shown_at at)) frame)
+      → IsTakenBack s l new (undo_of at.pid at.vpn (shown_at at) None (get page_cmp s.place (shown_at at)) frame)
   absent_back writes new frame none found seen =
       elim (is_shared s.segments (shown_at at).segment) as (λ b. is_shared s.segments (shown_at at).segment ≡ b
       → (if b then share_page s at (get page_cmp s.place (shown_at at)) else (if writes then fill_page s at else Ok (with_sight s at ZeroPage))) ≡ Ok new
-      → IsTakenBack s l new (noted at.pid at.vpn (shown_at at) None (get page_cmp s.place (shown_at at)) frame)) [
+      → IsTakenBack s l new (undo_of at.pid at.vpn (shown_at at) None (get page_cmp s.place (shown_at at)) frame)) [
         | true ↦ λ b k. joined_back (get page_cmp s.place (shown_at at)) new frame refl none k seen
-        | false ↦ λ b k. elim writes as (λ w. (if w then fill_page s at else Ok (with_sight s at ZeroPage)) ≡ Ok new → IsTakenBack s l new (noted at.pid at.vpn (shown_at at) None (get page_cmp s.place (shown_at at)) frame)) [
+        | false ↦ λ b k. elim writes as (λ w. (if w then fill_page s at else Ok (with_sight s at ZeroPage)) ≡ Ok new → IsTakenBack s l new (undo_of at.pid at.vpn (shown_at at) None (get page_cmp s.place (shown_at at)) frame)) [
           | true ↦ λ k. filled_absent new frame (private_unplaced s l at h i (none_sees (here_is ∙ none)) b) none k seen
           | false ↦ λ k. zero_seen new frame none k seen
         ] k
@@ -279,18 +279,18 @@ module _ (s : State) (l : List ℕ) (at : AccessSite) (h : IsSoundInFlight s l) 
 
   -- the page of zeros was seen
   zero_back : (writes : Bool) (new : State) (frame : Option ℕ) → get nat_cmp at.process.sees at.vpn ≡ Some ZeroPage → get page_cmp s.place (shown_at at) ≡ None → touch_sight s at writes (Some ZeroPage) ≡ Ok new
-      → frame ≡ frame_seen new at.pid at.vpn → IsTakenBack s l new (noted at.pid at.vpn (shown_at at) (Some ZeroPage) (get page_cmp s.place (shown_at at)) frame)
+      → frame ≡ frame_seen new at.pid at.vpn → IsTakenBack s l new (undo_of at.pid at.vpn (shown_at at) (Some ZeroPage) (get page_cmp s.place (shown_at at)) frame)
   unfolding IsTakenBack
   zero_back writes new frame zero unplaced found seen =
-      elim writes as (λ w. (if w then fill_page s at else Ok s) ≡ Ok new → IsTakenBack s l new (noted at.pid at.vpn (shown_at at) (Some ZeroPage) (get page_cmp s.place (shown_at at)) frame)) [
+      elim writes as (λ w. (if w then fill_page s at else Ok s) ≡ Ok new → IsTakenBack s l new (undo_of at.pid at.vpn (shown_at at) (Some ZeroPage) (get page_cmp s.place (shown_at at)) frame)) [
         | true ↦ λ k.
             let back = filled_back true new frame unplaced (zero_before (Sees (shown_at at)) zero) k seen in
-            subst (λ o. IsTakenBack s l new (noted at.pid at.vpn (shown_at at) (Some ZeroPage) (get page_cmp s.place (shown_at at)) o)) (sym back.1)
-            (subst (λ o. IsTakenBack s l new (noted at.pid at.vpn (shown_at at) (Some ZeroPage) o (Some back.0))) (sym unplaced) back.2)
+            subst (λ o. IsTakenBack s l new (undo_of at.pid at.vpn (shown_at at) (Some ZeroPage) (get page_cmp s.place (shown_at at)) o)) (sym back.1)
+            (subst (λ o. IsTakenBack s l new (undo_of at.pid at.vpn (shown_at at) (Some ZeroPage) o (Some back.0))) (sym unplaced) back.2)
         | false ↦ λ k.
             let is = ok_is k in
             let nothing : frame ≡ None = seen ∙ ap (λ t. frame_seen t at.pid at.vpn) (sym is) ∙ ap (frame_of s.place) (here_is ∙ zero) in
-            subst (λ o. IsTakenBack s l new (noted at.pid at.vpn (shown_at at) (Some ZeroPage) (get page_cmp s.place (shown_at at)) o)) (sym nothing) (sym is)
+            subst (λ o. IsTakenBack s l new (undo_of at.pid at.vpn (shown_at at) (Some ZeroPage) (get page_cmp s.place (shown_at at)) o)) (sym nothing) (sym is)
       ] found
 
 zero_unplaced : (s : State) (l : List ℕ) (at : AccessSite) → IsSoundInFlight s l → IsSpot s at → sight_at s at.pid at.vpn ≡ Some ZeroPage → get page_cmp s.place (shown_at at) ≡ None
@@ -302,7 +302,7 @@ zero_unplaced s l at h i e =
 -- whatever was seen
 touch_back : (s : State) (l : List ℕ) (at : AccessSite) (writes : Bool) (o : Option Sight) (new : State) (frame : Option ℕ) → IsSoundInFlight s l → IsSpot s at → sight_at s at.pid at.vpn ≡ o
     → touch_sight s at writes o ≡ Ok new → frame ≡ frame_seen new at.pid at.vpn
-    → IsTakenBack s l new (noted at.pid at.vpn (shown_at at) o (get page_cmp s.place (shown_at at)) frame)
+    → IsTakenBack s l new (undo_of at.pid at.vpn (shown_at at) o (get page_cmp s.place (shown_at at)) frame)
 unfolding IsTakenBack
 touch_back s l at writes None new frame h i e found seen = absent_back s l at h i writes new frame (sym (here_is s l at h i) ∙ e) found seen
 touch_back s l at writes (Some ZeroPage) new frame h i e found seen = zero_back s l at h i writes new frame (sym (here_is s l at h i) ∙ e) (zero_unplaced s l at h i e) found seen
@@ -311,11 +311,11 @@ touch_back s l at writes (Some (Sees q)) new frame h i e found seen = sym (ok_is
 -- the same of a touch that was looked up
 pub touched_back : (s : State) (l : List ℕ) (t : ResolvedAddress) (p : Process) (a : Placed) (writes : Bool) (new : State) (frame : Option ℕ) → IsSoundInFlight s l → IsSiteOf s.processes s.areas t p a
     → touch_sight s (access_site t p a) writes (get nat_cmp p.sees t.vpn) ≡ Ok new → frame ≡ frame_seen new t.pid t.vpn
-    → IsTakenBack s l new (noted t.pid t.vpn t.page (sight_at s t.pid t.vpn) (get page_cmp s.place t.page) frame)
+    → IsTakenBack s l new (undo_of t.pid t.vpn t.page (sight_at s t.pid t.vpn) (get page_cmp s.place t.page) frame)
 touched_back s l t p a writes new frame h r found seen =
     let e : sight_at s t.pid t.vpn ≡ get nat_cmp p.sees t.vpn = ap (λ o. sight_in o t.vpn) r.known in
-    subst (λ q. IsTakenBack s l new (noted t.pid t.vpn q (sight_at s t.pid t.vpn) (get page_cmp s.place q) frame)) r.page
-    (subst (λ o. IsTakenBack s l new (noted t.pid t.vpn (page_of a t.vpn) o (get page_cmp s.place (page_of a t.vpn)) frame)) (sym e)
+    subst (λ q. IsTakenBack s l new (undo_of t.pid t.vpn q (sight_at s t.pid t.vpn) (get page_cmp s.place q) frame)) r.page
+    (subst (λ o. IsTakenBack s l new (undo_of t.pid t.vpn (page_of a t.vpn) o (get page_cmp s.place (page_of a t.vpn)) frame)) (sym e)
     (touch_back s l (access_site t p a) writes (get nat_cmp p.sees t.vpn) new frame h (spot_there s t p a r) e found seen))
 
 -- ---- the parts
@@ -339,7 +339,7 @@ can_put_back s l page frame h placed =
 
 module _ (y z w : AddressSpacesView) (k j : FramesView) (online : List ℕ) (moved failed pid v : ℕ) (zero : Bool) (page : Page) (frame : ℕ) (known : IsSome (get nat_cmp y.processes pid))
     (seen : (p : Process) → get nat_cmp y.processes pid ≡ Some p → z ≡ with_before y pid p v zero) (unplaced : w ≡ without_page z page) (freed : j ≡ record k { free = (with_front (pool_of k) frame).lists }) where
-  pub back_shows : shown_by w j online moved failed ≡ undone (shown_by y k online moved failed) (record { pid = pid; vpn = v; zero = zero; given = Some (page, frame) })
+  pub back_shows : shown_by w j online moved failed ≡ undo_touch (shown_by y k online moved failed) (record { pid = pid; vpn = v; zero = zero; given = Some (page, frame) })
   back_shows =
       let p = value_there (get nat_cmp y.processes pid) known in
       let s = shown_by y k online moved failed in
@@ -349,12 +349,12 @@ module _ (y z w : AddressSpacesView) (k j : FramesView) (online : List ℕ) (mov
       ∙ ap (λ b. record all { bytes = b }) (with_values-without page_cmp (λ q f. bytes_of k.frames f) y.place page)
       ∙ ap (λ o. given_back (seen_before s o pid v zero) (Some (page, frame))) (sym p.1)
 
-  pub back_kept : IsKept (shown_by y k online moved failed) k.vacated y.frames → IsSoundInFlight (undone (shown_by y k online moved failed) (record { pid = pid; vpn = v; zero = zero; given = Some (page, frame) })) k.vacated
-      → IsKept (shown_by w j online moved failed) j.vacated w.frames
+  pub back_kept : IsSoundMachine (shown_by y k online moved failed) k.vacated y.frames → IsSoundInFlight (undo_touch (shown_by y k online moved failed) (record { pid = pid; vpn = v; zero = zero; given = Some (page, frame) })) k.vacated
+      → IsSoundMachine (shown_by w j online moved failed) j.vacated w.frames
   back_kept kept sound =
       let p = value_there (get nat_cmp y.processes pid) known in
       let after : w ≡ without_page (with_before y pid p.0 v zero) page = unplaced ∙ ap (λ y. without_page y page) (seen p.0 p.1) in
       record {
-        sound = subst (λ s. IsSoundInFlight s j.vacated) (sym back_shows) (subst (λ (j : FramesView). IsSoundInFlight (undone (shown_by y k online moved failed) (record { pid = pid; vpn = v; zero = zero; given = Some (page, frame) })) j.vacated) (sym freed) sound);
+        sound = subst (λ s. IsSoundInFlight s j.vacated) (sym back_shows) (subst (λ (j : FramesView). IsSoundInFlight (undo_touch (shown_by y k online moved failed) (record { pid = pid; vpn = v; zero = zero; given = Some (page, frame) })) j.vacated) (sym freed) sound);
         as_many = ap (λ (w : AddressSpacesView). w.frames) after ∙ kept.as_many ∙ sym (ap (λ (j : FramesView). frame_count j.layout) freed);
       }

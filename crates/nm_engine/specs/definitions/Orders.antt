@@ -9,21 +9,21 @@ use Rattle.nm_model.specs.definitions.RunMachine.{RunMachine, Ended, state_of}
 use Rattle.nm_model.specs.definitions.Touch.{Access}
 use Rattle.nm_laws.specs.Interleavings.{Unfolds, IsRun}
 use Rattle.nm_laws.specs.Midway.{frames_of_job}
-use Rattle.nm_engine.specs.views.Flights.{Flight, IsMoment, pair_of}
+use Rattle.nm_engine.specs.views.Flights.{Flight, IsFlightOf, pair_of}
 
 -- what a run is asked for: the node that pages go to, the requests, and the accesses made meanwhile
-pub record RunAsked : Type 0 where
+pub record RunRequest : Type 0 where
   pub target : ℕ
   pub wanted : List Wanted
   pub accesses : List Access
 
 -- the run that the definitions make of it
-abbrev pub run_asked : State → RunAsked → RunResult
-run_asked s asked = run s asked.target asked.wanted asked.accesses
+abbrev pub result_of_run : State → RunRequest → RunResult
+result_of_run s asked = run s asked.target asked.wanted asked.accesses
 
 -- a run machine that begins such a run at rest in this state, with these accesses meanwhile, ends it so, whatever order
 -- its events take
-abbrev pub EndsSo : State → RunAsked → RunResult → Type 0
+abbrev pub EndsSo : State → RunRequest → RunResult → Type 0
 EndsSo s asked ran =
     (m : RunMachine) (events : List Event) (n : RunMachine) →
     state_of m ≡ s → Unfolds m asked.target asked.wanted events n → accesses_in events ≡ asked.accesses → n.phase ≡ Ended → IsRun n ran
@@ -32,14 +32,14 @@ module _ {A : Type 0} where
   -- events that the run machine allows, from the beginning of such a run at rest in this state, with these accesses; then
   -- its end is allowed, and the run ends so. Before its end the machine has the entries and the bytes of this run of the
   -- engine, and jobs between the same frames as these
-  pub record GoesByEvents (s : State) (asked : RunAsked) (x : Flight) (jobs : List (CopyJob A)) (ran : RunResult) : Type 0 where
+  pub record GoesByEvents (s : State) (asked : RunRequest) (x : Flight) (jobs : List (CopyJob A)) (ran : RunResult) : Type 0 where
     pub first : RunMachine
     pub events : List Event
     pub now : RunMachine
     pub start : state_of first ≡ s
     pub unfolds : Unfolds first asked.target asked.wanted events now
     pub accesses : accesses_in events ≡ asked.accesses
-    pub moment : IsMoment now x jobs
+    pub moment : IsFlightOf now x jobs
     pub pairs : map frames_of_job now.jobs ≡ map pair_of jobs
     pub over : is_allowed now End ≡ true
     pub ends : IsRun (effect now End) ran

@@ -36,13 +36,13 @@ given_back s (Some given) =
     }
 
 -- a touch is undone
-abbrev pub undone : State → Undo → State
-undone s u = given_back (seen_before s (get nat_cmp s.processes u.pid) u.pid u.vpn u.zero) u.given
+abbrev pub undo_touch : State → Undo → State
+undo_touch s u = given_back (seen_before s (get nat_cmp s.processes u.pid) u.pid u.vpn u.zero) u.given
 
 -- touches are undone, the last first
 abbrev pub all_undone : State → List Undo → State
 all_undone s [] = s
-all_undone s (u ∷ us) = undone (all_undone s us) u
+all_undone s (u ∷ us) = undo_touch (all_undone s us) u
 
 -- the page has this frame, has no pins, and nobody sees it
 abbrev pub IsGiven : State → Option (Page × ℕ) → Type 0
@@ -56,7 +56,7 @@ pub record IsUndoable (s : State) (left : List ℕ) (u : Undo) : Type 0 where
   pub known : IsSome (get nat_cmp s.processes u.pid)
   pub seen : IsSome (sight_at s u.pid u.vpn)
   pub given : IsGiven (seen_before s (get nat_cmp s.processes u.pid) u.pid u.vpn u.zero) u.given
-  pub sound : IsSoundInFlight (undone s u) left
+  pub sound : IsSoundInFlight (undo_touch s u) left
 
 -- touches can be undone, the last first
 abbrev pub CanUndo : State → List ℕ → List Undo → Type 0
@@ -70,12 +70,12 @@ given_now page None None = None
 given_now page None (Some frame) = Some (page, frame)
 
 -- how to undo a touch that found this: what was seen, and the page's frame, if any. The touch returned this frame
-abbrev pub noted : ℕ → ℕ → Page → Option Sight → Option ℕ → Option ℕ → Option Undo
-noted pid v page (Some (Sees q)) place frame = None
-noted pid v page (Some ZeroPage) place None = None
-noted pid v page (Some ZeroPage) place (Some frame) =
+abbrev pub undo_of : ℕ → ℕ → Page → Option Sight → Option ℕ → Option ℕ → Option Undo
+undo_of pid v page (Some (Sees q)) place frame = None
+undo_of pid v page (Some ZeroPage) place None = None
+undo_of pid v page (Some ZeroPage) place (Some frame) =
     Some (record { pid = pid; vpn = v; zero = true; given = given_now page place (Some frame) })
-noted pid v page None place frame =
+undo_of pid v page None place frame =
     Some (record { pid = pid; vpn = v; zero = false; given = given_now page place frame })
 
 -- the list with another touch to undo, if there is one

@@ -5,7 +5,7 @@ use Rattle.nm_engine.specs.declared.prepared_run.undo.Undo.{Undo}
 use Rattle.nm_model.specs.definitions.Touch.{read}
 use Rattle.nm_model.specs.definitions.Effect.{map_new}
 use Rattle.nm_model.specs.examples.{A, B, one_process, wrote, attached_by_two, seen_by_two}
-use Rattle.nm_engine.specs.definitions.Undo.{all_undone, noted}
+use Rattle.nm_engine.specs.definitions.Undo.{all_undone, undo_of}
 
 -- two private pages that are not yet touched
 abbrev pub untouched_pages : State
@@ -30,6 +30,6 @@ TouchesAreTakenBack =
 -- a page that another process sees keeps its frame
 abbrev pub SharedPageKeepsItsFrame : Type 0
 SharedPageKeepsItsFrame =
-    (noted 2 32 (record { segment = 0; index = 0 }) None (Some 0) (Some 0)
+    (undo_of 2 32 (record { segment = 0; index = 0 }) None (Some 0) (Some 0)
     ≡ Some (record { pid = 2; vpn = 32; zero = false; given = None }))
     × (all_undone seen_by_two (record { pid = 2; vpn = 32; zero = false; given = None } ∷ []) ≡ attached_by_two)

@@ -32,11 +32,11 @@ use Rattle.nm_memory.specs.views.Copies.{refilled, CanRefill}
 use Rattle.nm_memory.specs.views.Frames.{FramesView, HasAllFrames}
 use Rattle.nm_spaces.specs.views.AddressSpaces.{AddressSpacesView}
 use Rattle.nm_spaces.specs.views.Held.{HeldView, HoldsPages, is_taken}
-use Rattle.nm_engine.specs.views.MidRun.{MidRun, IsKept}
+use Rattle.nm_engine.specs.views.MidRun.{RunState, IsSoundMachine}
 use Rattle.nm_engine.specs.views.Shown.{shown_by}
 
 -- the frames that these moves take from a node belong to the run, and it could make the moves if they were still the node's
-pub record IsReadyFor (x : MidRun) (target : ℕ) (moves : List Taken) : Type 0 where
+pub record IsReadyFor (x : RunState) (target : ℕ) (moves : List Taken) : Type 0 where
   pub node : target < node_count x.state.layout
   pub taken : x.left ≡ frames_taken moves
   pub sound : IsSound (with_fronts x.state target (frames_taken moves))
@@ -71,7 +71,7 @@ HoldsMovingPages x = HoldsPages (record { tables = x.tables; spaces = x.spaces }
 
 -- entries are held so, and each held entry is on its way to a frame that one of the moves takes; the frames that the pages
 -- leave belong to the run
-pub record IsUnderWay (x : Flight) : Type 0 where
+pub record IsSoundFlight (x : Flight) : Type 0 where
   pub entries : HoldsMovingPages x
   pub among : (f pid v : ℕ) → entry_at x.tables pid v ≡ Some (Held f) → is_taken x.moves f ≡ true
   pub below : AllByRecursion (λ t. t.to < x.spaces.frames) x.moves
@@ -88,21 +88,21 @@ module _ {A : Type 0} where
 
   -- the state that is read meanwhile: each page is in the frame that it goes to, with the bytes that it has in the one
   -- that it leaves
-  abbrev pub state_meanwhile : Flight → List (CopyJob A) → State
-  state_meanwhile x jobs = shown_by x.spaces (frames_then x jobs) x.online x.moved x.failed
+  abbrev pub state_in_flight : Flight → List (CopyJob A) → State
+  state_in_flight x jobs = shown_by x.spaces (frames_then x jobs) x.online x.moved x.failed
 
   -- the bytes that are out are in these jobs, and the machine is whole once they are home
   pub record AreOutIn (x : Flight) (jobs : List (CopyJob A)) : Type 0 where
     pub can : CanRefill x.frames.frames (map copied jobs)
     pub whole : HasAllFrames (frames_then x jobs)
-    pub kept : IsKept (state_meanwhile x jobs) x.frames.vacated x.spaces.frames
+    pub kept : IsSoundMachine (state_in_flight x jobs) x.frames.vacated x.spaces.frames
     pub populated : AllByRecursion (IsPopulated (refilled x.frames.frames (map copied jobs))) x.frames.vacated
 
   -- a run machine whose run is under way, of these moves: it is read as the same state, and each process has the same entry
   -- at each page number
-  pub record IsMoment (m : RunMachine) (x : Flight) (jobs : List (CopyJob A)) : Type 0 where
+  pub record IsFlightOf (m : RunMachine) (x : Flight) (jobs : List (CopyJob A)) : Type 0 where
     pub midway : IsInFlight m (map (λ t. t.page) x.moves)
-    pub state : state_of m ≡ state_meanwhile x jobs
+    pub state : state_of m ≡ state_in_flight x jobs
     pub entries : (pid v : ℕ) → entry_at m.tasks pid v ≡ entry_at x.tables pid v
     pub ends : map frames_of_job m.jobs ≡ map (λ t. (t.from, t.to)) x.moves
 
@@ -119,31 +119,31 @@ module _ {A : Type 0} where
     pub answers : map answer_shown told ≡ (all_stored_after_copy x.spaces.place x.frames.frames (map pending_shown dues)).answers
 
   -- a run machine that begins the run of a plan with these moves is then at this moment
-  abbrev pub BeginsSo : MidRun → List Taken → Flight → List (CopyJob A) → Type 0
+  abbrev pub BeginsSo : RunState → List Taken → Flight → List (CopyJob A) → Type 0
   BeginsSo prepared moves x jobs =
       (m : RunMachine) (target : ℕ) (wanted : List Wanted) (p : RunPlan) →
       IsAtRest m → HasOneAll wanted → IsReadyFor prepared target moves →
       state_of m ≡ with_fronts prepared.state target (frames_taken moves) →
-      IsPlanOf (state_of m) target wanted p → p.taken ≡ moves → IsMoment (begin_run m target wanted) x jobs
+      IsPlanOf (state_of m) target wanted p → p.taken ≡ moves → IsFlightOf (begin_run m target wanted) x jobs
 
   -- a run machine at the first moment, at the second once jobs are drawn and given back, and accesses made for which this is
   -- left to do, with their answers
   abbrev pub FliesSo : Flight → List (CopyJob A) → List PendingAccess → Flight → List (CopyJob A) → List AccessAnswer → Type 0
   FliesSo x jobs dues y done answers =
-      (m n : RunMachine) (events : List Event) → IsMoment m x jobs → after m events ≡ Some n → n.phase ≡ Moving →
+      (m n : RunMachine) (events : List Event) → IsFlightOf m x jobs → after m events ≡ Some n → n.phase ≡ Moving →
       all_in_flight (state_of m) (map (λ t. t.page) x.moves) (accesses_in events) ≡ all_after_copy (state_of m) dues →
-      IsMoment n y done × (n.answers ≡ m.answers ++ answers)
+      IsFlightOf n y done × (n.answers ≡ m.answers ++ answers)
 
   -- a run machine at this moment, whose jobs are given back, is in this state once it has ended the run
   abbrev pub EndsAs : Flight → List (CopyJob A) → List ℤ → State → Type 0
   EndsAs x jobs statuses s =
-      (m : RunMachine) → IsMoment m x jobs → list_all (λ job. is_given job.stage) m.jobs ≡ true → m.statuses ≡ statuses →
+      (m : RunMachine) → IsFlightOf m x jobs → list_all (λ job. is_given job.stage) m.jobs ≡ true → m.statuses ≡ statuses →
       state_of (end_run m) ≡ s
 
 -- a run machine at the first moment, at the second once an access is made for which this is left to do, with its answer
 abbrev pub AnswersSo : (A : Type 0) → Flight → PendingAccess → Flight → AccessAnswer → Type 0
 AnswersSo A x due y answer =
-    (m : RunMachine) (a : Access) (jobs : List (CopyJob A)) → AreOutIn x jobs → IsMoment m x jobs →
+    (m : RunMachine) (a : Access) (jobs : List (CopyJob A)) → AreOutIn x jobs → IsFlightOf m x jobs →
     access_during (state_of m) (map (λ t. t.page) x.moves) a
     ≡ record { state = after_copy (state_of m) due; answer = answer_after_copy (state_of m) due } →
-    IsMoment (after_access m a) y jobs × ((after_access m a).answers ≡ m.answers ++ answer ∷ [])
+    IsFlightOf (after_access m a) y jobs × ((after_access m a).answers ≡ m.answers ++ answer ∷ [])

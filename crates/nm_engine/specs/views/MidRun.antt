@@ -5,21 +5,21 @@ use Rattle.nm_model.specs.definitions.Sound.{IsSoundInFlight}
 use Rattle.nm_types.specs.Layout.{frame_count}
 
 -- a state, the frames that a run's pages have left, and how many there is room for
-pub record MidRun : Type 0 where
+pub record RunState : Type 0 where
   pub state : State
   pub left : List ℕ
   pub room : ℕ
 
 -- the state is sound, and the reverse map has as many frames as the nodes
-pub record IsKept (s : State) (left : List ℕ) (frames : ℕ) : Type 0 where
+pub record IsSoundMachine (s : State) (left : List ℕ) (frames : ℕ) : Type 0 where
   pub sound : IsSoundInFlight s left
   pub as_many : frames ≡ frame_count s.layout
 
 -- the state is sound, the reverse map has as many frames as the nodes, and no frame belongs to a run
 pub record IsBetweenRuns (s : State) (left : List ℕ) (frames : ℕ) : Type 0 where
-  pub kept : IsKept s left frames
+  pub kept : IsSoundMachine s left frames
   pub none : left ≡ []
 
 -- only the state may change
-abbrev pub with_state : MidRun → State → MidRun
+abbrev pub with_state : RunState → State → RunState
 with_state x s = record x { state = s }

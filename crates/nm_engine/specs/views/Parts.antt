@@ -16,8 +16,8 @@ use Rattle.nm_spaces.specs.views.AddressSpaces.{AddressSpacesView}
 use Rattle.nm_memory.specs.views.Frames.{FramesView}
 use Rattle.nm_engine.specs.declared.prepared_run.undo.Undo.{Undo}
 use Rattle.nm_engine.specs.definitions.Does.{AsksLast, Touches}
-use Rattle.nm_engine.specs.definitions.Undo.{noted}
-use Rattle.nm_engine.specs.views.MidRun.{IsKept}
+use Rattle.nm_engine.specs.definitions.Undo.{undo_of}
+use Rattle.nm_engine.specs.views.MidRun.{IsSoundMachine}
 use Rattle.nm_engine.specs.views.Shown.{shown_by}
 
 -- the place of a touch by this process in this area
@@ -35,7 +35,7 @@ pub record IsSiteOf (processes : Map ℕ Process) (areas : Map (ℕ × ℕ) Area
 
 -- together they are sound but for the frames that a run has, whatever has been counted
 abbrev pub AreKept : AddressSpacesView → FramesView → List ℕ → Type 0
-AreKept y k online = (moved failed : ℕ) → IsKept (shown_by y k online moved failed) k.vacated y.frames
+AreKept y k online = (moved failed : ℕ) → IsSoundMachine (shown_by y k online moved failed) k.vacated y.frames
 
 -- the address is that of an area of a process
 abbrev pub HasSite : Map ℕ Process → Map (ℕ × ℕ) Area → ResolvedAddress → Type 0
@@ -59,7 +59,7 @@ touched_by t writes s p at = touch_sight s at writes (get nat_cmp p.sees t.vpn)
 
 -- how to undo the touch that found these address spaces, and returned this frame
 abbrev pub noted_by : ResolvedAddress → AddressSpacesView → Option ℕ → Option Undo
-noted_by t y frame = noted t.pid t.vpn t.page (seen_by y t) (get page_cmp y.place t.page) frame
+noted_by t y frame = undo_of t.pid t.vpn t.page (seen_by y t) (get page_cmp y.place t.page) frame
 
 module _ {T : Type 0} where
   -- whatever has been counted, a touch has this effect on address spaces and frames

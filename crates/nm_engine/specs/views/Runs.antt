@@ -9,7 +9,7 @@ use Rattle.nm_model.specs.definitions.Touch.{Access}
 use Rattle.nm_model.specs.views.Asked.{access_shown}
 use Rattle.nm_memory.specs.views.Accesses.{answer_shown}
 use Rattle.nm_engine.specs.declared.answers.RunAnswer.{RunAnswer}
-use Rattle.nm_engine.specs.definitions.Orders.{RunAsked}
+use Rattle.nm_engine.specs.definitions.Orders.{RunRequest}
 
 module _ {A : Type 0} where
   -- accesses that are lent
@@ -17,7 +17,7 @@ module _ {A : Type 0} where
   accesses_shown accesses = map (λ a. access_shown a.now) accesses
 
   -- a run that is to be made
-  abbrev pub asked_by : Run A → List (Bor (Asked A)) → RunAsked
+  abbrev pub asked_by : Run A → List (Bor (Asked A)) → RunRequest
   asked_by requests accesses = record { target = requests.target; wanted = requests.wanted.items; accesses = accesses_shown accesses }
 
   -- a run that was made: the state after it, and its answer

@@ -27,8 +27,8 @@ abbrev pub bytes_in : Store → Map Page ℕ → Map Page (List ℕ)
 bytes_in frames place = with_values (λ page frame. bytes_of frames frame) place
 
 -- the state of these processes, areas, frames, online nodes and totals
-abbrev pub shown : Map ℕ Process → Table → PagedFrames → List ℕ → ℕ → ℕ → State
-shown processes areas paged online moved failed =
+abbrev pub state_of_parts : Map ℕ Process → Table → PagedFrames → List ℕ → ℕ → ℕ → State
+state_of_parts processes areas paged online moved failed =
     record {
       layout = paged.layout;
       processes = processes;
@@ -59,4 +59,4 @@ paged_frames y k =
 
 -- the state of these address spaces and frames
 abbrev pub shown_by : AddressSpacesView → FramesView → List ℕ → ℕ → ℕ → State
-shown_by y k online moved failed = shown y.processes (table_of y) (paged_frames y k) online moved failed
+shown_by y k online moved failed = state_of_parts y.processes (table_of y) (paged_frames y k) online moved failed

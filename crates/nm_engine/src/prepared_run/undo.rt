@@ -10,7 +10,7 @@ ghost use Rattle.nm_engine.specs.views.Spaces.{spaces_of};
 ghost use Rattle.nm_engine.specs.definitions.Does.{Touches};
 ghost use Rattle.nm_model.specs.definitions.Seen.{frame_seen};
 ghost use Rattle.nm_model.specs.definitions.Sound.{IsSoundInFlight};
-ghost use Rattle.nm_engine.specs.definitions.Undo.{CanUndo, IsUndoable, IsStillUndone, undone, all_undone, with_undo};
+ghost use Rattle.nm_engine.specs.definitions.Undo.{CanUndo, IsUndoable, IsStillUndone, undo_touch, all_undone, with_undo};
 
 use crate::prepared_run::PreparedRun;
 use crate::resolved_address::ResolvedAddress;
@@ -88,7 +88,7 @@ impl<A: Allocator + Copy> PreparedRun<A> {
     /// Undoes a touch. Does not allocate.
     fn undo(&mut self, undo: Undo)
         requires { IsUndoable self.old.state self.old.left undo }
-        ensures { self.new ≡ with_state self.old (undone self.old.state undo) }
+        ensures { self.new ≡ with_state self.old (undo_touch self.old.state undo) }
     {
         let Undo {
             pid,

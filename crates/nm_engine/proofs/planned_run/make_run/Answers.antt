@@ -18,8 +18,8 @@ use Rattle.nm_model.specs.definitions.Run.{failures, frames_left, run, with_all_
 use Rattle.nm_model.specs.definitions.Sound.{IsSound}
 use Rattle.nm_model.specs.definitions.Touch.{Access, AccessResults, all_in_flight}
 use Rattle.nm_memory.specs.views.Accesses.{answer_shown, pending_shown}
-use Rattle.nm_engine.specs.views.Flights.{EndsAs, Flight, HoldsMovingPages, IsReadyFor, pair_of, state_meanwhile}
-use Rattle.nm_engine.specs.views.MidRun.{MidRun}
+use Rattle.nm_engine.specs.views.Flights.{EndsAs, Flight, HoldsMovingPages, IsReadyFor, pair_of, state_in_flight}
+use Rattle.nm_engine.specs.views.MidRun.{RunState}
 use Rattle.nm_engine.specs.views.Runs.{accesses_shown, asked_by}
 use Rattle.nm_engine.proofs.Early.{early_state, early_dues, early_left, early_room}
 use Rattle.nm_engine.proofs.Runs.ByEvents.{goes_by_events}
@@ -49,7 +49,7 @@ prepare-requires-clause-moves g c =
     subst (λ (ms : List Taken). CanMove c.of-run.result.state t ms) (sym c.moves-moves.ensures) (subst (λ (x : State). CanMove x t c.args.planned.plan.taken) (sym c.of-run.ensures.state) c.requires.plan.can)
 
 -- the run is ready to begin where its accesses have been touched
-ready_for : (x : MidRun) (r s : State) (t : ℕ) (moves : List Taken) (accesses : List Access) → r ≡ s → t < node_count s.layout → x.left ≡ frames_taken moves → x.state ≡ (touched_all r t moves accesses).state
+ready_for : (x : RunState) (r s : State) (t : ℕ) (moves : List Taken) (accesses : List Access) → r ≡ s → t < node_count s.layout → x.left ≡ frames_taken moves → x.state ≡ (touched_all r t moves accesses).state
     → IsSound (given_back r t moves accesses) → CanMove (given_back r t moves accesses) t moves → IsReadyFor x t moves
 ready_for x r s t moves accesses at inside taken touched back can =
     let nodes = ap (λ (z : State). node_count z.layout) at in
@@ -114,7 +114,7 @@ returns-in-Ok-clause-failed g c = c.finish-machine.ensures.failed ∙ ap failure
 
 -- what was left to do for accesses, done where the pages have moved, is what accesses in flight do
 as_in_flight : (g : Over) (c : goal.After-into_statuses g)
-    → all_after_copy (state_meanwhile c.begin-run.result.0 c.begin-run.result.1.items) (map pending_shown c.in-Ok.dues.items)
+    → all_after_copy (state_in_flight c.begin-run.result.0 c.begin-run.result.1.items) (map pending_shown c.in-Ok.dues.items)
     ≡ all_in_flight (with_moves c.of-run.result.state c.args.planned.requests.now.target c.moves-moves.result.now) (pages_of c.moves-moves.result.now) (accesses_shown {A = g.row.A.Denot} c.args.planned.accesses.now)
 as_in_flight g c =
     let r = c.of-run.result.state in
@@ -142,7 +142,7 @@ returns-in-Ok-clause-run g c =
     let plan : IsPlanOf r t ws c.args.planned.plan = subst (λ (s : State). IsPlanOf s t ws c.args.planned.plan) (sym at) c.requires.plan in
     let during = all_in_flight (with_moves r t moves) (pages_of moves) accesses in
     let flown = c.copy_beside-run.result.0 in
-    let now = state_meanwhile flown c.copy_beside-run.result.1.items in
+    let now = state_in_flight flown c.copy_beside-run.result.1.items in
     let state =
     c.finish-machine.ensures.state
     ∙ ap (λ n. with_counts (with_all_free now (frames_left flown.moves)) n (failures c.statuses.result.now)) (sym (length-map flown.moves (λ (t : Taken). t.from)))
@@ -185,7 +185,7 @@ returns-in-Err-clause-asked g c =
     asked_for _ c.args.planned.requests.now.target c.args.planned.requests.now.wanted.items c.args.planned.plan c.moves-moves.result.now (length c.args.planned.accesses.now) c.requires.plan c.moves-moves.ensures c.in-Err.ensures.asked
 
 pub into_machine-requires-clause-none : goal.into_machine-requires-clause-none
-into_machine-requires-clause-none g c κs within = ap (λ (x : MidRun). x.left) c.in-Err.ensures.err ∙ c.of-run.ensures.left
+into_machine-requires-clause-none g c κs within = ap (λ (x : RunState). x.left) c.in-Err.ensures.err ∙ c.of-run.ensures.left
 
 pub returns-in-Err-clause-err : goal.returns-in-Err-clause-err
-returns-in-Err-clause-err g c = c.into_machine.ensures ∙ ap (λ (x : MidRun). x.state) c.in-Err.ensures.err ∙ c.of-run.ensures.state
+returns-in-Err-clause-err g c = c.into_machine.ensures ∙ ap (λ (x : RunState). x.state) c.in-Err.ensures.err ∙ c.of-run.ensures.state

@@ -10,7 +10,7 @@ use Rattle.nm_model.specs.definitions.Effect.{drop_range}
 use Rattle.nm_model.specs.definitions.Sound.{IsSoundInFlight, IsSound, IsWhole}
 use Rattle.nm_spaces.specs.views.AddressSpaces.{AddressSpacesView}
 use Rattle.nm_engine.specs.views.Shown.{shown_by}
-use Rattle.nm_engine.specs.views.MidRun.{IsKept}
+use Rattle.nm_engine.specs.views.MidRun.{IsSoundMachine}
 use Rattle.nm_laws.proofs.Soundness.Dropped.{sees_none, exit_sound}
 use Rattle.nm_engine.proofs.Between.{sound_between}
 use Rattle.nm_engine.proofs.MidRun.LostFrames.{sees_nothing}
@@ -45,7 +45,7 @@ invariant_of-self g c =
     let out : State → State = λ t. record t { processes = without nat_cmp t.processes c.args.pid } in
     record {
       none = left;
-      kept = subst (λ (z : AddressSpacesView). IsKept (shown_by z i.frames i.online i.totals.moved i.totals.failed) i.frames.vacated z.frames) (sym c.remove_task.ensures)
+      kept = subst (λ (z : AddressSpacesView). IsSoundMachine (shown_by z i.frames i.online i.totals.moved i.totals.failed) i.frames.vacated z.frames) (sym c.remove_task.ensures)
           (record {
             sound = subst (λ l. IsSoundInFlight (out (shown_by i.spaces i.frames i.online i.totals.moved i.totals.failed)) l) (sym left)
                 (subst (λ t. IsSoundInFlight t []) (sym (ap out is)) (exit_sound s sound c.args.pid));

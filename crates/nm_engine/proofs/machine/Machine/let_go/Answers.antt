@@ -8,7 +8,7 @@ use Rattle.nm_areas.specs.Splits.{HasSplit}
 use Rattle.nm_areas.proofs.Counted.{err_always}
 use Rattle.nm_spaces.specs.views.AddressSpaces.{AddressSpacesView}
 use Rattle.nm_engine.specs.views.Shown.{shown_by}
-use Rattle.nm_engine.specs.views.MidRun.{IsKept}
+use Rattle.nm_engine.specs.views.MidRun.{IsSoundMachine}
 use Rattle.nm_engine.proofs.MidRun.LostFrames.{frames_of, can_go, gone_shows, gone_kept}
 use Rattle.nm_engine.proofs.machine.Machine.let_go.Goals as goal
 
@@ -40,7 +40,7 @@ pub invariant_of-self : goal.invariant_of-self
 invariant_of-self g c =
     let i = c.self.inside in
     record {
-      kept = subst (λ (z : AddressSpacesView). IsKept (shown_by z i.frames i.online i.totals.moved i.totals.failed) i.frames.vacated z.frames) (sym c.in_err-freed.ensures.err) c.self.invariant.kept;
+      kept = subst (λ (z : AddressSpacesView). IsSoundMachine (shown_by z i.frames i.online i.totals.moved i.totals.failed) i.frames.vacated z.frames) (sym c.in_err-freed.ensures.err) c.self.invariant.kept;
       none = c.self.invariant.none;
     }
 

@@ -7,7 +7,7 @@ use Rattle.nm_model.specs.definitions.Memory.{mem_range}
 use Rattle.nm_model.specs.definitions.Memory.{stretch_of}
 use Rattle.nm_model.specs.definitions.Touch.{AccessResult, Bytes, read, read_after, touch_site}
 use Rattle.nm_types.specs.State.{State}
-use Rattle.nm_engine.specs.views.Shown.{shown}
+use Rattle.nm_engine.specs.views.Shown.{state_of_parts}
 use Rattle.nm_model.specs.definitions.Seen.{frame_seen}
 use Rattle.nm_engine.proofs.Does.Touches.{touch_is}
 use Rattle.nm_laws.proofs.Seen.Frames.{page_of_frame, place_in_range}
@@ -31,15 +31,15 @@ read-requires-clause-frame g c =
     let y = c.touch.new.spaces in
     let k = c.touch.new.frames in
     let page = page_of_frame y.place _ c.in-Some.frame (sym c.in_ok-touched.ensures.frame ∙ c.in-Some.is) in
-    place_in_range (shown y.processes (table_of y) (paged_frames y k) i.online i.totals.moved i.totals.failed) _ page.0 c.in-Some.frame (c.touch.ensures.kept i.totals.moved i.totals.failed).sound page.2
+    place_in_range (state_of_parts y.processes (table_of y) (paged_frames y k) i.online i.totals.moved i.totals.failed) _ page.0 c.in-Some.frame (c.touch.ensures.kept i.totals.moved i.totals.failed).sound page.2
 
 pub returns-clause-answer : goal.returns-clause-answer
 returns-clause-answer g c =
     let i = c.self.inside in
     let y = c.touch.new.spaces in
     let k = c.touch.new.frames in
-    let s = shown i.spaces.processes (table_of i.spaces) (paged_frames i.spaces i.frames) i.online i.totals.moved i.totals.failed in
-    let new = shown y.processes (table_of y) (paged_frames y k) i.online i.totals.moved i.totals.failed in
+    let s = state_of_parts i.spaces.processes (table_of i.spaces) (paged_frames i.spaces i.frames) i.online i.totals.moved i.totals.failed in
+    let new = state_of_parts y.processes (table_of y) (paged_frames y k) i.online i.totals.moved i.totals.failed in
     let sound = (c.touch.ensures.kept i.totals.moved i.totals.failed).sound in
     let by : State → AccessResult = λ s. read s c.args.pid c.args.addr c.args.len in
     let there = c.in_ok-resolved.ensures.ok in

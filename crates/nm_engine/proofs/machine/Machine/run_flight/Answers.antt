@@ -4,13 +4,13 @@ use Rattle.nm_types.specs.State.{State}
 use Rattle.nm_laws.specs.Interleavings.{EveryOrderIsTheRun, IsRun}
 use Rattle.nm_model.specs.definitions.Run.{run}
 use Rattle.nm_engine.specs.declared.answers.RunAnswer.{RunAnswer}
-use Rattle.nm_engine.specs.definitions.Orders.{EndsSo, RunAsked, run_asked}
+use Rattle.nm_engine.specs.definitions.Orders.{EndsSo, RunRequest, result_of_run}
 use Rattle.nm_engine.specs.views.Runs.{asked_by, ran_by}
 use Rattle.nm_engine.proofs.machine.Machine.run_flight.Goals as goal
 
 -- the law of all orders says that of the run by the definitions, which is what was made
 module _ {A E : Type 0} where
-  orders_of : (r : Result (RunAnswer A) E) (s new : State) (asked : RunAsked) → EveryOrderIsTheRun → IfOk r (λ f. ran_by new f ≡ run_asked s asked) → IfOk r (λ f. EndsSo s asked (ran_by new f))
+  orders_of : (r : Result (RunAnswer A) E) (s new : State) (asked : RunRequest) → EveryOrderIsTheRun → IfOk r (λ f. ran_by new f ≡ result_of_run s asked) → IfOk r (λ f. EndsSo s asked (ran_by new f))
   orders_of (Err e) s new asked law made = tt
   orders_of (Ok f) s new asked law made = λ m events n starts unfolds same ended.
       subst (IsRun n) ((λ i. run (starts i) asked.target asked.wanted (same i)) ∙ sym made) (law m asked.target asked.wanted events n unfolds ended)

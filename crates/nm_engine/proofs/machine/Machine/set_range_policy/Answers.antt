@@ -7,7 +7,7 @@ use Rattle.nm_model.specs.definitions.Effect.{set_range_policy}
 use Rattle.nm_spaces.specs.views.AddressSpaces.{AddressSpacesView, mapped_of, with_mapped}
 use Rattle.nm_memory.specs.views.Frames.{FramesView}
 use Rattle.nm_engine.specs.views.Shown.{shown_by}
-use Rattle.nm_engine.specs.views.MidRun.{IsKept}
+use Rattle.nm_engine.specs.views.MidRun.{IsSoundMachine}
 use Rattle.nm_engine.proofs.Between.{on_either}
 use Rattle.nm_engine.proofs.MidRun.AreaChanges.{kept_policed}
 use Rattle.nm_engine.proofs.machine.Machine.set_range_policy.Goals as goal
@@ -19,7 +19,7 @@ invariant_of-self g c =
     record {
       kept = on_either c.set_range_policy.result c.set_range_policy.ensures.ok c.set_range_policy.ensures.err
           (λ new. kept_policed i.spaces c.set_range_policy.new.self i.frames i.online i.totals.moved i.totals.failed c.self.invariant.kept a.pid a.range.first a.range.end a.policy new)
-          (λ same. subst (λ (y : AddressSpacesView). IsKept (shown_by y i.frames i.online i.totals.moved i.totals.failed) i.frames.vacated y.frames) (sym same) c.self.invariant.kept);
+          (λ same. subst (λ (y : AddressSpacesView). IsSoundMachine (shown_by y i.frames i.online i.totals.moved i.totals.failed) i.frames.vacated y.frames) (sym same) c.self.invariant.kept);
       none = c.self.invariant.none;
     }
 

@@ -10,7 +10,7 @@ use Rattle.nm_types.specs.State.{State}
 use Rattle.nm_model.specs.definitions.Effect.{info_of, spawn, spawn_refusal, new_process}
 use Rattle.nm_spaces.specs.views.AddressSpaces.{AddressSpacesView, table_of}
 use Rattle.nm_engine.specs.views.Shown.{paged_frames, shown_by}
-use Rattle.nm_engine.specs.views.MidRun.{IsKept}
+use Rattle.nm_engine.specs.views.MidRun.{IsSoundMachine}
 use Rattle.nm_engine.proofs.Between.{on_either}
 use Rattle.nm_engine.proofs.MidRun.AreaCalls.{kept_spawned, spawn_fine, spawn_full}
 use Rattle.nm_engine.proofs.Does.HandedOn.{may_ask, nothing_made}
@@ -27,7 +27,7 @@ invariant_of-self g c =
     (omega (arith, c.if-index-count.false, c.index.ensures, nodes)) c.if-is_empty.ensures.1
     (ap (λ k. list_any (nat_le k) c.args.allowed) (sym nodes) ∙ sym c.has_beyond.ensures ∙ c.if-has_beyond.false) (omega (arith, c.if-len-ge-MAX_PROCESSES.false, c.len.ensures))
     in
-    let kept_by = λ (y : AddressSpacesView). IsKept (shown_by y i.frames i.online i.totals.moved i.totals.failed) i.frames.vacated y.frames in
+    let kept_by = λ (y : AddressSpacesView). IsSoundMachine (shown_by y i.frames i.online i.totals.moved i.totals.failed) i.frames.vacated y.frames in
     record {
       none = c.self.invariant.none;
       kept = on_either c.add.result c.add.ensures.ok c.add.ensures.err
@@ -48,7 +48,7 @@ invariant_of-self-2 g c =
     (omega (arith, c.if-index-count.false, c.index.ensures, nodes)) c.if-is_empty.ensures.1
     (ap (λ k. list_any (nat_le k) c.args.allowed) (sym nodes) ∙ sym c.has_beyond.ensures ∙ c.if-has_beyond.false) (omega (arith, c.if-len-ge-MAX_PROCESSES.false, c.len.ensures))
     in
-    let kept_by = λ (y : AddressSpacesView). IsKept (shown_by y i.frames i.online i.totals.moved i.totals.failed) i.frames.vacated y.frames in
+    let kept_by = λ (y : AddressSpacesView). IsSoundMachine (shown_by y i.frames i.online i.totals.moved i.totals.failed) i.frames.vacated y.frames in
     record {
       none = c.self.invariant.none;
       kept = on_either c.add.result c.add.ensures.ok c.add.ensures.err

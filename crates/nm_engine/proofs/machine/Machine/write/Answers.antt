@@ -5,8 +5,8 @@ use Rattle.nm_model.specs.definitions.Frames.{bytes_of, overwrite}
 use Rattle.nm_types.specs.State.{State}
 use Rattle.nm_memory.specs.views.Frames.{FramesView}
 use Rattle.nm_model.specs.definitions.Touch.{AccessResult, touch, touch_site, write, write_after}
-use Rattle.nm_engine.specs.views.MidRun.{IsKept}
-use Rattle.nm_engine.specs.views.Shown.{shown}
+use Rattle.nm_engine.specs.views.MidRun.{IsSoundMachine}
+use Rattle.nm_engine.specs.views.Shown.{state_of_parts}
 use Rattle.nm_model.specs.definitions.Seen.{frame_seen}
 use Rattle.nm_engine.proofs.Does.Touches.{touch_is, written_is, written_kept}
 use Rattle.nm_laws.proofs.Seen.Frames.{page_of_frame, place_in_range}
@@ -30,7 +30,7 @@ write-requires-clause-frame g c =
     let y = c.touch.new.spaces in
     let k = c.touch.new.frames in
     let page = page_of_frame y.place _ c.in-Some.frame (sym c.in_ok-touched.ensures.frame ∙ c.in-Some.is) in
-    place_in_range (shown y.processes (table_of y) (paged_frames y k) i.online i.totals.moved i.totals.failed) _ page.0 c.in-Some.frame (c.touch.ensures.kept i.totals.moved i.totals.failed).sound page.2
+    place_in_range (state_of_parts y.processes (table_of y) (paged_frames y k) i.online i.totals.moved i.totals.failed) _ page.0 c.in-Some.frame (c.touch.ensures.kept i.totals.moved i.totals.failed).sound page.2
 
 pub write-requires-clause-populated : goal.write-requires-clause-populated
 write-requires-clause-populated g c =
@@ -50,7 +50,7 @@ invariant_of-self-2 g c =
     let after : c.write.new.self.vacated ≡ k.vacated = ap (λ (k : FramesView). k.vacated) c.write.ensures.written in
     record {
       none = after ∙ c.touch.ensures.left ∙ c.self.invariant.none;
-      kept = subst (λ l. IsKept (shown_by y c.write.new.self i.online i.totals.moved i.totals.failed) l y.frames) (sym after)
+      kept = subst (λ l. IsSoundMachine (shown_by y c.write.new.self i.online i.totals.moved i.totals.failed) l y.frames) (sym after)
           (written_kept y.processes (table_of y) (paged_frames y k) i.online i.totals.moved i.totals.failed _ c.args.pid c.args.addr c.in-Some.frame c.args.bytes.now (paged_frames y c.write.new.self) kept (kept_stocked y k i.online i.totals.moved i.totals.failed kept c.write.ensures.shelf) seen (ap (paged_frames y) (c.write.ensures.written ∙ ap (overwritten k c.in-Some.frame c.args.bytes.now) c.offset.ensures.value)) c.in_ok-resolved.ensures.inside);
     }
 

@@ -23,7 +23,7 @@ use Rattle.nm_memory.specs.views.Frames.{FramesView}
 use Rattle.nm_memory.proofs.Copies.Copied.{tickets_from}
 use Rattle.nm_memory.proofs.Copies.Populated.{after_populated}
 use Rattle.nm_engine.specs.views.Flights.{pair_of}
-use Rattle.nm_engine.specs.views.MidRun.{MidRun, IsKept}
+use Rattle.nm_engine.specs.views.MidRun.{RunState, IsSoundMachine}
 use Rattle.nm_engine.specs.views.Shown.{shown_by}
 use Rattle.nm_engine.specs.views.Spaces.{spaces_of}
 use Rattle.nm_engine.proofs.InFlight.AllAtOnce.{prepared, lefts_populated, both_whole, remap, can_copy, can_meanwhile, finished_shows, finished_kept}
@@ -58,7 +58,7 @@ take_out-frames-requires-clause-populated g c =
 pub take_out-frames-requires-clause-few : goal.take_out-frames-requires-clause-few
 take_out-frames-requires-clause-few g c =
     let same = ap (λ (v : FramesView). v.room) c.vacate_each.ensures.vacated in
-    let room = ap (λ (x : MidRun). x.room) c.self.view_is in
+    let room = ap (λ (x : RunState). x.room) c.self.view_is in
     omega (arith, same, room, c.requires.few)
 
 pub hold-requires : goal.hold-requires
@@ -93,7 +93,7 @@ returns-clause-spaces g c =
     let y = c.self.inside.spaces in
     let moves = c.args.moves.now in
     c.hold.ensures.spaces ∙ (λ j. all_moved (record y { frames = c.self.invariant.as_many j }) moves)
-    ∙ ap (λ (x : MidRun). all_moved (spaces_of x.state) moves) c.self.view_is
+    ∙ ap (λ (x : RunState). all_moved (spaces_of x.state) moves) c.self.view_is
 
 pub returns-clause-state : goal.returns-clause-state
 returns-clause-state g c target ready =
@@ -109,7 +109,7 @@ returns-clause-state g c target ready =
     let then : FramesView = record k { frames = with_copies k.frames moves; vacated = frames_left moves; room = w.room } in
     (λ j. shown_by (c.hold.ensures.spaces j) (is j) i.online i.totals.moved i.totals.failed)
     ∙ finished_shows i.spaces i.frames i.online i.totals.moved i.totals.failed target moves [] h then refl
-    ∙ ap (λ (x : MidRun). with_moves (with_fronts x.state target (frames_taken moves)) target moves) c.self.view_is
+    ∙ ap (λ (x : RunState). with_moves (with_fronts x.state target (frames_taken moves)) target moves) c.self.view_is
 
 pub returns-clause-entries : goal.returns-clause-entries
 returns-clause-entries g c = c.hold.ensures.entries
@@ -136,8 +136,8 @@ returns-clause-out g c =
     record {
       can = can_home {A = g.row.A.Denot} k v w moves jobs left out.frames out.jobs can;
       whole = whole_then {A = g.row.A.Denot} k v w moves jobs left out.frames out.jobs can c.vacate_each.ensures.shelf;
-      kept = subst (λ (z : AddressSpacesView). IsKept (shown_by z (record w { frames = refilled w.frames (map copied jobs) }) i.online i.totals.moved i.totals.failed) w.vacated z.frames) (sym c.hold.ensures.spaces)
-          (subst (λ (x : FramesView). IsKept (shown_by (all_moved i.spaces moves) x i.online i.totals.moved i.totals.failed) x.vacated (all_moved i.spaces moves).frames) (sym is)
+      kept = subst (λ (z : AddressSpacesView). IsSoundMachine (shown_by z (record w { frames = refilled w.frames (map copied jobs) }) i.online i.totals.moved i.totals.failed) w.vacated z.frames) (sym c.hold.ensures.spaces)
+          (subst (λ (x : FramesView). IsSoundMachine (shown_by (all_moved i.spaces moves) x i.online i.totals.moved i.totals.failed) x.vacated (all_moved i.spaces moves).frames) (sym is)
           (finished_kept i.spaces i.frames i.online i.totals.moved i.totals.failed r.0 moves [] h then refl));
       populated = subst (λ (l : List ℕ). AllByRecursion (IsPopulated (refilled w.frames (map copied jobs))) l) (sym stays)
           (subst (λ (s : Store). AllByRecursion (IsPopulated s) (frames_left moves)) (sym home)

@@ -5,14 +5,14 @@ use Rattle.nm_memory.specs.views.Frames.{FramesView}
 use Rattle.nm_memory.proofs.FreeLists.Returned.{sound_returns}
 use Rattle.nm_model.specs.definitions.BeforeCopy.{with_fronts, frames_taken}
 use Rattle.nm_model.specs.definitions.Sound.{IsSound}
-use Rattle.nm_engine.specs.views.MidRun.{MidRun, IsKept}
+use Rattle.nm_engine.specs.views.MidRun.{RunState, IsSoundMachine}
 use Rattle.nm_engine.specs.views.Shown.{shown_by}
 use Rattle.nm_engine.proofs.InFlight.TakenFrames.{back_again}
 use Rattle.nm_engine.proofs.prepared_run.PreparedRun.prepare.Goals as goal
 
 pub give_back-requires-clause-node : goal.give_back-requires-clause-node
 give_back-requires-clause-node g c =
-    let there = ap (λ (x : MidRun). x.state) (c.self.view_is ∙ c.in-Err.ensures.err) ∙ c.in_ok-take_frames.ensures.taken.state in
+    let there = ap (λ (x : RunState). x.state) (c.self.view_is ∙ c.in-Err.ensures.err) ∙ c.in_ok-take_frames.ensures.taken.state in
     subst (λ (x : State). c.args.target < node_count x.layout) (sym there) c.requires.target
 
 pub give_back-requires-clause-can : goal.give_back-requires-clause-can
@@ -22,7 +22,7 @@ give_back-requires-clause-can g c =
     let t = c.args.target in
     let moves = c.args.moves.now in
     let sound = c.in_ok-take_frames.ensures.sound in
-    let there = ap (λ (x : MidRun). x.state) (c.self.view_is ∙ c.in-Err.ensures.err) ∙ c.in_ok-take_frames.ensures.taken.state in
+    let there = ap (λ (x : RunState). x.state) (c.self.view_is ∙ c.in-Err.ensures.err) ∙ c.in_ok-take_frames.ensures.taken.state in
     let back = ap (λ (x : State). with_fronts x t (frames_taken moves)) there ∙ back_again c.args.self.now.state t moves (omega (arith, sound.frames.lists, c.requires.target)) c.requires.moves in
     let nodes = ap (λ (x : State). node_count x.layout) there in
     sound_returns s t (frames_taken moves) (omega (arith, nodes, c.self.invariant.sound.frames.lists, c.requires.target)) (subst IsSound (sym back) sound)
@@ -33,9 +33,9 @@ invariant_of-self g c =
     let t = c.args.target in
     let moves = c.args.moves.now in
     let sound = c.in_ok-take_frames.ensures.sound in
-    let there = ap (λ (x : MidRun). x.state) (c.self.view_is ∙ c.in-Err.ensures.err) ∙ c.in_ok-take_frames.ensures.taken.state in
+    let there = ap (λ (x : RunState). x.state) (c.self.view_is ∙ c.in-Err.ensures.err) ∙ c.in_ok-take_frames.ensures.taken.state in
     let back = ap (λ (x : State). with_fronts x t (frames_taken moves)) there ∙ back_again c.args.self.now.state t moves (omega (arith, sound.frames.lists, c.requires.target)) c.requires.moves in
-    subst (λ (k : FramesView). IsKept (shown_by i.spaces k i.online i.totals.moved i.totals.failed) k.vacated i.spaces.frames) (sym c.give_back.ensures.given)
+    subst (λ (k : FramesView). IsSoundMachine (shown_by i.spaces k i.online i.totals.moved i.totals.failed) k.vacated i.spaces.frames) (sym c.give_back.ensures.given)
     (record { sound = subst IsSound (sym back) sound; as_many = c.self.invariant.as_many })
 
 pub returns-in-Err-clause-err : goal.returns-in-Err-clause-err
@@ -45,7 +45,7 @@ returns-in-Err-clause-err g c =
     let moves = c.args.moves.now in
     let sound = c.in_ok-take_frames.ensures.sound in
     let view = c.self.view_is ∙ c.in-Err.ensures.err in
-    let there = ap (λ (x : MidRun). x.state) view ∙ c.in_ok-take_frames.ensures.taken.state in
+    let there = ap (λ (x : RunState). x.state) view ∙ c.in_ok-take_frames.ensures.taken.state in
     let back = ap (λ (x : State). with_fronts x t (frames_taken moves)) there ∙ back_again c.args.self.now.state t moves (omega (arith, sound.frames.lists, c.requires.target)) c.requires.moves in
     let given = c.give_back.ensures.given in
     let state = ap (λ (k : FramesView). shown_by i.spaces k i.online i.totals.moved i.totals.failed) given ∙ back in

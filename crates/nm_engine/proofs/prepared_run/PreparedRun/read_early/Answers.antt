@@ -7,7 +7,7 @@ use Rattle.nm_types.specs.State.{State}
 use Rattle.nm_model.specs.definitions.Seen.{sight_at}
 use Rattle.nm_model.specs.definitions.BeforeCopy.{BeforeCopy, Known, ToRead, pending_read}
 use Rattle.nm_model.specs.definitions.Touch.{Bytes, Refused}
-use Rattle.nm_engine.specs.views.MidRun.{MidRun, with_state}
+use Rattle.nm_engine.specs.views.MidRun.{RunState, with_state}
 use Rattle.nm_engine.proofs.MidRun.Sites.{found_in}
 use Rattle.nm_model.specs.definitions.Seen.{frame_seen}
 use Rattle.nm_engine.proofs.InFlight.PendingAccesses.{read_due, read_refused, read_held, read_goes, read_turned_down}
@@ -19,7 +19,7 @@ use Rattle.nm_engine.proofs.prepared_run.PreparedRun.read_early.Goals as goal
 
 pub returns-in-Ok-Some-clause-touched : goal.returns-in-Ok-Some-clause-touched
 returns-in-Ok-Some-clause-touched g c =
-    let there = found_in c.args.self.now.state c.self.inside.spaces.processes c.self.inside.spaces.areas c.in-Ok.resolved c.args.pid c.args.addr c.args.len (ap (λ (x : MidRun). x.state.processes) (sym c.self.view_is)) (ap (λ (x : MidRun). x.state.areas) (sym c.self.view_is)) c.in-Ok.ensures.ok in
+    let there = found_in c.args.self.now.state c.self.inside.spaces.processes c.self.inside.spaces.areas c.in-Ok.resolved c.args.pid c.args.addr c.args.len (ap (λ (x : RunState). x.state.processes) (sym c.self.view_is)) (ap (λ (x : RunState). x.state.areas) (sym c.self.view_is)) c.in-Ok.ensures.ok in
     let page : c.in-Ok.resolved.page ≡ _ = sym there.3.page in
     let free = ap (λ p. list_any (same_page p) c.args.moving.now.keys) there.3.page ∙ sym c.contains.ensures ∙ c.if-contains.false in
     let seen = ap (λ (x : ℕ × ℕ). frame_seen c.touch_noted.new.self.state x.0 x.1) (λ i. (sym c.in-Ok.ensures.pid i, sym c.in-Ok.ensures.page i)) ∙ sym c.in-Ok-Some.ensures.frame ∙ c.in-Ok-Some.field-0-is in
@@ -35,7 +35,7 @@ returns-in-Ok-Some-clause-touched g c =
 
 pub returns-in-Ok-None-clause-touched : goal.returns-in-Ok-None-clause-touched
 returns-in-Ok-None-clause-touched g c =
-    let there = found_in c.args.self.now.state c.self.inside.spaces.processes c.self.inside.spaces.areas c.in-Ok.resolved c.args.pid c.args.addr c.args.len (ap (λ (x : MidRun). x.state.processes) (sym c.self.view_is)) (ap (λ (x : MidRun). x.state.areas) (sym c.self.view_is)) c.in-Ok.ensures.ok in
+    let there = found_in c.args.self.now.state c.self.inside.spaces.processes c.self.inside.spaces.areas c.in-Ok.resolved c.args.pid c.args.addr c.args.len (ap (λ (x : RunState). x.state.processes) (sym c.self.view_is)) (ap (λ (x : RunState). x.state.areas) (sym c.self.view_is)) c.in-Ok.ensures.ok in
     let new = c.touch_noted.new.self.state in
     let at = c.args.addr % 4096 in
     let free = ap (λ p. list_any (same_page p) c.args.moving.now.keys) there.3.page ∙ sym c.contains.ensures ∙ c.if-contains.false in
@@ -53,15 +53,15 @@ returns-in-Ok-None-clause-touched g c =
 pub returns-in-Err-clause-touched : goal.returns-in-Err-clause-touched
 returns-in-Err-clause-touched g c =
     record {
-      touched = ap (with_state c.args.self.now) (sym (ap (λ (e : BeforeCopy). e.state) (read_refused c.args.self.now.state c.args.moving.now.keys c.args.pid c.args.addr c.args.len c.in-Err.error (c.in-Err.ensures.err c.args.self.now.state (ap (λ (x : MidRun). x.state.processes) (sym c.self.view_is)) (ap (λ (x : MidRun). x.state.areas) (sym c.self.view_is))))));
+      touched = ap (with_state c.args.self.now) (sym (ap (λ (e : BeforeCopy). e.state) (read_refused c.args.self.now.state c.args.moving.now.keys c.args.pid c.args.addr c.args.len c.in-Err.error (c.in-Err.ensures.err c.args.self.now.state (ap (λ (x : RunState). x.state.processes) (sym c.self.view_is)) (ap (λ (x : RunState). x.state.areas) (sym c.self.view_is))))));
       due =
-          sym (ap (λ (e : BeforeCopy). e.due) (read_refused c.args.self.now.state c.args.moving.now.keys c.args.pid c.args.addr c.args.len c.in-Err.error (c.in-Err.ensures.err c.args.self.now.state (ap (λ (x : MidRun). x.state.processes) (sym c.self.view_is)) (ap (λ (x : MidRun). x.state.areas) (sym c.self.view_is)))));
+          sym (ap (λ (e : BeforeCopy). e.due) (read_refused c.args.self.now.state c.args.moving.now.keys c.args.pid c.args.addr c.args.len c.in-Err.error (c.in-Err.ensures.err c.args.self.now.state (ap (λ (x : RunState). x.state.processes) (sym c.self.view_is)) (ap (λ (x : RunState). x.state.areas) (sym c.self.view_is)))));
       room = tt;
     }
 
 pub returns-then-contains-clause-touched : goal.returns-then-contains-clause-touched
 returns-then-contains-clause-touched g c =
-    let there = found_in c.args.self.now.state c.self.inside.spaces.processes c.self.inside.spaces.areas c.in-Ok.resolved c.args.pid c.args.addr c.args.len (ap (λ (x : MidRun). x.state.processes) (sym c.self.view_is)) (ap (λ (x : MidRun). x.state.areas) (sym c.self.view_is)) c.in-Ok.ensures.ok in
+    let there = found_in c.args.self.now.state c.self.inside.spaces.processes c.self.inside.spaces.areas c.in-Ok.resolved c.args.pid c.args.addr c.args.len (ap (λ (x : RunState). x.state.processes) (sym c.self.view_is)) (ap (λ (x : RunState). x.state.areas) (sym c.self.view_is)) c.in-Ok.ensures.ok in
     let held = ap (λ p. list_any (same_page p) c.args.moving.now.keys) there.3.page ∙ sym c.contains.ensures ∙ c.if-contains.true in
     record {
       touched = ap (with_state c.args.self.now) (sym (ap (λ (e : BeforeCopy). e.state) (read_held c.args.self.now.state c.args.moving.now.keys c.args.pid c.args.addr c.args.len _ there.2 held)));
@@ -72,7 +72,7 @@ returns-then-contains-clause-touched g c =
 
 pub returns-in-Err-Refused-clause-touched : goal.returns-in-Err-Refused-clause-touched
 returns-in-Err-Refused-clause-touched g c =
-    let there = found_in c.args.self.now.state c.self.inside.spaces.processes c.self.inside.spaces.areas c.in-Ok.resolved c.args.pid c.args.addr c.args.len (ap (λ (x : MidRun). x.state.processes) (sym c.self.view_is)) (ap (λ (x : MidRun). x.state.areas) (sym c.self.view_is)) c.in-Ok.ensures.ok in
+    let there = found_in c.args.self.now.state c.self.inside.spaces.processes c.self.inside.spaces.areas c.in-Ok.resolved c.args.pid c.args.addr c.args.len (ap (λ (x : RunState). x.state.processes) (sym c.self.view_is)) (ap (λ (x : RunState). x.state.areas) (sym c.self.view_is)) c.in-Ok.ensures.ok in
     let free = ap (λ p. list_any (same_page p) c.args.moving.now.keys) there.3.page ∙ sym c.contains.ensures ∙ c.if-contains.false in
     let goes = read_turned_down c.args.self.now.state c.args.moving.now.keys c.touch_noted.new.self.state c.args.pid c.args.addr c.args.len _ c.in-Err-Refused.field-0 c.in-Err-Refused.error there.2 free c.in-Err-Refused.field-0-is (c.in-Err-Refused.ensures.touches there.0 there.1 there.3) in
     record {
@@ -84,23 +84,23 @@ returns-in-Err-Refused-clause-touched g c =
 
 pub returns-clause-err : goal.returns-clause-err
 returns-clause-err g c =
-    let there = found_in c.args.self.now.state c.self.inside.spaces.processes c.self.inside.spaces.areas c.in-Ok.resolved c.args.pid c.args.addr c.args.len (ap (λ (x : MidRun). x.state.processes) (sym c.self.view_is)) (ap (λ (x : MidRun). x.state.areas) (sym c.self.view_is)) c.in-Ok.ensures.ok in
+    let there = found_in c.args.self.now.state c.self.inside.spaces.processes c.self.inside.spaces.areas c.in-Ok.resolved c.args.pid c.args.addr c.args.len (ap (λ (x : RunState). x.state.processes) (sym c.self.view_is)) (ap (λ (x : RunState). x.state.areas) (sym c.self.view_is)) c.in-Ok.ensures.ok in
     c.in-Err-HostMemory.ensures.same ∙ ap (λ (s : State). with_state c.args.self.now s) (touches_err c.in-Err-HostMemory.field-0 c.args.self.now.state c.touch_noted.new.self.state _ (c.in-Err-HostMemory.ensures.touches there.0 there.1 there.3))
 
 pub returns-in_err-bytes-clause-asked : goal.returns-in_err-bytes-clause-asked
 returns-in_err-bytes-clause-asked g c =
-    let there = found_in c.args.self.now.state c.self.inside.spaces.processes c.self.inside.spaces.areas c.in-Ok.resolved c.args.pid c.args.addr c.args.len (ap (λ (x : MidRun). x.state.processes) (sym c.self.view_is)) (ap (λ (x : MidRun). x.state.areas) (sym c.self.view_is)) c.in-Ok.ensures.ok in
+    let there = found_in c.args.self.now.state c.self.inside.spaces.processes c.self.inside.spaces.areas c.in-Ok.resolved c.args.pid c.args.addr c.args.len (ap (λ (x : RunState). x.state.processes) (sym c.self.view_is)) (ap (λ (x : RunState). x.state.areas) (sym c.self.view_is)) c.in-Ok.ensures.ok in
     let free = ap (λ p. list_any (same_page p) c.args.moving.now.keys) there.3.page ∙ sym c.contains.ensures ∙ c.if-contains.false in
     err_always c.from_residual.result (ap result_err there.2, ap (is_held c.args.moving.now.keys) there.2 ∙ free)
 
 pub returns-clause-asked : goal.returns-clause-asked
 returns-clause-asked g c =
-    let there = found_in c.args.self.now.state c.self.inside.spaces.processes c.self.inside.spaces.areas c.in-Ok.resolved c.args.pid c.args.addr c.args.len (ap (λ (x : MidRun). x.state.processes) (sym c.self.view_is)) (ap (λ (x : MidRun). x.state.areas) (sym c.self.view_is)) c.in-Ok.ensures.ok in
+    let there = found_in c.args.self.now.state c.self.inside.spaces.processes c.self.inside.spaces.areas c.in-Ok.resolved c.args.pid c.args.addr c.args.len (ap (λ (x : RunState). x.state.processes) (sym c.self.view_is)) (ap (λ (x : RunState). x.state.areas) (sym c.self.view_is)) c.in-Ok.ensures.ok in
     let free = ap (λ p. list_any (same_page p) c.args.moving.now.keys) there.3.page ∙ sym c.contains.ensures ∙ c.if-contains.false in
     (ap result_err there.2, ap (is_held c.args.moving.now.keys) there.2 ∙ free)
 
 pub touch_noted-requires : goal.touch_noted-requires
-touch_noted-requires g c = let there = found_in c.args.self.now.state c.self.inside.spaces.processes c.self.inside.spaces.areas c.in-Ok.resolved c.args.pid c.args.addr c.args.len (ap (λ (x : MidRun). x.state.processes) (sym c.self.view_is)) (ap (λ (x : MidRun). x.state.areas) (sym c.self.view_is)) c.in-Ok.ensures.ok in (there.0, there.1, there.3)
+touch_noted-requires g c = let there = found_in c.args.self.now.state c.self.inside.spaces.processes c.self.inside.spaces.areas c.in-Ok.resolved c.args.pid c.args.addr c.args.len (ap (λ (x : RunState). x.state.processes) (sym c.self.view_is)) (ap (λ (x : RunState). x.state.areas) (sym c.self.view_is)) c.in-Ok.ensures.ok in (there.0, there.1, there.3)
 
 pub push_zeros-requires : goal.push_zeros-requires
 push_zeros-requires g c = omega (arith, c.in_ok-bytes.ensures.len, c.in_ok-bytes.ensures.capacity)

@@ -1,6 +1,6 @@
 use Rattle.std.proofs.Common.{List, ap, sym, subst, ◌∙◌}
 use Rattle.nm_engine.specs.declared.prepared_run.undo.Undo.{Undo}
-use Rattle.nm_engine.specs.views.MidRun.{MidRun, with_state}
+use Rattle.nm_engine.specs.views.MidRun.{RunState, with_state}
 use Rattle.nm_engine.specs.definitions.Undo.{CanUndo, all_undone}
 use Rattle.nm_engine.proofs.Undo.Touches.{all_undone-push, can_pop}
 use Rattle.nm_engine.proofs.prepared_run.PreparedRun.take_back.Goals as goal
@@ -17,8 +17,8 @@ loop-undo-preserved g c =
     let can = subst (λ (us : List Undo). CanUndo s.state s.left us) c.in-Some.ensures.items c.loop-undo.invariant.can in
     let popped = can_pop s.state s.left rest c.in-Some.undo can in
     record {
-      can = subst (λ (x : MidRun). CanUndo x.state x.left rest) (sym c.undo.ensures) popped.1;
-      back = ap (λ (x : MidRun). with_state x (all_undone x.state rest)) c.undo.ensures
+      can = subst (λ (x : RunState). CanUndo x.state x.left rest) (sym c.undo.ensures) popped.1;
+      back = ap (λ (x : RunState). with_state x (all_undone x.state rest)) c.undo.ensures
           ∙ ap (with_state s) (sym (all_undone-push s.state rest c.in-Some.undo))
           ∙ ap (λ (us : List Undo). with_state s (all_undone s.state us)) (sym c.in-Some.ensures.items)
           ∙ c.loop-undo.invariant.back;

@@ -6,7 +6,7 @@ use Rattle.nm_laws.proofs.Early.Phases.{tos_are}
 use Rattle.nm_types.specs.Layout.{node_count}
 use Rattle.nm_memory.specs.views.Frames.{FramesView, KeepsBytes, free_on}
 use Rattle.nm_spaces.specs.views.AddressSpaces.{AddressSpacesView}
-use Rattle.nm_engine.specs.views.MidRun.{MidRun, IsKept}
+use Rattle.nm_engine.specs.views.MidRun.{RunState, IsSoundMachine}
 use Rattle.nm_laws.specs.Moves.{CanMove}
 use Rattle.nm_areas.proofs.Counted.{err_always}
 use Rattle.nm_model.specs.definitions.BeforeCopy.{frames_taken, without_fronts}
@@ -19,35 +19,35 @@ use Rattle.nm_engine.proofs.Shown.PopulatedFrames.{same_shown, kept_again, view_
 use Rattle.nm_engine.proofs.prepared_run.PreparedRun.take_frames.Goals as goal
 
 -- the value of these parts
-abbrev value_of : AddressSpacesView → FramesView → List ℕ → ℕ → ℕ → MidRun
+abbrev value_of : AddressSpacesView → FramesView → List ℕ → ℕ → ℕ → RunState
 value_of y k online moved failed = record { state = shown_by y k online moved failed; left = k.vacated; room = k.room }
 
 -- more room changes nothing else
 module _ (y : AddressSpacesView) (k r : FramesView) (online : List ℕ) (moved failed : ℕ) (same : r ≡ record k { room = r.room }) where
-  roomy_kept : IsKept (shown_by y k online moved failed) k.vacated y.frames → IsKept (shown_by y r online moved failed) r.vacated y.frames
-  roomy_kept kept = subst (λ (x : FramesView). IsKept (shown_by y x online moved failed) x.vacated y.frames) (sym same) kept
+  roomy_kept : IsSoundMachine (shown_by y k online moved failed) k.vacated y.frames → IsSoundMachine (shown_by y r online moved failed) r.vacated y.frames
+  roomy_kept kept = subst (λ (x : FramesView). IsSoundMachine (shown_by y x online moved failed) x.vacated y.frames) (sym same) kept
 
-  roomy_view : (x : MidRun) → value_of y k online moved failed ≡ x → value_of y r online moved failed ≡ record x { room = r.room }
-  roomy_view x view = ap (λ (z : FramesView). value_of y z online moved failed) same ∙ ap (λ (z : MidRun). record z { room = r.room }) view
+  roomy_view : (x : RunState) → value_of y k online moved failed ≡ x → value_of y r online moved failed ≡ record x { room = r.room }
+  roomy_view x view = ap (λ (z : FramesView). value_of y z online moved failed) same ∙ ap (λ (z : RunState). record z { room = r.room }) view
 
 -- the parts of a machine that has more room and whose frames have their bytes: it can still make these moves, which take
 -- the first frames of the node
-record IsReady (y : AddressSpacesView) (w : FramesView) (online : List ℕ) (moved failed : ℕ) (x : MidRun) (target : ℕ) (moves : List Taken) : Type 0 where
-  kept : IsKept (shown_by y w online moved failed) w.vacated y.frames
+record IsReady (y : AddressSpacesView) (w : FramesView) (online : List ℕ) (moved failed : ℕ) (x : RunState) (target : ℕ) (moves : List Taken) : Type 0 where
+  kept : IsSoundMachine (shown_by y w online moved failed) w.vacated y.frames
   view : value_of y w online moved failed ≡ x
   below : target < length w.free
   can : CanMove (shown_by y w online moved failed) target moves
   front : frames_taken moves ≡ take (length moves) (free_on w target)
 
-populated : (y : AddressSpacesView) (k r w : FramesView) (online : List ℕ) (moved failed : ℕ) (x : MidRun) (target : ℕ) (moves : List Taken) → r ≡ record k { room = r.room } → w ≡ record r { frames = w.frames } → KeepsBytes r.frames w.frames
-    → IsKept (shown_by y k online moved failed) k.vacated y.frames → value_of y k online moved failed ≡ x → target < node_count x.state.layout → CanMove x.state target moves → IsReady y w online moved failed (record x { room = r.room }) target moves
+populated : (y : AddressSpacesView) (k r w : FramesView) (online : List ℕ) (moved failed : ℕ) (x : RunState) (target : ℕ) (moves : List Taken) → r ≡ record k { room = r.room } → w ≡ record r { frames = w.frames } → KeepsBytes r.frames w.frames
+    → IsSoundMachine (shown_by y k online moved failed) k.vacated y.frames → value_of y k online moved failed ≡ x → target < node_count x.state.layout → CanMove x.state target moves → IsReady y w online moved failed (record x { room = r.room }) target moves
 populated y k r w online moved failed x target moves room same keeps kept view inside can =
     let roomy = roomy_kept y k r online moved failed room kept in
     let kept_then = kept_again y r w online moved failed same keeps roomy in
     let view_then = view_again y r w online moved failed same keeps _ roomy (roomy_view y k r online moved failed room x view) in
-    let nodes = ap (λ (z : MidRun). node_count z.state.layout) view_then in
+    let nodes = ap (λ (z : RunState). node_count z.state.layout) view_then in
     let below : target < length w.free = omega (arith, nodes, kept_then.sound.frames.lists, inside) in
-    let can_then = subst (λ (z : MidRun). CanMove z.state target moves) (sym view_then) can in
+    let can_then = subst (λ (z : RunState). CanMove z.state target moves) (sym view_then) can in
     record { kept = kept_then; view = view_then; below = below; can = can_then; front = tos_are moves (shown_by y w online moved failed) target below can_then }
 
 pub invariant_of-self : goal.invariant_of-self
@@ -67,9 +67,9 @@ populate_each-requires g c =
     let room = c.in_ok-reserve.ensures.same in
     let kept = roomy_kept i.spaces i.frames r i.online i.totals.moved i.totals.failed room c.self.invariant in
     let view = roomy_view i.spaces i.frames r i.online i.totals.moved i.totals.failed room c.args.self.now c.self.view_is in
-    let same = ap (λ (x : MidRun). node_count x.state.layout) view in
+    let same = ap (λ (x : RunState). node_count x.state.layout) view in
     tos_below c.args.moves.now _ c.args.target r.vacated (omega (arith, same, kept.sound.frames.lists, c.requires.target)) kept.sound.frames
-    (subst (λ (x : MidRun). CanMove x.state c.args.target c.args.moves.now) (sym view) c.requires.moves)
+    (subst (λ (x : RunState). CanMove x.state c.args.target c.args.moves.now) (sym view) c.requires.moves)
 
 -- the first frames of a node are taken, and these belong to the run
 abbrev left_with : FramesView → ℕ → ℕ → List ℕ → FramesView
@@ -99,7 +99,7 @@ invariant_of-self-2 g c =
     let is = populated i.spaces i.frames c.reserve.new.self k i.online i.totals.moved i.totals.failed c.args.self.now c.args.target c.args.moves.now
     c.in_ok-reserve.ensures.same there.same there.kept c.self.invariant c.self.view_is c.requires.target c.requires.moves in
     taken_kept i.spaces k c.take_for_run.new.self i.online i.totals.moved i.totals.failed c.args.target c.args.moves.now is.kept
-    (ap (λ (x : MidRun). x.left) is.view ∙ c.requires.none) is.below is.can
+    (ap (λ (x : RunState). x.left) is.view ∙ c.requires.none) is.below is.can
     (c.take_for_run.ensures.taken ∙ ap (left_with k c.args.target (length c.args.moves.now)) (sym is.front))
 
 pub returns-in_err-populate_each-clause-err : goal.returns-in_err-populate_each-clause-err
@@ -130,9 +130,9 @@ returns-clause-taken g c =
           ap (λ (x : FramesView). shown_by i.spaces x i.online i.totals.moved i.totals.failed) taken
           ∙ ap (λ (s : State). without_fronts s c.args.target (length c.args.moves.now))
           (same_shown i.spaces r k i.online i.totals.moved i.totals.failed there.same there.kept r.vacated roomy.sound
-          ∙ ap (λ (x : MidRun). x.state) (roomy_view i.spaces i.frames r i.online i.totals.moved i.totals.failed room c.args.self.now c.self.view_is));
+          ∙ ap (λ (x : RunState). x.state) (roomy_view i.spaces i.frames r i.online i.totals.moved i.totals.failed room c.args.self.now c.self.view_is));
       left =
           ap (λ (x : FramesView). x.vacated) taken
-          ∙ ap (λ xs. xs ++ take (length c.args.moves.now) (free_on k c.args.target)) (ap (λ (x : MidRun). x.left) is.view ∙ c.requires.none) ∙ sym is.front;
+          ∙ ap (λ xs. xs ++ take (length c.args.moves.now) (free_on k c.args.target)) (ap (λ (x : RunState). x.left) is.view ∙ c.requires.none) ∙ sym is.front;
       room = omega (arith, ap (λ (x : FramesView). x.room) taken, ap (λ (x : FramesView). x.room) there.same, c.in_ok-reserve.ensures.room);
     }

@@ -7,7 +7,7 @@ use Rattle.nm_types.specs.State.{State}
 use Rattle.nm_model.specs.views.Asked.{access_shown}
 use Rattle.nm_memory.specs.views.Accesses.{pending_shown, HasRoom}
 use Rattle.nm_model.specs.definitions.BeforeCopy.{PendingAccess, AllBeforeCopy, before_copy, all_before_copy}
-use Rattle.nm_engine.specs.views.MidRun.{MidRun, with_state}
+use Rattle.nm_engine.specs.views.MidRun.{RunState, with_state}
 use Rattle.nm_engine.specs.views.Runs.{accesses_shown}
 use Rattle.nm_engine.specs.definitions.Undo.{CanUndo, all_undone}
 use Rattle.nm_laws.proofs.Early.Among.{all_early_alike}
@@ -43,18 +43,18 @@ push_reserved-requires g c =
 pub take_back-requires : goal.take_back-requires
 take_back-requires g c =
     let s = c.loop-access.self in
-    let left = ap (λ (x : MidRun). x.left) c.loop-access.invariant.same in
+    let left = ap (λ (x : RunState). x.left) c.loop-access.invariant.same in
     let can = c.touch_early.ensures.back (subst (λ (l : List ℕ). CanUndo s.state l c.loop-access.undos.items) (sym left) c.loop-access.invariant.back.0) in
-    subst (λ (l : List ℕ). CanUndo c.touch_early.new.self.state l c.touch_early.new.undos.items) (sym (ap (λ (x : MidRun). x.left) c.in-Err.ensures.err)) can.0
+    subst (λ (l : List ℕ). CanUndo c.touch_early.new.self.state l c.touch_early.new.undos.items) (sym (ap (λ (x : RunState). x.left) c.in-Err.ensures.err)) can.0
 
 pub returns-in-Err-clause-err : goal.returns-in-Err-clause-err
 returns-in-Err-clause-err g c =
     let s = c.loop-access.self in
     let n = c.touch_early.new.self in
-    let left = ap (λ (x : MidRun). x.left) c.loop-access.invariant.same in
+    let left = ap (λ (x : RunState). x.left) c.loop-access.invariant.same in
     let can = c.touch_early.ensures.back (subst (λ (l : List ℕ). CanUndo s.state l c.loop-access.undos.items) (sym left) c.loop-access.invariant.back.0) in
     let then : State = all_undone n.state c.touch_early.new.undos.items in
-    c.take_back.ensures.back ∙ ap (λ (x : MidRun). with_state x then) c.in-Err.ensures.err ∙ ap (λ (x : MidRun). with_state x then) c.loop-access.invariant.same
+    c.take_back.ensures.back ∙ ap (λ (x : RunState). with_state x then) c.in-Err.ensures.err ∙ ap (λ (x : RunState). with_state x then) c.loop-access.invariant.same
     ∙ ap (with_state c.args.self.now) (can.1 ∙ c.loop-access.invariant.back.1)
 
 pub loop-access-preserved : goal.loop-access-preserved
@@ -68,10 +68,10 @@ loop-access-preserved g c =
     let rest = map (λ a. access_shown {A = g.row.A.Denot} a.now) (drop (k + 1) accesses) in
     let at = drop_item accesses k a c.loop-access-test.true c.access-item.is in
     let touched = c.in-Ok.ensures.touched in
-    let state = ap (λ (x : MidRun). x.state) touched.touched in
+    let state = ap (λ (x : RunState). x.state) touched.touched in
     let told = map pending_shown c.loop-access.dues.items in
     let items = c.push_reserved.ensures.items in
-    let left = ap (λ (x : MidRun). x.left) c.loop-access.invariant.same in
+    let left = ap (λ (x : RunState). x.left) c.loop-access.invariant.same in
     let can = c.touch_early.ensures.back (subst (λ (l : List ℕ). CanUndo s.state l c.loop-access.undos.items) (sym left) c.loop-access.invariant.back.0) in
     let more = ap length items ∙ length-append c.loop-access.dues.items _ in
     record {
@@ -87,7 +87,7 @@ loop-access-preserved g c =
       len = omega (arith, more, c.loop-access.invariant.len);
       within = omega (arith, c.loop-access-test.true);
       fits = omega (arith, c.push_reserved.ensures.capacity, c.loop-access.invariant.fits);
-      same = touched.touched ∙ ap (λ (x : MidRun). with_state x ((before_copy s.state keys (access_shown a.now)).state)) c.loop-access.invariant.same ∙ ap (with_state c.args.self.now) (sym state);
+      same = touched.touched ∙ ap (λ (x : RunState). with_state x ((before_copy s.state keys (access_shown a.now)).state)) c.loop-access.invariant.same ∙ ap (with_state c.args.self.now) (sym state);
       back = (subst (λ (l : List ℕ). CanUndo n.state l c.touch_early.new.undos.items) left can.0, can.1 ∙ c.loop-access.invariant.back.1);
     }
 

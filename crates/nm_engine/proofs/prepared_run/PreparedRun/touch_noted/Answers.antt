@@ -7,8 +7,8 @@ use Rattle.nm_model.specs.definitions.Sound.{IsSoundInFlight}
 use Rattle.nm_model.specs.definitions.Touch.{touch_sight}
 use Rattle.nm_engine.specs.declared.prepared_run.undo.Undo.{Undo}
 use Rattle.nm_engine.specs.definitions.Does.{Touches}
-use Rattle.nm_engine.specs.definitions.Undo.{IsStillUndone, noted, with_undo}
-use Rattle.nm_engine.specs.views.MidRun.{MidRun}
+use Rattle.nm_engine.specs.definitions.Undo.{IsStillUndone, undo_of, with_undo}
+use Rattle.nm_engine.specs.views.MidRun.{RunState}
 use Rattle.nm_engine.specs.views.Parts.{IsSiteOf, access_site}
 use Rattle.nm_engine.specs.views.Shown.{shown_by}
 use Rattle.nm_engine.proofs.Does.Touches.{inside, outside}
@@ -56,7 +56,7 @@ returns-in_err-frame-clause-back g c =
     let here = inside _ _ _ _ c.self.view_is (λ s. IsSiteOf s.processes s.areas t p a) c.requires.2 in
     let same = touches_err _ old new _ (c.in_err-frame.ensures.touches i.totals.moved i.totals.failed p a here) in
     same_undone c.args.self.now.state c.args.self.now.left new c.args.undos.now.items c.reserve.new.self.items
-    (same ∙ ap (λ (x : MidRun). x.state) c.self.view_is) c.in_ok-reserve.ensures.items
+    (same ∙ ap (λ (x : RunState). x.state) c.self.view_is) c.in_ok-reserve.ensures.items
 
 pub returns-clause-back : goal.returns-clause-back
 returns-clause-back g c =
@@ -68,12 +68,12 @@ returns-clause-back g c =
     let new = shown_by c.touch.new.spaces c.touch.new.frames i.online i.totals.moved i.totals.failed in
     let old : List Undo = c.args.undos.now.items in
     let frame = c.in_ok-frame.field-0.frame in
-    let sound = subst (λ (x : MidRun). IsSoundInFlight x.state x.left) c.self.view_is c.self.invariant.sound in
+    let sound = subst (λ (x : RunState). IsSoundInFlight x.state x.left) c.self.view_is c.self.invariant.sound in
     let here = inside _ _ _ _ c.self.view_is (λ s. IsSiteOf s.processes s.areas t p a) c.requires.2 in
     let done = outside _ _ _ _ c.self.view_is (λ s. touch_sight s (access_site t p a) c.args.writes (get nat_cmp p.sees t.vpn) ≡ Ok new) (c.in_ok-frame.ensures.touches i.totals.moved i.totals.failed p a here) in
     let back = touched_back x.state x.left t p a c.args.writes new frame sound c.requires.2 done c.in_ok-frame.ensures.frame in
-    let more : Option Undo = noted t.pid t.vpn t.page (sight_at x.state t.pid t.vpn) (get page_cmp x.state.place t.page) frame in
-    let undo = c.in_ok-frame.ensures.undo ∙ ap (λ (x : MidRun). noted t.pid t.vpn t.page (sight_at x.state t.pid t.vpn) (get page_cmp x.state.place t.page) frame) c.self.view_is in
+    let more : Option Undo = undo_of t.pid t.vpn t.page (sight_at x.state t.pid t.vpn) (get page_cmp x.state.place t.page) frame in
+    let undo = c.in_ok-frame.ensures.undo ∙ ap (λ (x : RunState). undo_of t.pid t.vpn t.page (sight_at x.state t.pid t.vpn) (get page_cmp x.state.place t.page) frame) c.self.view_is in
     let is : c.match-undo.undos.items ≡ with_undo old more = elim c.match-undo.branch [
       | in-Some w ↦
           ap (λ us. us.items) w.undos-is ∙ w.push_reserved.ensures.items ∙ ap (λ (us : List Undo). us ++ w.in-Some.undo ∷ []) c.in_ok-reserve.ensures.items

@@ -13,8 +13,8 @@ use Rattle.nm_types.specs.Map.{get}
 use Rattle.nm_memory.specs.views.Populated.{IsPopulated}
 use Rattle.nm_spaces.specs.views.AddressSpaces.{AddressSpacesView, table_of, with_new_page}
 use Rattle.nm_memory.specs.views.Frames.{FramesView, free_on}
-use Rattle.nm_engine.specs.views.Shown.{shown, shown_by, paged_frames}
-use Rattle.nm_engine.specs.views.MidRun.{IsKept}
+use Rattle.nm_engine.specs.views.Shown.{state_of_parts, shown_by, paged_frames}
+use Rattle.nm_engine.specs.views.MidRun.{IsSoundMachine}
 use Rattle.nm_engine.specs.views.Parts.{IsSiteOf, access_site}
 use Rattle.nm_engine.proofs.Shown.BothParts.{kept_stocked, front_spare, stocked_both}
 use Rattle.nm_engine.proofs.Shown.PopulatedFrames.{same_shown, kept_again}
@@ -89,8 +89,8 @@ returns-clause-kept g c m f =
     let to = stocked_both y c.allocate.new.self c.populate.new.self c.take_front.new.self c.zero.new.self t.pid t.vpn p t.page c.in-Some.node c.in-Some-front.frame is c.take_front.ensures.rest c.zero.ensures front in
     let whole = kept_stocked y c.populate.new.self o m f kept c.in_ok-populate.ensures.shelf in
     let vacated : c.zero.new.self.vacated ≡ c.populate.new.self.vacated = ap (λ (k : FramesView). k.vacated) c.zero.ensures ∙ ap (λ (k : FramesView). k.vacated) c.take_front.ensures.rest in
-    subst (λ l. IsKept (shown_by c.allocate.new.self c.zero.new.self o m f) l c.allocate.new.self.frames) (sym vacated)
-    (subst (λ (z : AddressSpacesView). IsKept (shown z.processes (table_of z) (paged_frames c.allocate.new.self c.zero.new.self) o m f) c.populate.new.self.vacated z.frames) (sym is)
+    subst (λ l. IsSoundMachine (shown_by c.allocate.new.self c.zero.new.self o m f) l c.allocate.new.self.frames) (sym vacated)
+    (subst (λ (z : AddressSpacesView). IsSoundMachine (state_of_parts z.processes (table_of z) (paged_frames c.allocate.new.self c.zero.new.self) o m f) c.populate.new.self.vacated z.frames) (sym is)
     (filled_kept y.processes (table_of y) (paged_frames y c.populate.new.self) o m f _ t p c.requires.touched.1 kept touched c.in-Some.node (with_new_page y t.pid p t.vpn t.page c.in-Some-front.frame).processes (paged_frames c.allocate.new.self c.zero.new.self) whole refl to c.requires.unplaced (found_free c.populate.new.self.free _ c.in-Some.node found) c.requires.unseen))
 
 pub returns-clause-touches : goal.returns-clause-touches
@@ -107,7 +107,7 @@ returns-clause-touches g c m f p a touched =
     let whole = kept_stocked y c.populate.new.self o m f kept c.in_ok-populate.ensures.shelf in
     ap (λ (s : State). fill_page s (access_site t p a)) (sym same)
     ∙ filled_is y.processes (table_of y) (paged_frames y c.populate.new.self) o m f _ t p a kept touched c.in-Some.node found
-    ∙ ap Ok (sym (ap (λ (z : AddressSpacesView). shown z.processes (table_of z) (paged_frames c.allocate.new.self c.zero.new.self) o m f) is
+    ∙ ap Ok (sym (ap (λ (z : AddressSpacesView). state_of_parts z.processes (table_of z) (paged_frames c.allocate.new.self c.zero.new.self) o m f) is
     ∙ filled_shows y.processes (table_of y) (paged_frames y c.populate.new.self) o m f _ t p a kept touched c.in-Some.node (with_new_page y t.pid p t.vpn t.page c.in-Some-front.frame).processes (paged_frames c.allocate.new.self c.zero.new.self) whole refl to c.requires.unplaced (found_free c.populate.new.self.free _ c.in-Some.node found)))
 
 pub returns-clause-frame : goal.returns-clause-frame
@@ -145,7 +145,7 @@ returns-in_err-populate-clause-room g c = ap (λ (k : FramesView). k.room) c.in_
 
 pub returns-in_err-allocate-clause-kept : goal.returns-in_err-allocate-clause-kept
 returns-in_err-allocate-clause-kept g c m f =
-    subst (λ (z : AddressSpacesView). IsKept (shown_by z c.populate.new.self c.args.online m f) c.populate.new.self.vacated z.frames) (sym c.in_err-allocate.ensures.err)
+    subst (λ (z : AddressSpacesView). IsSoundMachine (shown_by z c.populate.new.self c.args.online m f) c.populate.new.self.vacated z.frames) (sym c.in_err-allocate.ensures.err)
     (kept_again c.args.spaces.now c.args.frames.now c.populate.new.self c.args.online m f c.in_ok-populate.ensures.same c.in_ok-populate.ensures.kept (c.requires.kept m f))
 
 pub returns-in_err-allocate-clause-touches : goal.returns-in_err-allocate-clause-touches

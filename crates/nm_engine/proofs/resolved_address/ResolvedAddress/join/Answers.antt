@@ -11,7 +11,7 @@ use Rattle.nm_model.specs.definitions.Touch.{share_page, with_sight}
 use Rattle.nm_spaces.specs.views.AddressSpaces.{AddressSpacesView, table_of, with_seen}
 use Rattle.nm_engine.specs.declared.touch.Touched.{Touched}
 use Rattle.nm_engine.specs.definitions.Undo.{given_now}
-use Rattle.nm_engine.specs.views.MidRun.{IsKept}
+use Rattle.nm_engine.specs.views.MidRun.{IsSoundMachine}
 use Rattle.nm_engine.specs.views.Parts.{access_site}
 use Rattle.nm_engine.specs.views.Shown.{shown_by, paged_frames}
 use Rattle.nm_engine.proofs.Does.Touches.{seen_kept, sees_now}
@@ -29,7 +29,7 @@ returns-clause-kept g c m f =
     let t = c.args.self in
     let touched = c.requires.touched.2 in
     let placed : get page_cmp y.place t.page ≡ Some c.in-Some.frame = sym (c.page_frame.ensures ∙ ap (λ (m : Mapping). get page_cmp m.place t.page) c.areas.ensures.areas) ∙ c.in-Some.is in
-    subst (λ (z : AddressSpacesView). IsKept (shown_by z k c.args.online m f) k.vacated z.frames) (sym (c.in_ok-see.ensures.ok c.requires.touched.0 touched.known))
+    subst (λ (z : AddressSpacesView). IsSoundMachine (shown_by z k c.args.online m f) k.vacated z.frames) (sym (c.in_ok-see.ensures.ok c.requires.touched.0 touched.known))
     (seen_kept y.processes (table_of y) (paged_frames y k) c.args.online m f _ t c.requires.touched.0 c.requires.touched.1 (c.requires.kept m f) touched (Sees t.page) _ refl
     (sym touched.page, subst (λ (o : Option ℕ). IsSome o) (sym placed) refl) (none_sees c.requires.unseen))
 
@@ -100,7 +100,7 @@ returns-in_err-frame-clause-memory g c m f p a touched =
 
 pub returns-in_err-see-clause-kept : goal.returns-in_err-see-clause-kept
 returns-in_err-see-clause-kept g c m f =
-    subst (λ (z : AddressSpacesView). IsKept (shown_by z c.args.frames.now c.args.online m f) c.args.frames.now.vacated z.frames) (sym c.in_err-see.ensures.err) (c.requires.kept m f)
+    subst (λ (z : AddressSpacesView). IsSoundMachine (shown_by z c.args.frames.now c.args.online m f) c.args.frames.now.vacated z.frames) (sym c.in_err-see.ensures.err) (c.requires.kept m f)
 
 pub returns-in_err-see-clause-touches : goal.returns-in_err-see-clause-touches
 returns-in_err-see-clause-touches g c m f p a touched =

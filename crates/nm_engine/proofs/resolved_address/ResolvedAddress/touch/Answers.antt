@@ -15,8 +15,8 @@ use Rattle.nm_types.specs.declared.sight.Sight.TheVariants.{Sees, ZeroPage}
 use Rattle.nm_types.specs.Map.{get, page_cmp}
 use Rattle.std.specs.Ordering.{nat_cmp}
 use Rattle.nm_model.specs.definitions.Seen.{sight_in, sight_at}
-use Rattle.nm_engine.specs.views.Shown.{shown, shown_by}
-use Rattle.nm_engine.specs.views.MidRun.{IsKept}
+use Rattle.nm_engine.specs.views.Shown.{state_of_parts, shown_by}
+use Rattle.nm_engine.specs.views.MidRun.{IsSoundMachine}
 use Rattle.nm_engine.specs.views.Parts.{IsSiteOf, access_site}
 use Rattle.nm_model.specs.definitions.Seen.{frame_of}
 use Rattle.nm_engine.proofs.Does.Touches.{not_none, seen_kept, sees_now, private_here, private_unplaced_here, zero_unplaced}
@@ -27,7 +27,7 @@ use Rattle.nm_engine.specs.views.Shown.{paged_frames}
 use Rattle.nm_spaces.proofs.ProcessTable.Changes.{on_any}
 use Rattle.nm_engine.proofs.Does.HandedOn.{may_ask, memory_handed_on, touch_handed_on, nothing_touched}
 use Rattle.nm_engine.specs.definitions.Does.{AsksLast, Touches}
-use Rattle.nm_engine.specs.definitions.Undo.{noted}
+use Rattle.nm_engine.specs.definitions.Undo.{undo_of}
 use Rattle.nm_engine.proofs.Undo.Noted.{noted_placed, noted_seen, nothing_given}
 use Rattle.nm_engine.proofs.resolved_address.ResolvedAddress.touch.Goals as goal
 
@@ -71,26 +71,26 @@ private_touched s t p a writes h e private w =
 pub fill-requires-clause-unplaced : goal.fill-requires-clause-unplaced
 fill-requires-clause-unplaced g c =
     let touched = c.requires.site.2 in
-    let sees : sight_at (shown c.args.spaces.now.processes (table_of c.args.spaces.now) (paged_frames c.args.spaces.now c.args.frames.now) c.args.online 0 0) c.args.self.pid c.args.self.vpn ≡ Some ZeroPage = sym c.sight.ensures.sight ∙ ap seen_sight c.in-Some.is ∙ ap Some c.in-ZeroPage.is in
+    let sees : sight_at (state_of_parts c.args.spaces.now.processes (table_of c.args.spaces.now) (paged_frames c.args.spaces.now c.args.frames.now) c.args.online 0 0) c.args.self.pid c.args.self.vpn ≡ Some ZeroPage = sym c.sight.ensures.sight ∙ ap seen_sight c.in-Some.is ∙ ap Some c.in-ZeroPage.is in
     zero_unplaced c.args.spaces.now.processes (table_of c.args.spaces.now) (paged_frames c.args.spaces.now c.args.frames.now) c.args.online 0 0 _ c.args.self c.requires.site.0 c.requires.site.1 (c.requires.kept 0 0) touched sees
 
 pub fill-requires-then-writes-2-clause-unplaced : goal.fill-requires-then-writes-2-clause-unplaced
 fill-requires-then-writes-2-clause-unplaced g c =
     let touched = c.requires.site.2 in
-    let sees : sight_at (shown c.args.spaces.now.processes (table_of c.args.spaces.now) (paged_frames c.args.spaces.now c.args.frames.now) c.args.online 0 0) c.args.self.pid c.args.self.vpn ≡ None = sym c.sight.ensures.sight ∙ ap seen_sight c.in-None.is in
+    let sees : sight_at (state_of_parts c.args.spaces.now.processes (table_of c.args.spaces.now) (paged_frames c.args.spaces.now c.args.frames.now) c.args.online 0 0) c.args.self.pid c.args.self.vpn ≡ None = sym c.sight.ensures.sight ∙ ap seen_sight c.in-None.is in
     private_unplaced_here c.args.spaces.now.processes (table_of c.args.spaces.now) (paged_frames c.args.spaces.now c.args.frames.now) c.args.online 0 0 _ c.args.self c.requires.site.0 c.requires.site.1 (c.requires.kept 0 0) touched (none_sees sees) (sym (c.is_shared.ensures ∙ ap (λ (m : Mapping). is_shared m.segments c.args.self.page.segment) c.areas.ensures.areas) ∙ c.if-is_shared.false)
 
 pub returns-in_ok-see_zero-in-None-clause-kept : goal.returns-in_ok-see_zero-in-None-clause-kept
 returns-in_ok-see_zero-in-None-clause-kept g c m f =
     let touched = c.requires.site.2 in
-    let sees : sight_at (shown c.args.spaces.now.processes (table_of c.args.spaces.now) (paged_frames c.args.spaces.now c.args.frames.now) c.args.online m f) c.args.self.pid c.args.self.vpn ≡ None = sym c.sight.ensures.sight ∙ ap seen_sight c.in-None.is in
-    subst (λ (z : AddressSpacesView). IsKept (shown_by z c.args.frames.now c.args.online m f) c.args.frames.now.vacated z.frames) (sym (c.in_ok-see_zero-in-None.ensures.ok c.requires.site.0 touched.known))
+    let sees : sight_at (state_of_parts c.args.spaces.now.processes (table_of c.args.spaces.now) (paged_frames c.args.spaces.now c.args.frames.now) c.args.online m f) c.args.self.pid c.args.self.vpn ≡ None = sym c.sight.ensures.sight ∙ ap seen_sight c.in-None.is in
+    subst (λ (z : AddressSpacesView). IsSoundMachine (shown_by z c.args.frames.now c.args.online m f) c.args.frames.now.vacated z.frames) (sym (c.in_ok-see_zero-in-None.ensures.ok c.requires.site.0 touched.known))
     (seen_kept c.args.spaces.now.processes (table_of c.args.spaces.now) (paged_frames c.args.spaces.now c.args.frames.now) c.args.online m f _ c.args.self c.requires.site.0 c.requires.site.1 (c.requires.kept m f) touched ZeroPage _ refl
     (private_here c.args.spaces.now.processes (table_of c.args.spaces.now) (paged_frames c.args.spaces.now c.args.frames.now) c.args.online m f _ c.args.self c.requires.site.0 c.requires.site.1 (c.requires.kept m f) touched (sym (c.is_shared.ensures ∙ ap (λ (m : Mapping). is_shared m.segments c.args.self.page.segment) c.areas.ensures.areas) ∙ c.if-is_shared.false)) (none_sees sees))
 
 pub returns-in-Sees-clause-some : goal.returns-in-Sees-clause-some
 returns-in-Sees-clause-some g c writes =
-    let sees : sight_at (shown c.args.spaces.now.processes (table_of c.args.spaces.now) (paged_frames c.args.spaces.now c.args.frames.now) c.args.online 0 0) c.args.self.pid c.args.self.vpn ≡ Some (Sees c.in-Sees.field-0) = sym c.sight.ensures.sight ∙ ap seen_sight c.in-Some.is ∙ ap Some c.in-Sees.is in
+    let sees : sight_at (state_of_parts c.args.spaces.now.processes (table_of c.args.spaces.now) (paged_frames c.args.spaces.now c.args.frames.now) c.args.online 0 0) c.args.self.pid c.args.self.vpn ≡ Some (Sees c.in-Sees.field-0) = sym c.sight.ensures.sight ∙ ap seen_sight c.in-Some.is ∙ ap Some c.in-Sees.is in
     subst (λ (o : Option ℕ). IsSome o) (sym (c.in-Some.ensures.frame ∙ ap (λ s. frame_of c.args.spaces.now.place (Some s)) c.in-Sees.is)) ((c.requires.kept 0 0).sound.shown c.args.self.pid c.args.self.vpn c.in-Sees.field-0 sees).1
 
 pub returns-in_ok-see_zero-in-None-clause-frame : goal.returns-in_ok-see_zero-in-None-clause-frame
@@ -102,7 +102,7 @@ returns-in_ok-see_zero-in-None-clause-frame g c =
 
 pub returns-in-Sees-clause-zeros : goal.returns-in-Sees-clause-zeros
 returns-in-Sees-clause-zeros g c =
-    let sees : sight_at (shown c.args.spaces.now.processes (table_of c.args.spaces.now) (paged_frames c.args.spaces.now c.args.frames.now) c.args.online 0 0) c.args.self.pid c.args.self.vpn ≡ Some (Sees c.in-Sees.field-0) = sym c.sight.ensures.sight ∙ ap seen_sight c.in-Some.is ∙ ap Some c.in-Sees.is in
+    let sees : sight_at (state_of_parts c.args.spaces.now.processes (table_of c.args.spaces.now) (paged_frames c.args.spaces.now c.args.frames.now) c.args.online 0 0) c.args.self.pid c.args.self.vpn ≡ Some (Sees c.in-Sees.field-0) = sym c.sight.ensures.sight ∙ ap seen_sight c.in-Some.is ∙ ap Some c.in-Sees.is in
     not_none _ c.in-Some.seen.frame (subst (λ (o : Option ℕ). IsSome o) (sym (c.in-Some.ensures.frame ∙ ap (λ s. frame_of c.args.spaces.now.place (Some s)) c.in-Sees.is)) ((c.requires.kept 0 0).sound.shown c.args.self.pid c.args.self.vpn c.in-Sees.field-0 sees).1)
 
 pub returns-in_ok-see_zero-in-None-clause-zeros : goal.returns-in_ok-see_zero-in-None-clause-zeros
@@ -207,7 +207,7 @@ see_zero-requires-clause-unseen g c = none_sees (sym c.sight.ensures.sight ∙ a
 -- the table finds no memory
 pub returns-in_err-see_zero-in-None-clause-kept : goal.returns-in_err-see_zero-in-None-clause-kept
 returns-in_err-see_zero-in-None-clause-kept g c m f =
-    subst (λ (z : AddressSpacesView). IsKept (shown_by z c.args.frames.now c.args.online m f) c.args.frames.now.vacated z.frames) (sym c.in_err-see_zero-in-None.ensures.err) (c.requires.kept m f)
+    subst (λ (z : AddressSpacesView). IsSoundMachine (shown_by z c.args.frames.now c.args.online m f) c.args.frames.now.vacated z.frames) (sym c.in_err-see_zero-in-None.ensures.err) (c.requires.kept m f)
 
 -- memory is refused only where no page is seen
 pub returns-in_err-frame-in-ZeroPage-clause-asked : goal.returns-in_err-frame-in-ZeroPage-clause-asked
@@ -267,18 +267,18 @@ returns-else-writes-clause-zeros g c = (sym c.sight.ensures.sight ∙ ap seen_si
 -- how to undo it
 pub returns-in-Sees-clause-undo : goal.returns-in-Sees-clause-undo
 returns-in-Sees-clause-undo g c =
-    ap (λ o. noted c.args.self.pid c.args.self.vpn c.args.self.page o (get page_cmp c.args.spaces.now.place c.args.self.page) c.in-Some.seen.frame)
+    ap (λ o. undo_of c.args.self.pid c.args.self.vpn c.args.self.page o (get page_cmp c.args.spaces.now.place c.args.self.page) c.in-Some.seen.frame)
     (sym ((sym c.sight.ensures.sight ∙ ap seen_sight c.in-Some.is ∙ ap Some c.in-Sees.is)))
 
 pub returns-else-writes-clause-undo : goal.returns-else-writes-clause-undo
 returns-else-writes-clause-undo g c =
-    ap (λ o. noted c.args.self.pid c.args.self.vpn c.args.self.page o (get page_cmp c.args.spaces.now.place c.args.self.page) None)
+    ap (λ o. undo_of c.args.self.pid c.args.self.vpn c.args.self.page o (get page_cmp c.args.spaces.now.place c.args.self.page) None)
     (sym ((sym c.sight.ensures.sight ∙ ap seen_sight c.in-Some.is ∙ ap Some c.in-ZeroPage.is)))
 
 pub returns-in_ok-frame-in-ZeroPage-clause-undo : goal.returns-in_ok-frame-in-ZeroPage-clause-undo
 returns-in_ok-frame-in-ZeroPage-clause-undo g c =
     let touched = c.requires.site.2 in
-    let sees : sight_at (shown c.args.spaces.now.processes (table_of c.args.spaces.now) (paged_frames c.args.spaces.now c.args.frames.now) c.args.online 0 0) c.args.self.pid c.args.self.vpn ≡ Some ZeroPage = sym c.sight.ensures.sight ∙ ap seen_sight c.in-Some.is ∙ ap Some c.in-ZeroPage.is in
+    let sees : sight_at (state_of_parts c.args.spaces.now.processes (table_of c.args.spaces.now) (paged_frames c.args.spaces.now c.args.frames.now) c.args.online 0 0) c.args.self.pid c.args.self.vpn ≡ Some ZeroPage = sym c.sight.ensures.sight ∙ ap seen_sight c.in-Some.is ∙ ap Some c.in-ZeroPage.is in
     let none = zero_unplaced c.args.spaces.now.processes (table_of c.args.spaces.now) (paged_frames c.args.spaces.now c.args.frames.now) c.args.online 0 0 _ c.args.self c.requires.site.0 c.requires.site.1 (c.requires.kept 0 0) touched sees in
     noted_placed c.placed.result (sight_in (get nat_cmp c.args.spaces.now.processes c.args.self.pid) c.args.self.vpn) (get page_cmp c.args.spaces.now.place c.args.self.page) c.args.self.pid c.args.self.vpn true c.args.self.page c.in_ok-frame-in-ZeroPage.frame c.placed.ensures
     (sees) none
@@ -286,7 +286,7 @@ returns-in_ok-frame-in-ZeroPage-clause-undo g c =
 pub returns-in_ok-frame-in-None-clause-undo : goal.returns-in_ok-frame-in-None-clause-undo
 returns-in_ok-frame-in-None-clause-undo g c =
     let touched = c.requires.site.2 in
-    let sees : sight_at (shown c.args.spaces.now.processes (table_of c.args.spaces.now) (paged_frames c.args.spaces.now c.args.frames.now) c.args.online 0 0) c.args.self.pid c.args.self.vpn ≡ None = sym c.sight.ensures.sight ∙ ap seen_sight c.in-None.is in
+    let sees : sight_at (state_of_parts c.args.spaces.now.processes (table_of c.args.spaces.now) (paged_frames c.args.spaces.now c.args.frames.now) c.args.online 0 0) c.args.self.pid c.args.self.vpn ≡ None = sym c.sight.ensures.sight ∙ ap seen_sight c.in-None.is in
     let none = private_unplaced_here c.args.spaces.now.processes (table_of c.args.spaces.now) (paged_frames c.args.spaces.now c.args.frames.now) c.args.online 0 0 _ c.args.self c.requires.site.0 c.requires.site.1 (c.requires.kept 0 0) touched (none_sees sees) (sym (c.is_shared.ensures ∙ ap (λ (m : Mapping). is_shared m.segments c.args.self.page.segment) c.areas.ensures.areas) ∙ c.if-is_shared.false) in
     noted_placed c.placed-then-writes-2.result (sight_in (get nat_cmp c.args.spaces.now.processes c.args.self.pid) c.args.self.vpn) (get page_cmp c.args.spaces.now.place c.args.self.page) c.args.self.pid c.args.self.vpn false c.args.self.page c.in_ok-frame-in-None.frame c.placed-then-writes-2.ensures
     (sees) none

@@ -3,7 +3,7 @@ use Rattle.nm_frames.specs.declared.job.CopyJob.{CopyJob}
 use Rattle.nm_frames.specs.Job.{copied}
 use Rattle.nm_memory.specs.definitions.AfterCopy.{all_stored_after_copy}
 use Rattle.nm_memory.specs.views.Accesses.{pending_shown}
-use Rattle.nm_engine.specs.views.Flights.{Flight, AreOutIn, state_meanwhile, with_store}
+use Rattle.nm_engine.specs.views.Flights.{Flight, AreOutIn, state_in_flight, with_store}
 use Rattle.nm_engine.proofs.InFlight.Flights.{answers_then, state_then, out_then, out_done, state_done}
 use Rattle.nm_engine.proofs.InFlight.Moments.{flies_so}
 use Rattle.nm_engine.proofs.run_in_flight.RunInFlight.copy_beside.Goals as goal
@@ -25,7 +25,7 @@ returns-clause-state g c =
     let x = c.args.self in
     let jobs = c.args.jobs.items in
     let dues = map pending_shown c.args.dues.items in
-    (λ i. state_meanwhile (c.copy_while-jobs.ensures.work.run i) (c.copy_while-jobs.ensures.jobs i))
+    (λ i. state_in_flight (c.copy_while-jobs.ensures.work.run i) (c.copy_while-jobs.ensures.jobs i))
     ∙ state_done (with_store x (all_stored_after_copy x.spaces.place x.frames.frames dues).store) jobs ∙ state_then x jobs dues c.requires.out c.requires.can.can
 
 pub returns-clause-answers : goal.returns-clause-answers

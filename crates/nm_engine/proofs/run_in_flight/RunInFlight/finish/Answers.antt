@@ -9,8 +9,8 @@ use Rattle.nm_model.specs.definitions.Run.{failures, frames_left, total_after, w
 use Rattle.nm_memory.specs.views.Copies.{refilled, CanRefill}
 use Rattle.nm_memory.specs.views.Frames.{FramesView, HasAllFrames}
 use Rattle.nm_spaces.specs.views.AddressSpaces.{AddressSpacesView, table_of}
-use Rattle.nm_engine.specs.views.Flights.{Flight, state_meanwhile}
-use Rattle.nm_engine.specs.views.MidRun.{IsKept}
+use Rattle.nm_engine.specs.views.Flights.{Flight, state_in_flight}
+use Rattle.nm_engine.specs.views.MidRun.{IsSoundMachine}
 use Rattle.nm_engine.specs.views.Shown.{paged_frames, shown_by}
 use Rattle.nm_engine.proofs.InFlight.Moments.{ends}
 use Rattle.nm_engine.proofs.MidRun.RunPages.{end_shows, end_kept}
@@ -47,12 +47,12 @@ put_back-frames-requires-clause-populated g c =
 
 -- the parts of a machine are kept where the pages have arrived, and its frames have their bytes
 arrived_kept : {A : Type 0} (x i : Flight) (jobs given : List (CopyJob A)) (z : AddressSpacesView) (w : FramesView) → i ≡ x → given ≡ jobs → z ≡ i.spaces → w ≡ record (with_bytes i.frames jobs) { room = w.room }
-    → IsKept (shown_by x.spaces (with_bytes x.frames given) x.online x.moved x.failed) x.frames.vacated x.spaces.frames → IsKept (shown_by z w i.online i.moved i.failed) w.vacated z.frames
+    → IsSoundMachine (shown_by x.spaces (with_bytes x.frames given) x.online x.moved x.failed) x.frames.vacated x.spaces.frames → IsSoundMachine (shown_by z w i.online i.moved i.failed) w.vacated z.frames
 arrived_kept {A = A} x i jobs given z w view done settled put kept =
-    subst (λ (y : AddressSpacesView). IsKept (shown_by y w i.online i.moved i.failed) w.vacated y.frames) (sym settled)
-    (subst (λ (k : FramesView). IsKept (shown_by i.spaces k i.online i.moved i.failed) k.vacated i.spaces.frames) (sym put)
-    (subst (λ (y : Flight). IsKept (shown_by y.spaces (with_bytes y.frames jobs) y.online y.moved y.failed) y.frames.vacated y.spaces.frames) (sym view)
-    (subst (λ (js : List (CopyJob A)). IsKept (shown_by x.spaces (with_bytes x.frames js) x.online x.moved x.failed) x.frames.vacated x.spaces.frames) done kept)))
+    subst (λ (y : AddressSpacesView). IsSoundMachine (shown_by y w i.online i.moved i.failed) w.vacated y.frames) (sym settled)
+    (subst (λ (k : FramesView). IsSoundMachine (shown_by i.spaces k i.online i.moved i.failed) k.vacated i.spaces.frames) (sym put)
+    (subst (λ (y : Flight). IsSoundMachine (shown_by y.spaces (with_bytes y.frames jobs) y.online y.moved y.failed) y.frames.vacated y.spaces.frames) (sym view)
+    (subst (λ (js : List (CopyJob A)). IsSoundMachine (shown_by x.spaces (with_bytes x.frames js) x.online x.moved x.failed) x.frames.vacated x.spaces.frames) done kept)))
 
 pub free_vacated-moved-requires : goal.free_vacated-moved-requires
 free_vacated-moved-requires g c =
@@ -83,12 +83,12 @@ returns-clause-state g c =
     let k : FramesView = c.put_back-frames.result in
     let k0 : FramesView = i.frames in
     let jobs = c.args.jobs.items in
-    let now = state_meanwhile c.args.self jobs in
+    let now = state_in_flight c.args.self jobs in
     let counted : State → List ℕ → State = λ s l. with_counts (with_all_free s l) (length l) (failures c.args.statuses.now) in
     let shows : shown_by y k i.online i.totals.moved i.totals.failed ≡ now =
     (λ j. shown_by (c.settle-spaces.ensures j) (c.put_back-frames.ensures.frames j) i.online i.totals.moved i.totals.failed)
     ∙ ap (λ (js : List (CopyJob g.row.A.Denot)). shown_by i.spaces.spaces (with_bytes k0 js) i.online i.totals.moved i.totals.failed) (sym c.requires.done)
-    ∙ ap (λ (x : Flight). state_meanwhile x jobs) c.self.view_is in
+    ∙ ap (λ (x : Flight). state_in_flight x jobs) c.self.view_is in
     let left : k.vacated ≡ frames_left c.args.self.moves =
     ap (λ (v : FramesView). v.vacated) c.put_back-frames.ensures.frames ∙ c.self.invariant.left ∙ ap (λ (x : Flight). frames_left x.moves) c.self.view_is in
     end_shows y.processes (table_of y) (paged_frames y k) i.online i.totals.moved i.totals.failed
