@@ -16,8 +16,8 @@ use Rattle.nm_calls.specs.definitions.Does.{Does}
 use Rattle.nm_calls.specs.definitions.Entries.{entries_mapped}
 use Rattle.nm_calls.specs.definitions.Maps.{lines_shown}
 use Rattle.nm_calls.specs.views.Answers.{answer_of}
-use Rattle.nm_library.specs.Entries.{entry_of}
-use Rattle.nm_library.specs.Rooms.{at_front, Tells}
+use Rattle.nm_library.specs.Entries.{pagemap_entry}
+use Rattle.nm_library.specs.Rooms.{at_front, FillsRoom}
 use Rattle.nm_library.specs.declared.entry.Entry.{Entry}
 use Rattle.nm_library.specs.declared.handle.Kept.{Kept}
 
@@ -35,37 +35,37 @@ error_status (HostMemory runs policy_set) = pos 3
 -- ---- calls that change the machine
 
 -- the system makes the call: with a value, the status is 0 and `Shown` holds of it, and else it is the error's
-abbrev pub Makes : (V : Type 0) → (V → Answer) → Call → (V → Type 0) → Type 0 → ℤ → Kept → Kept → Type 0
-Makes V view call Shown Untold status old new =
+abbrev pub MakesCall : (V : Type 0) → (V → Answer) → Call → (V → Type 0) → Type 0 → ℤ → Kept → Kept → Type 0
+MakesCall V view call Shown Untold status old new =
     (r : Result V CallError) × Does view r old.session.system new.session.system call
     × MatchResult r (λ v. (status ≡ pos 0) × Shown v) (λ e. (status ≡ error_status e) × Untold)
     × (new.session.steps ≡ old.session.steps) × (new.lines ≡ old.lines)
 
 -- a call that answers nothing else
 abbrev pub Completes : Call → ℤ → Kept → Kept → Type 0
-Completes call = Makes (values.Answer Global) answer_of call (λ _. Unit {0}) (Unit {0})
+Completes call = MakesCall (values.Answer Global) answer_of call (λ _. Unit {0}) (Unit {0})
 
 -- a new area, whose segment is written
 abbrev pub Maps : Call → ℕ → ℕ → ℤ → Kept → Kept → Type 0
-Maps call before segment = Makes ℕ NewSegment call (λ n. segment ≡ n) (segment ≡ before)
+Maps call before segment = MakesCall ℕ NewSegment call (λ n. segment ≡ n) (segment ≡ before)
 
 -- as many bytes as the room has are read into it
 abbrev pub Reads : ℕ → ℕ → List ℕ → List ℕ → ℤ → Kept → Kept → Type 0
 Reads pid addr before room =
-    Makes (Vec ℕ Global) (λ v. TheBytes v.items) (ReadBytes pid addr (length before))
+    MakesCall (Vec ℕ Global) (λ v. TheBytes v.items) (ReadBytes pid addr (length before))
     (λ v. room ≡ at_front v.items before) (room ≡ before)
 
-abbrev pub Writes : ℕ → ℕ → List ℕ → ℤ → Kept → Kept → Type 0
-Writes pid addr bytes = Makes (Unit {0}) (λ _. Done) (WriteBytes pid addr bytes) (λ _. Unit {0}) (Unit {0})
+abbrev pub WritesBytes : ℕ → ℕ → List ℕ → ℤ → Kept → Kept → Type 0
+WritesBytes pid addr bytes = MakesCall (Unit {0}) (λ _. Done) (WriteBytes pid addr bytes) (λ _. Unit {0}) (Unit {0})
 
 -- how many pages failed is written
 abbrev pub Migrates : Call → ℕ → ℕ → ℤ → Kept → Kept → Type 0
-Migrates call before failed = Makes ℕ Failed call (λ n. failed ≡ n) (failed ≡ before)
+Migrates call before failed = MakesCall ℕ Failed call (λ n. failed ≡ n) (failed ≡ before)
 
 -- the statuses are written as far as there is room, and how many pages failed
-abbrev pub Moves : Call → List ℤ → List ℤ → ℕ → ℕ → ℤ → Kept → Kept → Type 0
-Moves call before statuses before_failed failed =
-    Makes (Moved Global) (λ m. Statuses m.failed m.statuses.items (map answer_shown m.answers.items)) call
+abbrev pub MovesPages : Call → List ℤ → List ℤ → ℕ → ℕ → ℤ → Kept → Kept → Type 0
+MovesPages call before statuses before_failed failed =
+    MakesCall (Moved Global) (λ m. Statuses m.failed m.statuses.items (map answer_shown m.answers.items)) call
     (λ m. (statuses ≡ at_front m.statuses.items before) × (failed ≡ m.failed))
     ((statuses ≡ before) × (failed ≡ before_failed))
 
@@ -75,48 +75,48 @@ Lacks Untold status old new = (status ≡ pos 3) × Untold × (new ≡ old)
 
 abbrev pub MovesListed : Call → List ℤ → List ℤ → ℕ → ℕ → ℤ → Kept → Kept → Type 0
 MovesListed call before statuses before_failed failed status old new =
-    Moves call before statuses before_failed failed status old new
+    MovesPages call before statuses before_failed failed status old new
     ⊎ Lacks ((statuses ≡ before) × (failed ≡ before_failed)) status old new
 
 -- ---- calls that only look
 
 -- the system is asked: with a value, `Told` says what is written and with which status, and else the status is the error's; or there is no
 -- memory to tell with
-abbrev pub Asks : (V : Type 0) → (V → Answer) → Call → (V → ℤ → Type 0) → Type 0 → ℤ → Kept → Type 0
-Asks V view call Told Untold status kept =
+abbrev pub AsksSystem : (V : Type 0) → (V → Answer) → Call → (V → ℤ → Type 0) → Type 0 → ℤ → Kept → Type 0
+AsksSystem V view call Told Untold status kept =
     ((r : Result V CallError) × Does view r kept.session.system kept.session.system call
     × MatchResult r (λ v. Told v status) (λ e. (status ≡ error_status e) × Untold))
     ⊎ ((status ≡ pos 3) × Untold)
 
 -- the same of a session that stays as it was
-abbrev pub Looks : (ℤ → Kept → Type 0) → ℤ → Kept → Kept → Type 0
-Looks Holds status old new = (new ≡ old) × Holds status old
+abbrev pub LooksOnly : (ℤ → Kept → Type 0) → ℤ → Kept → Kept → Type 0
+LooksOnly Holds status old new = (new ≡ old) × Holds status old
 
 -- the statuses are written as far as there is room
 abbrev pub Queries : Call → List ℤ → List ℤ → ℤ → Kept → Type 0
 Queries call before statuses =
-    Asks (Vec ℤ Global) (λ v. Statuses 0 v.items []) call
+    AsksSystem (Vec ℤ Global) (λ v. Statuses 0 v.items []) call
     (λ v status. (status ≡ pos 0) × (statuses ≡ at_front v.items before)) (statuses ≡ before)
 
 abbrev pub ListsFree : ℕ → List ℕ → List ℕ → ℕ → ℕ → ℤ → Kept → Type 0
 ListsFree node before frames before_needed needed =
-    Asks (Vec ℕ Global) (λ v. Frames v.items) (FreeList node) (λ v status. Tells v.items status before frames needed)
+    AsksSystem (Vec ℕ Global) (λ v. Frames v.items) (FreeList node) (λ v status. FillsRoom v.items status before frames needed)
     ((frames ≡ before) × (needed ≡ before_needed))
 
 abbrev pub ListsEntries : ℕ → List Entry → List Entry → ℕ → ℕ → ℤ → Kept → Type 0
 ListsEntries pid before entries before_needed needed =
-    Asks (Vec PagemapEntry Global) (λ v. Entries (entries_mapped v.items)) (Pagemap pid)
-    (λ v status. Tells (map entry_of v.items) status before entries needed)
+    AsksSystem (Vec PagemapEntry Global) (λ v. Entries (entries_mapped v.items)) (Pagemap pid)
+    (λ v status. FillsRoom (map pagemap_entry v.items) status before entries needed)
     ((entries ≡ before) × (needed ≡ before_needed))
 
 -- lines, each with a line feed at its end
-abbrev pub text_of : List (List ℕ) → List ℕ
-text_of lines = flat_map (λ line. line ++ 10 ∷ []) lines
+abbrev pub with_line_feeds : List (List ℕ) → List ℕ
+with_line_feeds lines = flat_map (λ line. line ++ 10 ∷ []) lines
 
 abbrev pub ListsAreas : ℕ → List ℕ → List ℕ → ℕ → ℕ → ℤ → Kept → Type 0
 ListsAreas pid before text before_needed needed =
-    Asks (Vec (String Global) Global) (λ v. Lines (lines_shown v.items)) (NumaMaps pid)
-    (λ v status. Tells (text_of (lines_shown v.items)) status before text needed)
+    AsksSystem (Vec (String Global) Global) (λ v. Lines (lines_shown v.items)) (NumaMaps pid)
+    (λ v status. FillsRoom (with_line_feeds (lines_shown v.items)) status before text needed)
     ((text ≡ before) × (needed ≡ before_needed))
 
 -- how many pages moved, and how many entries failed

@@ -8,5 +8,5 @@ abbrev pub frame_or_none : Option ℕ → ℤ
 frame_or_none (Some frame) = pos frame
 frame_or_none None = negsuc 0
 
-abbrev pub entry_of : PagemapEntry → Entry
-entry_of e = record { page = e.vpn; frame = frame_or_none e.frame }
+abbrev pub pagemap_entry : PagemapEntry → Entry
+pagemap_entry e = record { page = e.vpn; frame = frame_or_none e.frame }

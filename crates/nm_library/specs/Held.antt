@@ -9,6 +9,6 @@ use base.Fml.{Fml, ftrue, fex}
 use denote.RattleType.{RattleType}
 use denote.RawPtr.{Ptr, null_ptr}
 
-abbrev pub kept : (R : RattleType) → Global → Ptr → Option R.Denot → Fml
-kept R a p None = fex (p ≡ null_ptr) (λ _. ftrue)
-kept R a p (Some x) = box_owns (ghosts.dealloc_token a) R p x
+abbrev pub session_cell : (R : RattleType) → Global → Ptr → Option R.Denot → Fml
+session_cell R a p None = fex (p ≡ null_ptr) (λ _. ftrue)
+session_cell R a p (Some x) = box_owns (ghosts.dealloc_token a) R p x

@@ -1,7 +1,7 @@
 -- What traces, sessions and steps tell and leave.
 use Rattle.std.specs.Prelude.{◌≡◌, ◌⊎◌, ℕ, ℤ, pos, List, [], Option, Some, None, Ok, Err}
 use Rattle.nm_library.specs.declared.handle.Kept.{Kept}
-use Rattle.nm_library.specs.Rooms.{Tells}
+use Rattle.nm_library.specs.Rooms.{FillsRoom}
 use Rattle.nm_steps.specs.Calls.{Call}
 use Rattle.nm_steps.specs.Faults.{TraceContents, trace_of}
 use Rattle.nm_steps.specs.declared.trace_error.TraceError.{TraceError}
@@ -32,17 +32,17 @@ abbrev pub IsReport : List ℕ → List ℕ → Type 0
 IsReport trace text = (plan : TraceContents) × (trace_of trace ≡ Ok plan) × (text ≡ report_of plan)
 
 -- the report on a trace is told; or nothing is, for a fault, which is that of the bytes if it is one of bytes
-abbrev pub Reports : List ℕ → ℤ → List ℕ → List ℕ → ℕ → ℕ → Type 0
-Reports trace status old new before needed =
-    ((text : List ℕ) × IsReport trace text × Tells text status old new needed)
+abbrev pub ReportsTrace : List ℕ → ℤ → List ℕ → List ℕ → ℕ → ℕ → Type 0
+ReportsTrace trace status old new before needed =
+    ((text : List ℕ) × IsReport trace text × FillsRoom text status old new needed)
     ⊎ ((fault : TraceError) × (status ≡ fault_status fault) × (IsBad fault → trace_of trace ≡ Err fault)
     × (new ≡ old) × (needed ≡ before))
 
 -- a session that is open stays; where there is none, the one that the top of a trace begins is opened, or none, for a fault
-abbrev pub Opens : List ℕ → ℤ → Option Kept → Option Kept → Type 0
-Opens top status (Some kept) new = (status ≡ pos 1) × (new ≡ Some kept)
-Opens top status None (Some kept) = (status ≡ pos 0) × (opened top ≡ Ok kept.session) × (kept.lines.items ≡ [])
-Opens top status None None = (fault : TraceError) × (status ≡ fault_status fault) × (IsBad fault → opened top ≡ Err fault)
+abbrev pub OpensSession : List ℕ → ℤ → Option Kept → Option Kept → Type 0
+OpensSession top status (Some kept) new = (status ≡ pos 1) × (new ≡ Some kept)
+OpensSession top status None (Some kept) = (status ≡ pos 0) × (opened top ≡ Ok kept.session) × (kept.lines.items ≡ [])
+OpensSession top status None None = (fault : TraceError) × (status ≡ fault_status fault) × (IsBad fault → opened top ≡ Err fault)
 
 -- the call that the bytes are is made as the session's next step, and its lines are kept
 abbrev pub IsStep : Kept → List ℕ → Kept → Type 0
@@ -60,8 +60,8 @@ LeavesStep WriteFault old step new = ⊥
 LeavesStep (HostMemory k) old step new = StopsShort old.session step new.session
 
 -- a step is made and its lines are told; or nothing is, for a fault, and the lines of the step before are kept
-abbrev pub Steps : List ℕ → List ℕ → List ℕ → ℕ → ℕ → ℤ → Kept → Kept → Type 0
-Steps step before after needed_before needed status old new =
-    (IsStep old step new × Tells new.lines.items status before after needed)
+abbrev pub MakesSteps : List ℕ → List ℕ → List ℕ → ℕ → ℕ → ℤ → Kept → Kept → Type 0
+MakesSteps step before after needed_before needed status old new =
+    (IsStep old step new × FillsRoom new.lines.items status before after needed)
     ⊎ ((fault : TraceError) × (status ≡ fault_status fault) × LeavesStep fault old step new × (new.lines ≡ old.lines)
     × (after ≡ before) × (needed ≡ needed_before))

@@ -1,7 +1,7 @@
 //! Entries as C has them.
 
 ghost use Rattle.std.specs.Prelude.{◌≡◌};
-ghost use Rattle.nm_library.specs.Entries.{entry_of};
+ghost use Rattle.nm_library.specs.Entries.{pagemap_entry};
 
 use nm_calls::PagemapEntry;
 
@@ -18,7 +18,7 @@ pub struct Entry {
 impl Entry {
     /// The entry of a process's list.
     pub fn of(entry: &PagemapEntry) -> Entry
-        ensures { result ≡ entry_of entry.now }
+        ensures { result ≡ pagemap_entry entry.now }
     {
         Entry {
             page: entry.vpn.number(),

@@ -26,10 +26,10 @@ pub struct Handle {
 }
 
 impl Model for Handle {
-    ghost use Rattle.nm_library.specs.Held.{kept};
+    ghost use Rattle.nm_library.specs.Held.{session_cell};
     ghost use Rattle.nm_library.specs.contracts.handle.Kept.{the_row};
 
-    ghost also_owns = { λ h. kept the_row h.alloc h.at h.value };
+    ghost also_owns = { λ h. session_cell the_row h.alloc h.at h.value };
 }
 
 // C may pass a handle to another thread.

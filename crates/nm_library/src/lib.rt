@@ -4,8 +4,8 @@
 
 ghost use Rattle.std.specs.Prelude.{◌≡◌, None};
 ghost use Rattle.nm_library.specs.Calls.{OfSession};
-ghost use Rattle.nm_library.specs.Rooms.{Tells};
-ghost use Rattle.nm_library.specs.Statuses.{Opens, Reports, Steps};
+ghost use Rattle.nm_library.specs.Rooms.{FillsRoom};
+ghost use Rattle.nm_library.specs.Statuses.{OpensSession, ReportsTrace, MakesSteps};
 
 mod calls;
 mod entry;
@@ -32,7 +32,7 @@ pub extern "C" fn numatrace_run(
     report: &mut [u8],
     needed: &mut usize,
 ) -> i32
-    ensures { Reports trace.now result report.old report.new needed.old needed.new }
+    ensures { ReportsTrace trace.now result report.old report.new needed.old needed.new }
 {
     match playing::report_on(alloc, trace) {
         Ok(text) => rooms::tell(text.as_slice(), report, needed),
@@ -43,7 +43,7 @@ pub extern "C" fn numatrace_run(
 /// Opens a session with the top of a trace. One that is open stays.
 #[unsafe(no_mangle)]
 pub extern "C" fn numatrace_open(alloc: Global, session: &mut Handle, top: &[u8]) -> i32
-    ensures { Opens top.now result session.old.value session.new.value }
+    ensures { OpensSession top.now result session.old.value session.new.value }
 {
     if let Some(kept) = session.take(alloc) {
         session.put(kept);
@@ -68,7 +68,7 @@ pub extern "C" fn numatrace_step(
     lines: &mut [u8],
     needed: &mut usize,
 ) -> i32
-    ensures made { OfSession (Steps step.now lines.old lines.new needed.old needed.new) result
+    ensures made { OfSession (MakesSteps step.now lines.old lines.new needed.old needed.new) result
         session.old.value session.new.value }
     ensures untold { session.old.value ≡ None →
         (lines.new ≡ lines.old) × (needed.new ≡ needed.old) }
@@ -90,7 +90,7 @@ pub extern "C" fn numatrace_lines(
     needed: &mut usize,
 ) -> i32
     ensures told { OfSession (λ status old new. (new ≡ old)
-        × Tells old.lines.items status lines.old lines.new needed.new) result
+        × FillsRoom old.lines.items status lines.old lines.new needed.new) result
         session.old.value session.new.value }
     ensures untold { session.old.value ≡ None →
         (lines.new ≡ lines.old) × (needed.new ≡ needed.old) }

@@ -2,8 +2,8 @@
 
 ghost use Rattle.std.specs.Prelude.{◌≡◌, map, IfOk, None};
 ghost use Rattle.nm_calls.specs.definitions.Maps.{lines_shown};
-ghost use Rattle.nm_library.specs.Calls.{text_of, ListsAreas, ListsEntries, ListsFree, Looks, OfSession, Totals};
-ghost use Rattle.nm_library.specs.Entries.{entry_of};
+ghost use Rattle.nm_library.specs.Calls.{with_line_feeds, ListsAreas, ListsEntries, ListsFree, LooksOnly, OfSession, Totals};
+ghost use Rattle.nm_library.specs.Entries.{pagemap_entry};
 
 use crate::calls::status_for;
 use crate::entry::Entry;
@@ -49,7 +49,7 @@ pub extern "C" fn numatrace_free_list(
     frames: &mut [u16],
     needed: &mut usize,
 ) -> i32
-    ensures told { OfSession (Looks (ListsFree node frames.old frames.new needed.old needed.new)) result
+    ensures told { OfSession (LooksOnly (ListsFree node frames.old frames.new needed.old needed.new)) result
         session.old.value session.new.value }
     ensures untold { session.old.value ≡ None →
         (frames.new ≡ frames.old) × (needed.new ≡ needed.old) }
@@ -64,7 +64,7 @@ pub extern "C" fn numatrace_free_list(
 
 /// Entries as C has them.
 fn entries_of(alloc: Global, mapped: &[PagemapEntry]) -> Result<Vec<Entry>, AllocError>
-    ensures { IfOk result (λ v. v.items ≡ map entry_of mapped.now) }
+    ensures { IfOk result (λ v. v.items ≡ map pagemap_entry mapped.now) }
 {
     let mut entries = Vec::new(alloc);
     for entry in mapped {
@@ -97,7 +97,7 @@ pub extern "C" fn numatrace_pagemap(
     entries: &mut [Entry],
     needed: &mut usize,
 ) -> i32
-    ensures told { OfSession (Looks (ListsEntries pid entries.old entries.new needed.old needed.new)) result
+    ensures told { OfSession (LooksOnly (ListsEntries pid entries.old entries.new needed.old needed.new)) result
         session.old.value session.new.value }
     ensures untold { session.old.value ≡ None →
         (entries.new ≡ entries.old) × (needed.new ≡ needed.old) }
@@ -112,7 +112,7 @@ pub extern "C" fn numatrace_pagemap(
 
 /// A text of lines, each with a line feed at its end.
 fn text_of(alloc: Global, lines: &[String]) -> Result<Vec<u8>, AllocError>
-    ensures { IfOk result (λ v. v.items ≡ text_of (lines_shown lines.now)) }
+    ensures { IfOk result (λ v. v.items ≡ with_line_feeds (lines_shown lines.now)) }
 {
     let mut text = Vec::new(alloc);
     for line in lines {
@@ -146,7 +146,7 @@ pub extern "C" fn numatrace_numa_maps(
     text: &mut [u8],
     needed: &mut usize,
 ) -> i32
-    ensures told { OfSession (Looks (ListsAreas pid text.old text.new needed.old needed.new)) result
+    ensures told { OfSession (LooksOnly (ListsAreas pid text.old text.new needed.old needed.new)) result
         session.old.value session.new.value }
     ensures untold { session.old.value ≡ None →
         (text.new ≡ text.old) × (needed.new ≡ needed.old) }
@@ -167,7 +167,7 @@ pub extern "C" fn numatrace_vmstat(
     moved: &mut u64,
     failed: &mut u64,
 ) -> i32
-    ensures told { OfSession (Looks (Totals moved.new failed.new)) result
+    ensures told { OfSession (LooksOnly (Totals moved.new failed.new)) result
         session.old.value session.new.value }
     ensures untold { session.old.value ≡ None →
         (moved.new ≡ moved.old) × (failed.new ≡ failed.old) }

@@ -2,7 +2,7 @@
 
 ghost use Rattle.std.specs.Prelude.{◌≡◌, pos};
 ghost use Rattle.nm_steps.specs.Calls.{Pin, Unpin, Offline, Online};
-ghost use Rattle.nm_library.specs.Calls.{Completes, OfSession, Reads, Writes};
+ghost use Rattle.nm_library.specs.Calls.{Completes, OfSession, Reads, WritesBytes};
 
 use crate::calls::{make_on, status_for};
 use crate::handle::{Handle, Kept};
@@ -48,7 +48,7 @@ pub extern "C" fn numatrace_read(
 
 /// Writes bytes.
 fn write(kept: &mut Kept, pid: u32, addr: u64, bytes: &[u8]) -> i32
-    ensures { Writes pid addr bytes.now result kept.old kept.new }
+    ensures { WritesBytes pid addr bytes.now result kept.old kept.new }
 {
     match kept.session.write(Pid::new(pid), addr, bytes) {
         Ok(()) => status::DONE,
@@ -65,7 +65,7 @@ pub extern "C" fn numatrace_write(
     addr: u64,
     bytes: &[u8],
 ) -> i32
-    ensures { OfSession (Writes pid addr bytes.now) result session.old.value session.new.value }
+    ensures { OfSession (WritesBytes pid addr bytes.now) result session.old.value session.new.value }
 {
     let Some(mut kept) = session.take(alloc) else {
         return status::BAD_ARGUMENT;

@@ -4,7 +4,7 @@ ghost use Rattle.std.specs.Prelude.{◌≡◌, ◌≢◌, ◌⊎◌, [], pos, le
 ghost use Rattle.nm_types.specs.Nodes.{members};
 ghost use Rattle.nm_steps.specs.Calls.{MovePages, MigratePages, Mbind, Query};
 ghost use Rattle.nm_steps.specs.Views.{migrate_call, move_call};
-ghost use Rattle.nm_library.specs.Calls.{Completes, Looks, Migrates, Moves, MovesListed, OfSession, Queries};
+ghost use Rattle.nm_library.specs.Calls.{Completes, LooksOnly, Migrates, MovesPages, MovesListed, OfSession, Queries};
 
 use crate::calls::{make_on, status_for};
 use crate::handle::{Handle, Kept};
@@ -77,7 +77,7 @@ fn move_pages(
     statuses: &mut [i32],
     failed: &mut usize,
 ) -> i32
-    ensures { Moves (move_call request.now)
+    ensures { MovesPages (move_call request.now)
         statuses.old statuses.new failed.old failed.new result kept.old kept.new }
 {
     // (the kit's borrow checker looks for what a crew works on among the types of this function)
@@ -177,7 +177,7 @@ pub extern "C" fn numatrace_query(
     statuses: &mut [i32],
 ) -> i32
     ensures made { length pages.now ≡ length statuses.old →
-        OfSession (Looks (Queries (Query asking.now.caller asking.now.pid pages.now asking.now.flags)
+        OfSession (LooksOnly (Queries (Query asking.now.caller asking.now.pid pages.now asking.now.flags)
         statuses.old statuses.new)) result
         session.old.value session.new.value }
     ensures statuses { length pages.now ≢ length statuses.old →

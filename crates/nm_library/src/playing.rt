@@ -1,7 +1,7 @@
 //! Traces and steps from bytes, by the caller alone.
 
 ghost use Rattle.std.specs.Prelude.{◌≡◌, [], IfOk, IfErr, OnOk, Ok, Err};
-ghost use Rattle.nm_library.specs.Statuses.{IsBad, IsReport, IsStep, LeavesStep, Steps};
+ghost use Rattle.nm_library.specs.Statuses.{IsBad, IsReport, IsStep, LeavesStep, MakesSteps};
 ghost use Rattle.nm_steps.specs.Faults.{trace_of};
 ghost use Rattle.nm_trace.specs.Session.{opened as session_of};
 
@@ -55,7 +55,7 @@ pub fn step_told(
     lines: &mut [u8],
     needed: &mut usize,
 ) -> i32
-    ensures { Steps bytes.now lines.old lines.new needed.old needed.new result kept.old kept.new }
+    ensures { MakesSteps bytes.now lines.old lines.new needed.old needed.new result kept.old kept.new }
 {
     match step(alloc, kept, bytes) {
         Ok(()) => tell(kept.lines.as_slice(), lines, needed),

@@ -1,7 +1,7 @@
 //! Rooms that C gives for lists.
 
 ghost use Rattle.std.specs.Prelude.{◌≡◌};
-ghost use Rattle.nm_library.specs.Rooms.{at_front, Tells};
+ghost use Rattle.nm_library.specs.Rooms.{at_front, FillsRoom};
 
 use crate::status;
 
@@ -16,7 +16,7 @@ pub fn put<T: Copy>(items: &[T], room: &mut [T])
 
 /// Copies a list to the front of a room, if it fits, and its length to `needed`.
 pub fn tell<T: Copy>(items: &[T], room: &mut [T], needed: &mut usize) -> i32
-    ensures { Tells items.now result room.old room.new needed.new }
+    ensures { FillsRoom items.now result room.old room.new needed.new }
 {
     *needed = items.len();
     if room.len() < items.len() {
