@@ -7,7 +7,7 @@ use Rattle.nm_steps.specs.Faults.{TraceContents, trace_of}
 use Rattle.nm_steps.specs.declared.trace_error.TraceError.{TraceError}
 use Rattle.nm_steps.specs.declared.trace_error.TraceError.TheVariants.{NotJson, BadMachine, BadStep, ReadFault, WriteFault, HostMemory}
 use Rattle.nm_trace.specs.Played.{report_of}
-use Rattle.nm_trace.specs.Session.{asked, next, next_lines, opened, StopsShort}
+use Rattle.nm_trace.specs.Session.{next_call, next, next_lines, session_of, StopsShort}
 
 -- the status of a fault. A writer to memory fails only where there is none, and a reader of memory only where a trace is too long
 abbrev pub fault_status : TraceError → ℤ
@@ -41,20 +41,20 @@ ReportsTrace trace status old new before needed =
 -- a session that is open stays; where there is none, the one that the top of a trace begins is opened, or none, for a fault
 abbrev pub OpensSession : List ℕ → ℤ → Option Kept → Option Kept → Type 0
 OpensSession top status (Some kept) new = (status ≡ pos 1) × (new ≡ Some kept)
-OpensSession top status None (Some kept) = (status ≡ pos 0) × (opened top ≡ Ok kept.session) × (kept.lines.items ≡ [])
-OpensSession top status None None = (fault : TraceError) × (status ≡ fault_status fault) × (IsBad fault → opened top ≡ Err fault)
+OpensSession top status None (Some kept) = (status ≡ pos 0) × (session_of top ≡ Ok kept.session) × (kept.lines.items ≡ [])
+OpensSession top status None None = (fault : TraceError) × (status ≡ fault_status fault) × (IsBad fault → session_of top ≡ Err fault)
 
 -- the call that the bytes are is made as the session's next step, and its lines are kept
 abbrev pub IsStep : Kept → List ℕ → Kept → Type 0
 IsStep old step new =
-    (call : Call) × (asked old.session step ≡ Ok call)
+    (call : Call) × (next_call old.session step ≡ Ok call)
     × (new.lines.items ≡ next_lines old.session call) × (new.session ≡ next old.session call)
 
 -- a fault of the bytes leaves the session as it was; lack of memory may leave the call made in part, or whole
 abbrev pub LeavesStep : TraceError → Kept → List ℕ → Kept → Type 0
-LeavesStep NotJson old step new = (asked old.session step ≡ Err NotJson) × (new.session ≡ old.session)
+LeavesStep NotJson old step new = (next_call old.session step ≡ Err NotJson) × (new.session ≡ old.session)
 LeavesStep BadMachine old step new = ⊥
-LeavesStep (BadStep k) old step new = (asked old.session step ≡ Err (BadStep k)) × (new.session ≡ old.session)
+LeavesStep (BadStep k) old step new = (next_call old.session step ≡ Err (BadStep k)) × (new.session ≡ old.session)
 LeavesStep ReadFault old step new = ⊥
 LeavesStep WriteFault old step new = ⊥
 LeavesStep (HostMemory k) old step new = StopsShort old.session step new.session

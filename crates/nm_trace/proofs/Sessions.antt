@@ -18,7 +18,7 @@ use Rattle.nm_steps.specs.Faults.{◌>>=◌, value_of}
 use Rattle.nm_steps.specs.Memory.{IsSomeText, NeedsMemory}
 use Rattle.nm_steps.proofs.Utf8.{needs_some}
 use Rattle.nm_trace.specs.Played.{StopsIn}
-use Rattle.nm_trace.specs.Session.{SessionState, asked, next, next_lines, StopsShort, IsFed}
+use Rattle.nm_trace.specs.Session.{SessionState, next_call, next, next_lines, StopsShort, IsFed}
 
 -- ---- no call changes the limit on runs
 
@@ -73,8 +73,8 @@ told_limit y call t (inr made) = ap (λ (u : SystemState). u.run_limit) made ∙
 
 -- the call of a value is that of its bytes
 pub asked_is : (s : SessionState) (bytes : List ℕ) (d : Data) (limit : ℕ) (call : Call) → s.system.run_limit ≡ limit → ok_or (value_of bytes) NotJson ≡ Ok d
-    → form.step_of limit d ≡ Some call → asked s bytes ≡ Ok call
-unfolding asked
+    → form.step_of limit d ≡ Some call → next_call s bytes ≡ Ok call
+unfolding next_call
 asked_is s bytes d limit call same value step =
     ap (λ (r : Result Data TraceError). r >>= (λ d. ok_or (form.step_of s.system.run_limit d) (BadStep s.steps))) value
     ∙ ap (λ n. ok_or (form.step_of n d) (BadStep s.steps)) same
@@ -90,7 +90,7 @@ value_memory room n bytes e is (inl bad) told = absurd (cc)
 value_memory room n bytes e is (inr memory) told = text_of_memory room bytes (told memory)
 
 -- a call that is not counted
-pub stopped : (x y : SessionState) (t : SystemState) (bytes : List ℕ) (call : Call) → x ≡ y → asked x bytes ≡ Ok call
+pub stopped : (x y : SessionState) (t : SystemState) (bytes : List ℕ) (call : Call) → x ≡ y → next_call x bytes ≡ Ok call
     → StopsIn x.system call t ⊎ (t ≡ (outcome x.system call).system)
     → (x.steps ≡ y.steps) × StopsShort y bytes (record { system = t; steps = x.steps })
 stopped x y t bytes call is h told =
@@ -98,12 +98,12 @@ stopped x y t bytes call is h told =
     (refl, (refl, inr (call, h, told)))
 
 -- a call that is made is a step
-pub stepped : (x y : SessionState) (t : SystemState) (bytes lines : List ℕ) (call : Call) → x ≡ y → asked x bytes ≡ Ok call → lines ≡ next_lines x call
+pub stepped : (x y : SessionState) (t : SystemState) (bytes lines : List ℕ) (call : Call) → x ≡ y → next_call x bytes ≡ Ok call → lines ≡ next_lines x call
     → t ≡ (outcome x.system call).system
-    → (c : Call) × (asked y bytes ≡ Ok c) × (lines ≡ next_lines y c) × (record { system = t; steps = x.steps + 1 } ≡ next y c)
+    → (c : Call) × (next_call y bytes ≡ Ok c) × (lines ≡ next_lines y c) × (record { system = t; steps = x.steps + 1 } ≡ next y c)
 stepped x y t bytes lines call is h text made =
     subst
-    (λ (z : SessionState). (c : Call) × (asked z bytes ≡ Ok c) × (lines ≡ next_lines z c) × (record { system = t; steps = x.steps + 1 } ≡ next z c)) is
+    (λ (z : SessionState). (c : Call) × (next_call z bytes ≡ Ok c) × (lines ≡ next_lines z c) × (record { system = t; steps = x.steps + 1 } ≡ next z c)) is
     (call, h, text, ap (λ (u : SystemState). record { system = u; steps = x.steps + 1 }) made)
 
 -- ---- sessions report as traces do

@@ -5,8 +5,8 @@ use Rattle.nm_steps.specs.Faults.{TraceContents}
 use Rattle.nm_trace.specs.Played.{report_of}
 
 -- three pages of a process, written on node 0, moved to node 1 and read there
-abbrev pub three_pages : TraceContents
-three_pages = record {
+abbrev pub three_pages_trace : TraceContents
+three_pages_trace = record {
   layout = record { sizes = 4 ∷ 4 ∷ []; distances = (10 ∷ 20 ∷ []) ∷ (20 ∷ 10 ∷ []) ∷ [] };
   run_limit = 16384;
   calls =
@@ -26,6 +26,6 @@ three_pages = record {
 -- the report on this trace
 abbrev pub ThreePagesReport : Type 0
 ThreePagesReport =
-    report_of three_pages ≡
+    report_of three_pages_trace ≡
     codes "0 spawn ok\n1 map segment=0\n2 write ok\n3 write ok\n4 write ok\n5 move_pages 0: 1 1 1\n"
     ++ codes "6 free 4: 3 0 1 2\n7 free 1: 7\n8 pagemap 3: 00010000=4 00011000=5 00012000=6\n9 read 6200\n"

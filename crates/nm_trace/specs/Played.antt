@@ -19,11 +19,11 @@ abbrev pub StopsIn : SystemState → Call → SystemState → Type 0
 StopsIn s call t = (runs : ℕ) × (policy_set : Bool) × HostLeaves s call runs policy_set t
 
 -- a call is made and its lines are put; or it stopped, and nothing was put
-abbrev pub Tells : {E W A : Type 0} → (W → Option (List ℕ)) → (W → Bool) → ℕ → Result (Unit {0}) E → SystemState → SystemState → Call
+abbrev pub PutsLines : {E W A : Type 0} → (W → Option (List ℕ)) → (W → Bool) → ℕ → Result (Unit {0}) E → SystemState → SystemState → Call
     → W → Block A → W → Block A → Type 0
-Tells contents failed k (Ok done) s t call w b v c =
+PutsLines contents failed k (Ok done) s t call w b v c =
     Puts contents failed w b v c (text_of k call (outcome s call).answer) × (t ≡ (outcome s call).system)
-Tells contents failed k (Err e) s t call w b v c = StopsIn s call t × (v ≡ w) × (c ≡ b)
+PutsLines contents failed k (Err e) s t call w b v c = StopsIn s call t × (v ≡ w) × (c ≡ b)
 
 -- after the first k calls the next one, which asks for memory, stopped
 abbrev pub StopsAt : SystemState → List Call → ℕ → SystemState → Type 0

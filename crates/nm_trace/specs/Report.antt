@@ -36,8 +36,8 @@ word_of Vmstat = codes "vmstat"
 word_of (NumaMaps pid) = codes "numa_maps"
 
 -- items, each after a space
-abbrev pub spaced : {X : Type 0} → (X → List ℕ) → List X → List ℕ
-spaced text xs = flat_map (λ x. 32 ∷ text x) xs
+abbrev pub each_after_space : {X : Type 0} → (X → List ℕ) → List X → List ℕ
+each_after_space text xs = flat_map (λ x. 32 ∷ text x) xs
 
 -- an entry: its address, and its frame or `zero`
 abbrev pub entry_text : ℕ × Option ℕ → List ℕ
@@ -51,9 +51,9 @@ answer_text Held = codes "held"
 answer_text (NewSegment segment) = codes "segment=" ++ decimal segment
 answer_text (TheBytes bytes) = encode_lower bytes
 answer_text (Failed failed) = decimal failed
-answer_text (Statuses failed statuses answers) = decimal failed ++ codes ":" ++ spaced signed_decimal statuses
-answer_text (Frames frames) = decimal (length frames) ++ codes ":" ++ spaced decimal frames
-answer_text (Entries entries) = decimal (length entries) ++ codes ":" ++ spaced entry_text entries
+answer_text (Statuses failed statuses answers) = decimal failed ++ codes ":" ++ each_after_space signed_decimal statuses
+answer_text (Frames frames) = decimal (length frames) ++ codes ":" ++ each_after_space decimal frames
+answer_text (Entries entries) = decimal (length entries) ++ codes ":" ++ each_after_space entry_text entries
 answer_text (TheTotals moved failed) =
     (codes "pgmigrate_success " ++ decimal moved) ++ (codes " pgmigrate_fail " ++ decimal failed)
 answer_text (Lines lines) = decimal (length lines) ++ flat_map (λ line. 10 ∷ line) lines

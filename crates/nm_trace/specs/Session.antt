@@ -20,21 +20,21 @@ pub record SessionState : Type 0 where
   pub steps : ℕ
 
 -- the session that the top of a trace begins, whatever its steps
-unfoldable pub begun : Data → Result SessionState TraceError
-begun d = do
+unfoldable pub new_session : Data → Result SessionState TraceError
+new_session d = do
   layout ← ok_or (form.machine_of d) BadMachine
   limit ← ok_or (form.limit_of d) BadMachine
   Ok (record { system = system_with layout limit; steps = 0 })
 
 -- the session that these bytes begin, or their first fault
-unfoldable pub opened : List ℕ → Result SessionState TraceError
-opened bytes = do
+unfoldable pub session_of : List ℕ → Result SessionState TraceError
+session_of bytes = do
   d ← ok_or (value_of bytes) NotJson
-  begun d
+  new_session d
 
 -- the call that these bytes are as the next step, or their fault
-unfoldable pub asked : SessionState → List ℕ → Result Call TraceError
-asked s bytes = do
+unfoldable pub next_call : SessionState → List ℕ → Result Call TraceError
+next_call s bytes = do
   d ← ok_or (value_of bytes) NotJson
   ok_or (form.step_of s.system.run_limit d) (BadStep s.steps)
 
@@ -62,17 +62,17 @@ abbrev pub StopsShort : SessionState → List ℕ → SessionState → Type 0
 StopsShort old bytes new =
     (new.steps ≡ old.steps)
     × ((new.system ≡ old.system)
-    ⊎ ((call : Call) × (asked old bytes ≡ Ok call)
+    ⊎ ((call : Call) × (next_call old bytes ≡ Ok call)
     × (StopsIn old.system call new.system ⊎ (new.system ≡ (outcome old.system call).system))))
 
 -- a step: the call in these bytes is made, and its lines, mapped by `view`, are returned; a fault of the bytes changes
 -- nothing
 abbrev pub Steps : {V : Type 0} → (V → List ℕ) → SessionState → SessionState → List ℕ → Result V TraceError → Type 0
 Steps view old new bytes (Ok v) =
-    (call : Call) × (asked old bytes ≡ Ok call) × (view v ≡ next_lines old call) × (new ≡ next old call)
-Steps view old new bytes (Err NotJson) = (asked old bytes ≡ Err NotJson) × (new ≡ old)
+    (call : Call) × (next_call old bytes ≡ Ok call) × (view v ≡ next_lines old call) × (new ≡ next old call)
+Steps view old new bytes (Err NotJson) = (next_call old bytes ≡ Err NotJson) × (new ≡ old)
 Steps view old new bytes (Err BadMachine) = ⊥
-Steps view old new bytes (Err (BadStep k)) = (asked old bytes ≡ Err (BadStep k)) × (new ≡ old)
+Steps view old new bytes (Err (BadStep k)) = (next_call old bytes ≡ Err (BadStep k)) × (new ≡ old)
 Steps view old new bytes (Err ReadFault) = ⊥
 Steps view old new bytes (Err WriteFault) = ⊥
 Steps view old new bytes (Err (HostMemory k)) = (k ≡ old.steps) × StopsShort old bytes new

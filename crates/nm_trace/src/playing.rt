@@ -3,7 +3,7 @@
 ghost use Rattle.std.specs.Prelude.{◌≡◌, ◌||◌, OnErr, map};
 ghost use Rattle.nm_calls.specs.definitions.Memory.{MayAllocate};
 ghost use Rattle.nm_steps.specs.Views.{call_of};
-ghost use Rattle.nm_trace.specs.Played.{Plays, Tells};
+ghost use Rattle.nm_trace.specs.Played.{Plays, PutsLines};
 ghost use Rattle.nm_trace.specs.Telling.{is_write_fault};
 
 use crate::text::{push_refusal, push_text};
@@ -33,7 +33,7 @@ pub(crate) fn make_step<A: Allocator + Copy + Send + Sync, C: RunCrew<A>, W: Tel
     block: &mut Block<A>,
     writer: &mut W,
 ) -> Result<(), AllocError>
-    ensures told { Tells W.contents W.has_failed k result system.old system.new
+    ensures told { PutsLines W.contents W.has_failed k result system.old system.new
         (call_of call.now) writer.old block.old writer.new block.new }
     ensures asked { OnErr result (MayAllocate system.old.state (call_of call.now)) }
 {

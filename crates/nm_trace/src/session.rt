@@ -1,7 +1,7 @@
 //! Playing traces as their steps arrive.
 
 ghost use Rattle.std.specs.Prelude.{◌≡◌, ◌<◌, ◌≤◌, true, option_map, codes};
-ghost use Rattle.nm_trace.specs.Session.{opened, IsCall, Steps};
+ghost use Rattle.nm_trace.specs.Session.{session_of, IsCall, Steps};
 ghost use Rattle.nm_steps.specs.Tree.{view};
 ghost use Rattle.nm_steps.specs.Form as form;
 ghost use Rattle.nm_steps.specs.Faults.{Gives};
@@ -66,7 +66,7 @@ impl<A: Allocator + Copy + Send + Sync> Session<A> {
     /// `BadMachine`; `HostMemory(0)` if the host is out of memory: never for bytes that are not UTF-8.
     #[tactic(auto, unfolding(crate::specs::Session::opened, crate::specs::Session::begun))]
     pub fn open(alloc: A, heap: Global, bytes: &[u8]) -> Result<Self, TraceError>
-        ensures session { Gives (λ s. s) result (opened bytes.now) }
+        ensures session { Gives (λ s. s) result (session_of bytes.now) }
         ensures asked { result ≡ Err (HostMemory 0) → IsSomeText bytes.now }
     {
         let mut scratch = Scratch::new(heap);

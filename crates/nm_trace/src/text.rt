@@ -11,7 +11,7 @@ ghost use Rattle.nm_calls.specs.definitions.Outcome.{accesses_asked, access_answ
 ghost use Rattle.nm_steps.specs.Form.{access_step};
 ghost use Rattle.nm_steps.specs.Views.{call_of, shown_during};
 ghost use Rattle.nm_calls.specs.views.Answers.{answer_of};
-ghost use Rattle.nm_trace.specs.Report.{word_of, spaced, entry_text, answer_text, line_of, text_of, access_lines, answers_in, access_line};
+ghost use Rattle.nm_trace.specs.Report.{word_of, each_after_space, entry_text, answer_text, line_of, text_of, access_lines, answers_in, access_line};
 ghost use Rattle.nm_streams.specs.Waiting.{Puts};
 ghost use Rattle.nm_model.specs.views.Asked.{access_shown};
 ghost use Rattle.nm_memory.specs.views.Accesses.{answer_shown};
@@ -70,7 +70,7 @@ fn push_frames<W: TellingWriter, A: Allocator>(
     frames: &[FrameId],
 )
     ensures { Puts W.contents W.has_failed writer.old block.old writer.new block.new
-        (spaced decimal frames.now) }
+        (each_after_space decimal frames.now) }
 {
     let mut buffer = itoa::Buffer::new();
     for frame in frames {
@@ -86,7 +86,7 @@ fn push_statuses<W: TellingWriter, A: Allocator>(
     statuses: &[i32],
 )
     ensures { Puts W.contents W.has_failed writer.old block.old writer.new block.new
-        (spaced signed_decimal statuses.now) }
+        (each_after_space signed_decimal statuses.now) }
 {
     let mut buffer = itoa::Buffer::new();
     for status in statuses {
@@ -136,7 +136,7 @@ fn push_entries<W: TellingWriter, A: Allocator>(
     entries: &[PagemapEntry],
 )
     ensures { Puts W.contents W.has_failed writer.old block.old writer.new block.new
-        (spaced entry_text (map (λ e. (e.vpn, e.frame)) entries.now)) }
+        (each_after_space entry_text (map (λ e. (e.vpn, e.frame)) entries.now)) }
 {
     for entry in entries {
         push_entry(block, writer, entry);

@@ -5,7 +5,7 @@ use Rattle.std.specs.Prelude.{IfErr}
 use Rattle.std.specs.Io.BufRead.{take_through, DropsThrough}
 use Rattle.std.specs.Io.{StopsAt}
 use Rattle.std.specs.Io.KnownBytes.{Consumes}
-use Rattle.nm_trace.specs.Session.{SessionState, asked, opened}
+use Rattle.nm_trace.specs.Session.{SessionState, next_call, session_of}
 use Rattle.nm_streams.proofs.Known.{appends_more, appends_none, appends_nothing, consumes_none}
 use Rattle.numatrace_session.specs.declared.End.{End}
 use Rattle.numatrace_session.specs.declared.End.TheVariants.{BadTop, HostMemory, Stream}
@@ -41,7 +41,7 @@ unreplied s t u a b c old new newer reader failed mid fails line Stream h is dro
     let lines = h.0 in
     let so_far = replies_to s lines in
     let broken = w.0.0 in
-    let text = ap (λ (v : SessionState). reply_of v (asked v line)) h.2 in (
+    let text = ap (λ (v : SessionState). reply_of v (next_call v line)) h.2 in (
       lines ++ line ∷ [],
       (c, reads_more a b c lines line h.1 is drops, none_beyond c),
       all_more lines line h.4 some,
@@ -83,7 +83,7 @@ unbegun a c w reader failed top HostMemory h is drops gone stops = inl ((top, go
 unbegun a c w reader failed top Stream h is drops gone stops = absurd h
 
 pub ends_begun : {X : Type 0} (s : SessionState) (a b c old new : Option (List ℕ)) (reader failed fails : Bool) (top : List ℕ) (result : Result X End)
-    → opened top ≡ Ok s → IfSome a (λ xs. top ≡ take_through 10 xs) → DropsThrough a b 10
+    → session_of top ≡ Ok s → IfSome a (λ xs. top ≡ take_through 10 xs) → DropsThrough a b 10
     → IfErr result (λ e. EndsEarly e s b c old new reader failed fails) → IfErr result (λ e. EndsTalk e a c old new reader failed fails)
 ends_begun s a b c old new reader failed fails top (Ok done) begins is drops h = tt
 ends_begun s a b c old new reader failed fails top (Err (BadTop fault)) begins is drops h = absurd h

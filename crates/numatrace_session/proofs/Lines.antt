@@ -5,7 +5,7 @@ use Rattle.std.specs.List.{AllByRecursion}
 use Rattle.std.specs.Io.BufRead.{take_through, drop_through, DropsThrough}
 use Rattle.std.specs.Io.KnownBytes.{Appends, Keeps}
 use Rattle.std.specs.Prelude.{OnOk}
-use Rattle.nm_trace.specs.Session.{SessionState, asked, opened}
+use Rattle.nm_trace.specs.Session.{SessionState, next_call, session_of}
 use Rattle.nm_streams.proofs.Known.{appends_kept, appends_more, appends_none}
 use Rattle.numatrace_session.specs.Replies.{HasByte, after, after_lines, but_last, reply_of, replies_to, AreLines, ReadsLines, RepliesToLines, Talks}
 
@@ -32,24 +32,24 @@ reads_top (Some xs) b (Some zs) top lines is drops h = (is, subst (λ (o : Optio
 
 -- ---- replying
 
-after_more : (s : SessionState) (lines : List (List ℕ)) (line : List ℕ) → after_lines s (lines ++ line ∷ []) ≡ after (after_lines s lines) (asked (after_lines s lines) line)
+after_more : (s : SessionState) (lines : List (List ℕ)) (line : List ℕ) → after_lines s (lines ++ line ∷ []) ≡ after (after_lines s lines) (next_call (after_lines s lines) line)
 after_more s [] line = refl
-after_more s (l ∷ ls) line = after_more (after s (asked s l)) ls line
+after_more s (l ∷ ls) line = after_more (after s (next_call s l)) ls line
 
-pub replies_more : (s : SessionState) (lines : List (List ℕ)) (line : List ℕ) → replies_to s (lines ++ line ∷ []) ≡ replies_to s lines ++ reply_of (after_lines s lines) (asked (after_lines s lines) line)
-replies_more s [] line = append-nil (reply_of s (asked s line))
+pub replies_more : (s : SessionState) (lines : List (List ℕ)) (line : List ℕ) → replies_to s (lines ++ line ∷ []) ≡ replies_to s lines ++ reply_of (after_lines s lines) (next_call (after_lines s lines) line)
+replies_more s [] line = append-nil (reply_of s (next_call s line))
 replies_more s (l ∷ ls) line =
-    let first = reply_of s (asked s l) in
-    ap (λ (text : List ℕ). first ++ text) (replies_more (after s (asked s l)) ls line)
-    ∙ sym (append_assoc first (replies_to (after s (asked s l)) ls) (reply_of (after_lines (after s (asked s l)) ls) (asked (after_lines (after s (asked s l)) ls) line)))
+    let first = reply_of s (next_call s l) in
+    ap (λ (text : List ℕ). first ++ text) (replies_more (after s (next_call s l)) ls line)
+    ∙ sym (append_assoc first (replies_to (after s (next_call s l)) ls) (reply_of (after_lines (after s (next_call s l)) ls) (next_call (after_lines (after s (next_call s l)) ls) line)))
 
 -- the replies to some first lines are no longer than those to all
 replies_front : (s : SessionState) (n : ℕ) (lines : List (List ℕ)) → length (replies_to s (take n lines)) ≤ length (replies_to s lines)
 replies_front s zero lines = omega arith
 replies_front s (suc n) [] = omega arith
 replies_front s (suc n) (l ∷ ls) =
-    let first = reply_of s (asked s l) in
-    let then = after s (asked s l) in
+    let first = reply_of s (next_call s l) in
+    let then = after s (next_call s l) in
     omega (arith, replies_front then n ls, length-append first (replies_to then (take n ls)), length-append first (replies_to then ls))
 
 pub replies_but_last : (s : SessionState) (lines : List (List ℕ)) → length (replies_to s (but_last lines)) ≤ length (replies_to s lines)
@@ -74,16 +74,16 @@ all_more (l ∷ ls) line h some = (h.0, all_more ls line h.1 some)
 -- one more line is read and replied to
 pub one_more : (s t u : SessionState) (a b c old new newer newest : Option (List ℕ)) (line : List ℕ) → RepliesToLines s t a b old new
     → IfSome b (λ xs. line ≡ take_through 10 xs) → DropsThrough b c 10
-    → Appends new newer (reply_of t (asked t line)) → u ≡ after t (asked t line) → Keeps newer newest → HasByte line
+    → Appends new newer (reply_of t (next_call t line)) → u ≡ after t (next_call t line) → Keeps newer newest → HasByte line
     → RepliesToLines s u a c old newest
 one_more s t u a b c old new newer newest line h is drops written made kept some =
     let lines = h.0 in
     let before : t ≡ after_lines s lines = h.2 in
-    let text = ap (λ (v : SessionState). reply_of v (asked v line)) before in
-    let so_far = appends_more old new newer (replies_to s lines) (reply_of t (asked t line)) h.3 written in (
+    let text = ap (λ (v : SessionState). reply_of v (next_call v line)) before in
+    let so_far = appends_more old new newer (replies_to s lines) (reply_of t (next_call t line)) h.3 written in (
       lines ++ line ∷ [],
       reads_more a b c lines line h.1 is drops,
-      made ∙ ap (λ (v : SessionState). after v (asked v line)) before ∙ sym (after_more s lines line),
+      made ∙ ap (λ (v : SessionState). after v (next_call v line)) before ∙ sym (after_more s lines line),
       appends_kept old newer newest (replies_to s (lines ++ line ∷ []))
           (subst (Appends old newer) (ap (λ (x : List ℕ). replies_to s lines ++ x) text ∙ sym (replies_more s lines line)) so_far) kept,
       all_more lines line h.4 some,
@@ -91,7 +91,7 @@ one_more s t u a b c old new newer newest line h is drops written made kept some
 
 -- ---- from the first line on
 
-pub talked : {X E : Type 0} (s t : SessionState) (a b c old new : Option (List ℕ)) (top : List ℕ) (result : Result X E) → opened top ≡ Ok s
+pub talked : {X E : Type 0} (s t : SessionState) (a b c old new : Option (List ℕ)) (top : List ℕ) (result : Result X E) → session_of top ≡ Ok s
     → IfSome a (λ xs. top ≡ take_through 10 xs) → DropsThrough a b 10 → OnOk result (RepliesToLines s t b c old new) → OnOk result (Talks a c old new)
 talked s t a b c old new top (Ok done) begins is drops h = (top, s, h.0, begins, reads_top a b c top h.0 is drops h.1, h.3, h.4)
 talked s t a b c old new top (Err e) begins is drops h = tt

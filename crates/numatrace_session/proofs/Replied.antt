@@ -8,7 +8,7 @@ use Rattle.nm_steps.specs.declared.trace_error.TraceError.TheVariants.{BadMachin
 use Rattle.nm_steps.specs.declared.trace_error.TraceError.TheVariants as trace
 use Rattle.nm_streams.proofs.Known.{appends_more}
 use Rattle.nm_streams.proofs.Waits.{breaks_before, breaks_behind}
-use Rattle.nm_trace.specs.Session.{SessionState, Steps, asked, next, next_lines}
+use Rattle.nm_trace.specs.Session.{SessionState, Steps, next_call, next, next_lines}
 use Rattle.numatrace_session.specs.declared.End.{End}
 use Rattle.numatrace_session.specs.declared.End.TheVariants.{BadTop, HostMemory, Stream}
 use Rattle.numatrace_session.specs.Replies.{after, bad_step_reply, not_json_reply, reply_of, Replies, TellsFault, Writes}
@@ -50,7 +50,7 @@ number_broken old new failed fails front digits number more e r is h w =
 
 -- the reply was written
 pub replied : (s t : SessionState) (line text : List ℕ) (old new : Option (List ℕ)) (failed fails : Bool) (result : Result (Unit {0}) End)
-    → text ≡ reply_of s (asked s line) → t ≡ after s (asked s line) → Writes old new failed fails text result
+    → text ≡ reply_of s (next_call s line) → t ≡ after s (next_call s line) → Writes old new failed fails text result
     → Replies s t line old new failed fails result
 replied s t line text old new failed fails (Ok done) is then w = (subst (λ (x : List ℕ). Writes old new failed fails x (Ok done)) is w, then)
 replied s t line text old new failed fails (Err (BadTop fault)) is then w = absurd w
@@ -58,14 +58,14 @@ replied s t line text old new failed fails (Err HostMemory) is then w = absurd w
 replied s t line text old new failed fails (Err Stream) is then w = (subst (λ (x : List ℕ). Writes old new failed fails x (Err Stream)) is w, then)
 
 -- to a step
-pub lines_are : (s : SessionState) (line lines : List ℕ) (call : Call) → asked s line ≡ Ok call → lines ≡ next_lines s call
-    → lines ++ 10 ∷ [] ≡ reply_of s (asked s line)
+pub lines_are : (s : SessionState) (line lines : List ℕ) (call : Call) → next_call s line ≡ Ok call → lines ≡ next_lines s call
+    → lines ++ 10 ∷ [] ≡ reply_of s (next_call s line)
 lines_are s line lines call is e = subst (λ (a : Result Call TraceError). lines ++ 10 ∷ [] ≡ reply_of s a) (sym is) (ap (λ (xs : List ℕ). xs ++ 10 ∷ []) e)
 
-pub made_is : (s t : SessionState) (line : List ℕ) (call : Call) → asked s line ≡ Ok call → t ≡ next s call → t ≡ after s (asked s line)
+pub made_is : (s t : SessionState) (line : List ℕ) (call : Call) → next_call s line ≡ Ok call → t ≡ next s call → t ≡ after s (next_call s line)
 made_is s t line call is e = subst (λ (a : Result Call TraceError). t ≡ after s a) (sym is) e
 
-pub kept_is : (s t : SessionState) (line : List ℕ) (fault : TraceError) → asked s line ≡ Err fault → t ≡ s → t ≡ after s (asked s line)
+pub kept_is : (s t : SessionState) (line : List ℕ) (fault : TraceError) → next_call s line ≡ Err fault → t ≡ s → t ≡ after s (next_call s line)
 kept_is s t line fault is e = subst (λ (a : Result Call TraceError). t ≡ after s a) (sym is) e
 
 -- a text that is written is not told as lack of memory

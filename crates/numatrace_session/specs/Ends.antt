@@ -6,7 +6,7 @@ use Rattle.std.specs.declared.io.ErrorKind.TheVariants.{OutOfMemory}
 use Rattle.nm_steps.specs.declared.trace_error.TraceError.{TraceError}
 use Rattle.nm_steps.specs.declared.trace_error.TraceError.TheVariants as trace
 use Rattle.nm_steps.specs.Memory.{IsSomeText}
-use Rattle.nm_trace.specs.Session.{SessionState, opened}
+use Rattle.nm_trace.specs.Session.{SessionState, session_of}
 use Rattle.numatrace_session.specs.declared.End.{End}
 use Rattle.numatrace_session.specs.declared.End.TheVariants.{BadTop, HostMemory, Stream}
 
@@ -23,8 +23,8 @@ unopened fault = BadTop fault
 
 -- a first line begins a session, or none for a fault; or the host is out of memory, which only a text with a byte needs
 abbrev pub Begins : Result SessionState End → List ℕ → Type 0
-Begins (Ok s) top = opened top ≡ Ok s
-Begins (Err (BadTop fault)) top = opened top ≡ Err fault
+Begins (Ok s) top = session_of top ≡ Ok s
+Begins (Err (BadTop fault)) top = session_of top ≡ Err fault
 Begins (Err HostMemory) top = IsSomeText top
 Begins (Err Stream) top = ⊥
 

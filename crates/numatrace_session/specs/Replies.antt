@@ -9,7 +9,7 @@ use Rattle.nm_steps.specs.declared.trace_error.TraceError.{TraceError}
 use Rattle.nm_steps.specs.declared.trace_error.TraceError.TheVariants.{BadStep}
 use Rattle.nm_steps.specs.declared.trace_error.TraceError.TheVariants as trace
 use Rattle.nm_streams.specs.Waiting.{BreaksOff}
-use Rattle.nm_trace.specs.Session.{SessionState, StopsShort, asked, next, next_lines, opened}
+use Rattle.nm_trace.specs.Session.{SessionState, StopsShort, next_call, next, next_lines, session_of}
 use Rattle.numatrace_session.specs.declared.End.{End}
 use Rattle.numatrace_session.specs.declared.End.TheVariants.{BadTop, HostMemory, Stream}
 
@@ -55,19 +55,19 @@ abbrev pub Replies : SessionState → SessionState → List ℕ → Option (List
     → Result (Unit {0}) End → Type 0
 Replies s t line old new failed fails (Err HostMemory) = StopsShort s line t × Appends old new [] × (fails ≡ failed)
 Replies s t line old new failed fails result =
-    Writes old new failed fails (reply_of s (asked s line)) result × (t ≡ after s (asked s line))
+    Writes old new failed fails (reply_of s (next_call s line)) result × (t ≡ after s (next_call s line))
 
 -- ---- lines, one after another
 
 -- the session after lines
 abbrev pub after_lines : SessionState → List (List ℕ) → SessionState
 after_lines s [] = s
-after_lines s (line ∷ lines) = after_lines (after s (asked s line)) lines
+after_lines s (line ∷ lines) = after_lines (after s (next_call s line)) lines
 
 -- the replies to them
 abbrev pub replies_to : SessionState → List (List ℕ) → List ℕ
 replies_to s [] = []
-replies_to s (line ∷ lines) = reply_of s (asked s line) ++ replies_to (after s (asked s line)) lines
+replies_to s (line ∷ lines) = reply_of s (next_call s line) ++ replies_to (after s (next_call s line)) lines
 
 -- bytes are these lines, each up to and with its line feed, and then a rest
 abbrev pub AreLines : List ℕ → List (List ℕ) → List ℕ → Type 0
@@ -93,7 +93,7 @@ RepliesToLines s t left left_then old new =
 -- a first line begins a session, and each further one has its reply
 abbrev pub Talks : Option (List ℕ) → Option (List ℕ) → Option (List ℕ) → Option (List ℕ) → Type 0
 Talks left left_then old new =
-    (top : List ℕ) × (s : SessionState) × (lines : List (List ℕ)) × (opened top ≡ Ok s) × ReadsLines left left_then (top ∷ lines)
+    (top : List ℕ) × (s : SessionState) × (lines : List (List ℕ)) × (session_of top ≡ Ok s) × ReadsLines left left_then (top ∷ lines)
     × Appends old new (replies_to s lines) × AllByRecursion HasByte lines
 
 -- without a fault, bytes that are known are read to their end
@@ -103,7 +103,7 @@ ReachesEnd result left left_then = OnOk result (IfSome left (λ _. IsAtEnd left_
 -- the first line begins none, and nothing is written
 abbrev pub IsRefused : Option (List ℕ) → Option (List ℕ) → Option (List ℕ) → Option (List ℕ) → TraceError → Type 0
 IsRefused left left_then old new fault =
-    (top : List ℕ) × (opened top ≡ Err fault) × ReadsLines left left_then (top ∷ []) × Appends old new []
+    (top : List ℕ) × (session_of top ≡ Err fault) × ReadsLines left left_then (top ∷ []) × Appends old new []
 
 -- ---- where a session ends before its input does
 
@@ -147,7 +147,7 @@ EndsEarly Stream s left left_then old new reader failed fails =
 -- a first line begins a session, and the replies to further lines end early
 abbrev pub EndsBegun : End → Option (List ℕ) → Option (List ℕ) → Option (List ℕ) → Option (List ℕ) → Bool → Bool → Bool → Type 0
 EndsBegun end left left_then old new reader failed fails =
-    (top : List ℕ) × (s : SessionState) × (between : Option (List ℕ)) × (opened top ≡ Ok s) × ReadsLines left between (top ∷ [])
+    (top : List ℕ) × (s : SessionState) × (between : Option (List ℕ)) × (session_of top ≡ Ok s) × ReadsLines left between (top ∷ [])
     × EndsEarly end s between left_then old new reader failed fails
 
 -- nothing is written, and no more than a first line was read

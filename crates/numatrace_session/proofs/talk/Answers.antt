@@ -1,6 +1,6 @@
 use Rattle.std.proofs.Common.{rules, ◌≡◌, ℕ, List, Ok, Err, subst}
 use Rattle.numatrace_session.specs.Input.{has_read_failed, left_in}
-use Rattle.nm_trace.specs.Session.{opened}
+use Rattle.nm_trace.specs.Session.{session_of}
 use Rattle.numatrace_session.specs.Ends.{Begins}
 use Rattle.numatrace_session.specs.Replies.{EndsTalk}
 use Rattle.numatrace_session.proofs.Early.{ends_begun, first_unread, if_err, unbegun}
@@ -11,7 +11,7 @@ use Rattle.numatrace_session.proofs.talk.Goals as goal
 pub returns-clause-talk : goal.returns-clause-talk
 returns-clause-talk g c =
     talked c.in_ok-session.session _ (left_in g.R.Read.remaining c.args.input.now) (left_in g.R.Read.remaining c.next_line.new.input) (left_in g.R.Read.remaining c.reply_to_lines.new.input) (g.W.Write.contents c.args.out.now) (g.W.Write.contents c.reply_to_lines.new.out)
-    c.next_line.new.line.items c.reply_to_lines.result (subst (λ (x : List ℕ). opened x ≡ Ok c.in_ok-session.session) c.as_slice.ensures.value c.in_ok-session.ensures) c.in_ok-next_line.ensures.line c.in_ok-next_line.ensures.rest c.reply_to_lines.ensures.lines
+    c.next_line.new.line.items c.reply_to_lines.result (subst (λ (x : List ℕ). session_of x ≡ Ok c.in_ok-session.session) c.as_slice.ensures.value c.in_ok-session.ensures) c.in_ok-next_line.ensures.line c.in_ok-next_line.ensures.rest c.reply_to_lines.ensures.lines
 
 pub returns-clause-end : goal.returns-clause-end
 returns-clause-end g c =
@@ -21,7 +21,7 @@ returns-clause-end g c =
 pub returns-clause-early : goal.returns-clause-early
 returns-clause-early g c =
     ends_begun c.in_ok-session.session (left_in g.R.Read.remaining c.args.input.now) (left_in g.R.Read.remaining c.next_line.new.input) (left_in g.R.Read.remaining c.reply_to_lines.new.input) (g.W.Write.contents c.args.out.now) (g.W.Write.contents c.reply_to_lines.new.out)
-    (has_read_failed c.reply_to_lines.new.input) _ _ c.next_line.new.line.items c.reply_to_lines.result (subst (λ (x : List ℕ). opened x ≡ Ok c.in_ok-session.session) c.as_slice.ensures.value c.in_ok-session.ensures) c.in_ok-next_line.ensures.line c.in_ok-next_line.ensures.rest c.reply_to_lines.ensures.early
+    (has_read_failed c.reply_to_lines.new.input) _ _ c.next_line.new.line.items c.reply_to_lines.result (subst (λ (x : List ℕ). session_of x ≡ Ok c.in_ok-session.session) c.as_slice.ensures.value c.in_ok-session.ensures) c.in_ok-next_line.ensures.line c.in_ok-next_line.ensures.rest c.reply_to_lines.ensures.early
 
 pub returns-in_err-next_line-clause-early : goal.returns-in_err-next_line-clause-early
 returns-in_err-next_line-clause-early g c =
