@@ -5,11 +5,11 @@ use Rattle.std.specs.Io.KnownBytes.{Appends}
 use Rattle.clap.specs.Words.{Kinds}
 use Rattle.nm_steps.specs.declared.trace_error.TraceError.{TraceError}
 use Rattle.nm_steps.specs.declared.trace_error.TraceError.TheVariants.{NotJson, BadMachine, BadStep, ReadFault, WriteFault, HostMemory}
-use Rattle.numatrace.specs.Status.{RunsTrace, Tells, status_of}
+use Rattle.numatrace.specs.Status.{RunsTrace, WritesText, status_of}
 
 -- what was written whole, or not since the writer failed
 pub tells : {X F : Type 0} (old new : Option (List ℕ)) (before failed : Bool) (text : List ℕ) (r : Result X F)
-    → OnOk r (Appends old new text) → failed ≡ (is_err r || before) → Tells old new failed text
+    → OnOk r (Appends old new text) → failed ≡ (is_err r || before) → WritesText old new failed text
 tells old new before failed text (Ok done) whole told = inl whole
 tells old new before failed text (Err e) whole told = inr told
 

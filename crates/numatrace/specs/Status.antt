@@ -49,12 +49,12 @@ words_text OutOfMemory = memory_line
 words_text kind = codes "numatrace: a word is not UTF-8\n"
 
 -- a text was written, or a write has failed
-abbrev pub Tells : Option (List ℕ) → Option (List ℕ) → Bool → List ℕ → Type 0
-Tells old new failed text = Appends old new text ⊎ (failed ≡ true)
+abbrev pub WritesText : Option (List ℕ) → Option (List ℕ) → Bool → List ℕ → Type 0
+WritesText old new failed text = Appends old new text ⊎ (failed ≡ true)
 
 -- why words were refused; clap has texts of its own for all causes but lack of memory
 abbrev pub TellsRefusal : ParseKind → Option (List ℕ) → Option (List ℕ) → Bool → Type 0
-TellsRefusal parse.OutOfMemory old new failed = Tells old new failed memory_line
+TellsRefusal parse.OutOfMemory old new failed = WritesText old new failed memory_line
 TellsRefusal kind old new failed = Unit {0}
 
 -- ---- how the program ends, with a status, after words that are refused for some causes: what it leaves of the reader of the trace,
