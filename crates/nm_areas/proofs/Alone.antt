@@ -7,7 +7,7 @@ use Rattle.nm_types.specs.declared.page.Page.{Page}
 use Rattle.nm_types.specs.declared.area.Area.{Area}
 use Rattle.nm_types.specs.declared.area.Segment.{Segment}
 use Rattle.nm_types.specs.Map.{Map, get, spot_cmp}
-use Rattle.nm_types.specs.State.{Placed, area_over, page_shown, page_at}
+use Rattle.nm_types.specs.State.{PlacedArea, area_over, page_shown, page_at}
 use Rattle.nm_types.proofs.Cases.{true_false, some_is}
 use Rattle.nm_model.specs.definitions.Areas.{is_shared}
 use Rattle.nm_model.specs.definitions.Areas.{mapping_of, AreasAreApart, IsWellFormed, IsSomePages, PrivateIsOnce}
@@ -46,7 +46,7 @@ module _ (t : Table) (place : Map Page ℕ) (h : IsWellFormed (mapping_of t plac
 
 -- ---- no other area covers a private page
 
-among_filter : (test : Placed → Bool) (areas : List Placed) (a : Placed) → Among a (filter test areas) → Among a areas × (test a ≡ true)
+among_filter : (test : PlacedArea → Bool) (areas : List PlacedArea) (a : PlacedArea) → Among a (filter test areas) → Among a areas × (test a ≡ true)
 among_filter test [] a m = absurd m
 among_filter test (x ∷ areas) a m =
     elim (test x) as (λ b. test x ≡ b → Among a (cond b (x ∷ filter test areas) (filter test areas)) → Among a (x ∷ areas) × (test a ≡ true)) [
@@ -58,7 +58,7 @@ among_filter test (x ∷ areas) a m =
     ] refl m
 
 -- where an area shows a page of its stretch
-shows_at : (areas : Map (ℕ × ℕ) Area) (apart : AreasAreApart areas) (a : Placed) (p : Page) → Among a areas → a.1.page.segment ≡ p.segment → a.1.page.index ≤ p.index → p.index < a.1.page.index + a.1.pages
+shows_at : (areas : Map (ℕ × ℕ) Area) (apart : AreasAreApart areas) (a : PlacedArea) (p : Page) → Among a areas → a.1.page.segment ≡ p.segment → a.1.page.index ≤ p.index → p.index < a.1.page.index + a.1.pages
     → (area_over areas a.0.0 (a.0.1 + (p.index - a.1.page.index)) ≡ Some a) × (page_at areas a.0.0 (a.0.1 + (p.index - a.1.page.index)) ≡ Some p)
 shows_at areas apart a p m number low high =
     let w = a.0.1 + (p.index - a.1.page.index) in
@@ -66,7 +66,7 @@ shows_at areas apart a p m number low high =
     let index : a.1.page.index + (w - a.0.1) ≡ p.index = omega (arith, low) in
     (over, ap (λ o. page_shown o w) over ∙ (λ i. Some (record { segment = number i; index = index i })))
 
-page_parts : (p : Page) (a : Placed) → covers_page p a ≡ true → (a.1.page.segment ≡ p.segment) × (a.1.page.index ≤ p.index) × (p.index < a.1.page.index + a.1.pages)
+page_parts : (p : Page) (a : PlacedArea) → covers_page p a ≡ true → (a.1.page.segment ≡ p.segment) × (a.1.page.index ≤ p.index) × (p.index < a.1.page.index + a.1.pages)
 page_parts p a h =
     let both = and_parts (a.1.page.segment == p.segment) (nat_le a.1.page.index p.index && nat_lt p.index (a.1.page.index + a.1.pages)) h in
     let ends = and_parts (nat_le a.1.page.index p.index) (nat_lt p.index (a.1.page.index + a.1.pages)) both.1 in
@@ -76,7 +76,7 @@ pub none_beside : (areas : Map (ℕ × ℕ) Area) (segments : Map ℕ Segment) (
     → is_shared segments x.page.segment ≡ false → (i : ℕ) → x.page.index ≤ i → i < x.page.index + x.pages → is_covered (others pid first end areas) (page_in x.page.segment i) ≡ false
 none_beside areas segments pid first end s x apart once there low high private i from to =
     let p = page_in x.page.segment i in
-    let it : Placed = ((pid, s), x) in
+    let it : PlacedArea = ((pid, s), x) in
     false_from_ne_true (is_covered (others pid first end areas) p) (λ covered.
     let found = any_among (covers_page p) (others pid first end areas) covered in
     let a = found.0 in
@@ -86,4 +86,4 @@ none_beside areas segments pid first end s x apart once there low high private i
     let theirs = shows_at areas apart a p other.0 parts.0 parts.1 parts.2 in
     let same = once pid (s + (i - x.page.index)) a.0.0 (a.0.1 + (i - a.1.page.index)) p mine.1 theirs.1 private in
     let is : it ≡ a = some_is (sym mine.0 ∙ ap (λ (q : ℕ). area_over areas q (s + (i - x.page.index))) same.0 ∙ ap (area_over areas a.0.0) same.1 ∙ theirs.0) in
-    true_false (sym other.1 ∙ ap (λ (y : Placed). not (is_own pid first end y)) (sym is) ∙ ap not (own_from pid first end it refl low high)))
+    true_false (sym other.1 ∙ ap (λ (y : PlacedArea). not (is_own pid first end y)) (sym is) ∙ ap not (own_from pid first end it refl low high)))

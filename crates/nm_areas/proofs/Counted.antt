@@ -9,7 +9,7 @@ use Rattle.nm_types.specs.declared.page.Page.{Page}
 use Rattle.nm_types.specs.declared.area.Area.{Area}
 use Rattle.nm_types.specs.declared.area.Policy.{Policy}
 use Rattle.nm_types.specs.Map.{Map, get, set, with_values, same_page, spot_cmp}
-use Rattle.nm_types.specs.State.{Placed, covers, area_over, page_of}
+use Rattle.nm_types.specs.State.{PlacedArea, covers, area_over, page_of}
 use Rattle.nm_types.proofs.Cases.{true_false, some_none, none_some, some_is}
 use Rattle.nm_areas.specs.Coverage.{total, end_of, ends_of, covers_of, ends_at, covers_at, IsFlat, split_of, splits_at}
 use Rattle.nm_model.specs.definitions.Areas.{AreasAreApart, IsSomePages}
@@ -27,36 +27,36 @@ use Rattle.nm_counts.proofs.Between.{between_parts, between_from}
 
 -- ---- sums
 
-pub total_among : (f g : Placed → ℕ) (areas : List Placed) → ((a : Placed) → Among a areas → f a ≡ g a) → total f areas ≡ total g areas
+pub total_among : (f g : PlacedArea → ℕ) (areas : List PlacedArea) → ((a : PlacedArea) → Among a areas → f a ≡ g a) → total f areas ≡ total g areas
 total_among f g [] h = refl
 total_among f g (x ∷ areas) h =
     let first = h x (inl refl) in
     let rest = total_among f g areas (λ a m. h a (inr m)) in
     omega (arith, first, rest)
 
-pub total_zero : (f : Placed → ℕ) (areas : List Placed) → ((a : Placed) → Among a areas → f a ≡ 0) → total f areas ≡ 0
+pub total_zero : (f : PlacedArea → ℕ) (areas : List PlacedArea) → ((a : PlacedArea) → Among a areas → f a ≡ 0) → total f areas ≡ 0
 total_zero f [] h = refl
 total_zero f (x ∷ areas) h =
     let first = h x (inl refl) in
     let rest = total_zero f areas (λ a m. h a (inr m)) in
     omega (arith, first, rest)
 
-pub total_append : (f : Placed → ℕ) (xs ys : List Placed) → total f (xs ++ ys) ≡ total f xs + total f ys
+pub total_append : (f : PlacedArea → ℕ) (xs ys : List PlacedArea) → total f (xs ++ ys) ≡ total f xs + total f ys
 total_append f [] ys = omega arith
 total_append f (x ∷ xs) ys = let rest = total_append f xs ys in omega (arith, rest)
 
-pub total_flat : (f : Placed → ℕ) (g : Placed → List Placed) (areas : List Placed) → total f (flat_map g areas) ≡ total (λ a. total f (g a)) areas
+pub total_flat : (f : PlacedArea → ℕ) (g : PlacedArea → List PlacedArea) (areas : List PlacedArea) → total f (flat_map g areas) ≡ total (λ a. total f (g a)) areas
 total_flat f g [] = refl
 total_flat f g (x ∷ areas) =
     let parts = total_append f (g x) (flat_map g areas) in
     let rest = total_flat f g areas in
     omega (arith, parts, rest)
 
-pub total_add : (f g : Placed → ℕ) (areas : List Placed) → total (λ a. f a + g a) areas ≡ total f areas + total g areas
+pub total_add : (f g : PlacedArea → ℕ) (areas : List PlacedArea) → total (λ a. f a + g a) areas ≡ total f areas + total g areas
 total_add f g [] = refl
 total_add f g (x ∷ areas) = let rest = total_add f g areas in omega (arith, rest)
 
-pub total_few : (f : Placed → ℕ) (areas : List Placed) → ((a : Placed) → Among a areas → f a ≤ 1) → total f areas ≤ length areas
+pub total_few : (f : PlacedArea → ℕ) (areas : List PlacedArea) → ((a : PlacedArea) → Among a areas → f a ≤ 1) → total f areas ≤ length areas
 total_few f [] h = omega arith
 total_few f (x ∷ areas) h =
     let first = h x (inl refl) in
@@ -64,7 +64,7 @@ total_few f (x ∷ areas) h =
     omega (arith, first, rest)
 
 -- those that pass a test, and those that do not
-pub total_parts : (f : Placed → ℕ) (test : Placed → Bool) (areas : List Placed) → total f (filter (λ a. not (test a)) areas) + total f (filter test areas) ≡ total f areas
+pub total_parts : (f : PlacedArea → ℕ) (test : PlacedArea → Bool) (areas : List PlacedArea) → total f (filter (λ a. not (test a)) areas) + total f (filter test areas) ≡ total f areas
 total_parts f test [] = refl
 total_parts f test (x ∷ areas) =
     let rest = total_parts f test areas in
@@ -74,7 +74,7 @@ total_parts f test (x ∷ areas) =
     ]
 
 -- with another area
-pub total_set : (f : Placed → ℕ) (areas : Map (ℕ × ℕ) Area) (s : ℕ × ℕ) (x : Area) → get spot_cmp areas s ≡ None → total f (set spot_cmp areas s x) ≡ total f areas + f (s, x)
+pub total_set : (f : PlacedArea → ℕ) (areas : Map (ℕ × ℕ) Area) (s : ℕ × ℕ) (x : Area) → get spot_cmp areas s ≡ None → total f (set spot_cmp areas s x) ≡ total f areas + f (s, x)
 total_set f [] s x h = omega arith
 total_set f (e ∷ areas) s x h =
     elim (spot_cmp s e.0) as (λ r. cond (is_eq r) (Some e.1) (get spot_cmp areas s) ≡ None → total f (match_ordering r ((s, x) ∷ e ∷ areas) ((e.0, x) ∷ areas) (e ∷ set spot_cmp areas s x)) ≡ (f e + total f areas) + f (s, x)) [
@@ -84,8 +84,8 @@ total_set f (e ∷ areas) s x h =
     ] h
 
 -- of areas that do not overlap at most one covers a page number
-module _ (f : Placed → ℕ) (pid at : ℕ) (not_over : (a : Placed) → covers a pid at ≡ false → f a ≡ 0) where
-  pub total_over : (areas : Map (ℕ × ℕ) Area) → AreasAreApart areas → (a : Placed) → area_over areas pid at ≡ Some a → total f areas ≡ f a
+module _ (f : PlacedArea → ℕ) (pid at : ℕ) (not_over : (a : PlacedArea) → covers a pid at ≡ false → f a ≡ 0) where
+  pub total_over : (areas : Map (ℕ × ℕ) Area) → AreasAreApart areas → (a : PlacedArea) → area_over areas pid at ≡ Some a → total f areas ≡ f a
   total_over [] apart a h = absurd (none_some h)
   total_over (x ∷ areas) apart a h =
       elim (covers x pid at) as (λ b. covers x pid at ≡ b → cond b (Some x) (area_over areas pid at) ≡ Some a → f x + total f areas ≡ f a) [
@@ -214,7 +214,7 @@ some_cover (a ∷ areas) p h =
 -- ---- areas that are split at a page number
 
 -- whether an area is split there
-crossing : (pid at : ℕ) (a : Placed) (P : Type 0) → (a.0.0 ≡ pid → a.0.1 < at → at < behind_last a → P) → ((a.0.0 ≡ pid → a.0.1 < at → at < behind_last a → ⊥) → P) → P
+crossing : (pid at : ℕ) (a : PlacedArea) (P : Type 0) → (a.0.0 ≡ pid → a.0.1 < at → at < behind_last a → P) → ((a.0.0 ≡ pid → a.0.1 < at → at < behind_last a → ⊥) → P) → P
 crossing pid at a P splits stays =
     elim (a.0.0 == pid) as (λ b. (a.0.0 == pid) ≡ b → P) [
       | false ↦ λ b. stays (λ own low high. true_false (sym (eq-eqb a.0.0 pid own) ∙ b))
@@ -250,26 +250,26 @@ twice : (f e g : ℕ) (b : Bool) → g ≡ e → (f + (if b then 1 else 0)) + ((
 twice f e g true h = omega (arith, h)
 twice f e g false h = omega (arith, h)
 
-split_nothing : (pid at : ℕ) (p : Page) (a : Placed) → (a.0.0 ≡ pid → a.0.1 < at → at < behind_last a → ⊥) → split_of pid at p a ≡ 0
+split_nothing : (pid at : ℕ) (p : Page) (a : PlacedArea) → (a.0.0 ≡ pid → a.0.1 < at → at < behind_last a → ⊥) → split_of pid at p a ≡ 0
 split_nothing pid at p a h =
     ap (λ b. if b then 2 else 0) (false_from_ne_true _ (λ k.
     let both = and_parts (covers a pid at) (nat_lt a.0.1 at && same_page (page_of a at) p) k in
     let cover = covers_parts a pid at both.0 in
     absurd (h cover.0 (ltb-true a.0.1 at (and_parts (nat_lt a.0.1 at) (same_page (page_of a at) p) both.1).0) cover.2)))
 
-pub split_there : (pid at : ℕ) (p : Page) (a : Placed) → a.0.0 ≡ pid → a.0.1 < at → at < behind_last a → split_of pid at p a ≡ (if same_page (page_of a at) p then 2 else 0)
+pub split_there : (pid at : ℕ) (p : Page) (a : PlacedArea) → a.0.0 ≡ pid → a.0.1 < at → at < behind_last a → split_of pid at p a ≡ (if same_page (page_of a at) p then 2 else 0)
 split_there pid at p a own low high =
     ap (λ b. if b && (nat_lt a.0.1 at && same_page (page_of a at) p) then 2 else 0) (covers_from a pid at own (omega (arith, low)) high)
     ∙ ap (λ b. if b && same_page (page_of a at) p then 2 else 0) (lt-ltb a.0.1 at low)
 
 -- an area that does not cover a page number, or begins there, is not split
-pub not_over : (pid at : ℕ) (p : Page) (a : Placed) → covers a pid at ≡ false → split_of pid at p a ≡ 0
+pub not_over : (pid at : ℕ) (p : Page) (a : PlacedArea) → covers a pid at ≡ false → split_of pid at p a ≡ 0
 not_over pid at p a h = ap (λ b. if b && (nat_lt a.0.1 at && same_page (page_of a at) p) then 2 else 0) h
 
-pub begins_there : (pid at : ℕ) (p : Page) (a : Placed) → at ≤ a.0.1 → split_of pid at p a ≡ 0
+pub begins_there : (pid at : ℕ) (p : Page) (a : PlacedArea) → at ≤ a.0.1 → split_of pid at p a ≡ 0
 begins_there pid at p a h = split_nothing pid at p a (λ own low high. omega (arith, low, h))
 
-split_few : (pid at : ℕ) (p : Page) (a : Placed) → split_of pid at p a ≤ 2
+split_few : (pid at : ℕ) (p : Page) (a : PlacedArea) → split_of pid at p a ≤ 2
 split_few pid at p a = elim (covers a pid at && (nat_lt a.0.1 at && same_page (page_of a at) p)) as (λ b. (if b then 2 else 0) ≤ 2) [ true ↦ omega arith | false ↦ omega arith ]
 
 pub splits_few : (areas : Map (ℕ × ℕ) Area) → AreasAreApart areas → (pid at : ℕ) (p : Page) → splits_at areas pid at p ≤ 2
@@ -280,9 +280,9 @@ splits_few areas apart pid at p =
     ] refl
 
 -- the second part of an area is split as the area is
-split_back : (pid first at : ℕ) (p : Page) (a : Placed) → a.0.0 ≡ pid → a.0.1 < first → first < behind_last a → first < at → split_of pid at p ((a.0.0, first), later first a) ≡ split_of pid at p a
+split_back : (pid first at : ℕ) (p : Page) (a : PlacedArea) → a.0.0 ≡ pid → a.0.1 < first → first < behind_last a → first < at → split_of pid at p ((a.0.0, first), later first a) ≡ split_of pid at p a
 split_back pid first at p a own low high less =
-    let back : Placed = ((a.0.0, first), later first a) in
+    let back : PlacedArea = ((a.0.0, first), later first a) in
     elim (nat_lt at (behind_last a)) as (λ b. nat_lt at (behind_last a) ≡ b → split_of pid at p back ≡ split_of pid at p a) [
       | true ↦ λ b.
           let last : at < behind_last a = ltb-true at (behind_last a) b in
@@ -295,7 +295,7 @@ split_back pid first at p a own low high less =
           split_nothing pid at p back (λ o l h. omega (arith, last, low, high, h)) ∙ sym (split_nothing pid at p a (λ o l h. omega (arith, last, h)))
     ] refl
 
-module _ (pid at : ℕ) (p : Page) (a : Placed) where
+module _ (pid at : ℕ) (p : Page) (a : PlacedArea) where
   abbrev whole : ℕ
   whole = ends_of p a.1
 
@@ -333,8 +333,8 @@ module _ (pid at : ℕ) (p : Page) (a : Placed) where
   split_stays first less some =
       crossing pid first a _
       (λ own low high.
-      let front : Placed = (a.0, shorter first a) in
-      let back : Placed = ((a.0.0, first), later first a) in
+      let front : PlacedArea = (a.0, shorter first a) in
+      let back : PlacedArea = ((a.0.0, first), later first a) in
       let none : split_of pid at p front ≡ 0 = split_nothing pid at p front (λ o l h. omega (arith, low, less, h)) in
       let same : split_of pid at p back ≡ split_of pid at p a = split_back pid first at p a own low high less in
       let sum : split_of pid at p front + (split_of pid at p back + 0) ≡ split_of pid at p a = omega (arith, none, same) in
@@ -389,7 +389,7 @@ err_always (Ok x) p = tt
 err_always (Err e) p = p
 
 -- the first of the areas of a process, beside those after it
-pub own_sum : (f : Placed → ℕ) (left areas : Map (ℕ × ℕ) Area) (pid at s end behind : ℕ) (x : Area) → filter (is_own pid at end) areas ≡ ((pid, s), x) ∷ filter (is_own pid (s + 1) end) areas → behind ≡ s
+pub own_sum : (f : PlacedArea → ℕ) (left areas : Map (ℕ × ℕ) Area) (pid at s end behind : ℕ) (x : Area) → filter (is_own pid at end) areas ≡ ((pid, s), x) ∷ filter (is_own pid (s + 1) end) areas → behind ≡ s
     → total f left + total f (filter (is_own pid at end) areas) ≡ (total f left + total f (filter (is_own pid (behind + 1) end) areas)) + f ((pid, s), x)
 own_sum f left areas pid at s end behind x next same =
     let here = ap (total f) next in

@@ -7,7 +7,7 @@ use Rattle.std.proofs.lemmas.Bool.{ltb-true, ltb-false}
 use Rattle.std.proofs.Math.Bool.{and-false}
 use Rattle.nm_types.specs.declared.area.Area.{Area}
 use Rattle.nm_types.specs.Map.{Map, get, spot_cmp}
-use Rattle.nm_types.specs.State.{Placed, covers, area_over}
+use Rattle.nm_types.specs.State.{PlacedArea, covers, area_over}
 use Rattle.nm_types.proofs.Cases.{none_some, some_is, true_false}
 use Rattle.nm_model.specs.definitions.Areas.{AreasAreApart, IsSomePages}
 use Rattle.nm_model.specs.definitions.Areas.{is_well_formed}
@@ -20,7 +20,7 @@ use Rattle.nm_areas.proofs.Searched.{begun_all, over_all}
 
 -- no area that covers a page number begins before it
 abbrev pub NoneReaches : Map (ℕ × ℕ) Area → ℕ → ℕ → Type 0
-NoneReaches areas pid at = (a : Placed) → Among a areas → covers a pid at ≡ true → at ≤ a.0.1
+NoneReaches areas pid at = (a : PlacedArea) → Among a areas → covers a pid at ≡ true → at ≤ a.0.1
 
 -- an area covers all of its page numbers
 abbrev pub IsOver : Map (ℕ × ℕ) Area → ℕ → ℕ → Area → Type 0
@@ -37,10 +37,10 @@ module _ (areas : Map (ℕ × ℕ) Area) (apart : AreasAreApart areas) (whole : 
         | None ↦ λ o. refl
         | Some y ↦ λ o.
             let some = All-among IsSomePages areas ((pid, v), y) whole (get_among areas (pid, v) y o) in
-            let mine : Placed = ((pid, v), y) in
-            let other : Placed = ((pid, start), x) in
+            let mine : PlacedArea = ((pid, v), y) in
+            let other : PlacedArea = ((pid, start), x) in
             let one : mine ≡ other = some_is (sym (begun_all areas apart pid v y o v (omega arith) (omega (arith, some))) ∙ its v (omega (arith, low)) high) in
-            let same : v ≡ start = ap (λ (a : Placed). a.0.1) one in
+            let same : v ≡ start = ap (λ (a : PlacedArea). a.0.1) one in
             absurd (omega (arith, low, same))
       ] refl
 
@@ -53,7 +53,7 @@ module _ (areas : Map (ℕ × ℕ) Area) (apart : AreasAreApart areas) (whole : 
             let before : a.0.1 < start + x.pages = ltb-true a.0.1 (start + x.pages) b in
             let v = max start a.0.1 in
             let one : a ≡ ((pid, start), x) = some_is (sym (over_among areas pid v a apart m (covers_from a pid v parts.0 (omega arith) (omega (arith, some, before, parts.2)))) ∙ its v (omega arith) (omega (arith, some, before))) in
-            let end : a.0.1 + a.1.pages ≡ start + x.pages = ap (λ (a : Placed). a.0.1 + a.1.pages) one in
+            let end : a.0.1 + a.1.pages ≡ start + x.pages = ap (λ (a : PlacedArea). a.0.1 + a.1.pages) one in
             absurd (omega (arith, end, parts.2))
       ] refl
 
@@ -99,7 +99,7 @@ hole_within areas pid at (suc n) v low high none =
     ] refl
 
 -- what was looked up as no area is none
-pub no_area : (found : Option (ℕ × Area)) (pid : ℕ) (over : Option Placed) → is_some found ≡ false → option_map {U = Placed} (λ a. ((pid, a.0), a.1)) found ≡ over → over ≡ None
+pub no_area : (found : Option (ℕ × Area)) (pid : ℕ) (over : Option PlacedArea) → is_some found ≡ false → option_map {U = PlacedArea} (λ a. ((pid, a.0), a.1)) found ≡ over → over ≡ None
 no_area None pid over none is = sym is
 no_area (Some a) pid over none is = absurd (true_false none)
 
@@ -123,10 +123,10 @@ module _ (areas : Map (ℕ × ℕ) Area) (apart : AreasAreApart areas) (pid at v
         | true ↦ λ b.
             let before : start < other = ltb-true start other b in
             let facts = over_facts pid at areas other y over in
-            let mine : Placed = ((pid, other), y) in
-            let earlier : Placed = ((pid, start), x) in
+            let mine : PlacedArea = ((pid, other), y) in
+            let earlier : PlacedArea = ((pid, start), x) in
             let one : mine ≡ earlier = some_is (over ∙ over_earlier (omega (arith, before, facts.1))) in
-            let same : other ≡ start = ap (λ (a : Placed). a.0.1) one in
+            let same : other ≡ start = ap (λ (a : PlacedArea). a.0.1) one in
             absurd (omega (arith, before, same))
       ] refl
 

@@ -14,7 +14,7 @@ use Rattle.std.proofs.lemmas.Map.Lookups.{exact_unsigned}
 use Rattle.nm_types.specs.declared.area.Area.{Area}
 use Rattle.nm_types.specs.declared.area.Segment.{Segment}
 use Rattle.nm_types.specs.Map.{Map, get, without, spot_cmp}
-use Rattle.nm_types.specs.State.{Placed}
+use Rattle.nm_types.specs.State.{PlacedArea}
 use Rattle.nm_types.proofs.Cases.{true_false, some_none}
 use Rattle.nm_model.specs.definitions.Areas.{shows_segment, AllShown}
 use Rattle.nm_model.specs.definitions.Areas.{segments_left, begins_in, is_own, others, without_own}
@@ -43,7 +43,7 @@ module _ (pid first end : ℕ) where
         | false ↦ λ b. ap (λ l. cond (not (is_own pid first end e)) (e ∷ l) l) (others_without areas k own)
       ] refl
 
-  filter_all : (test : Placed → Bool) (areas : List Placed) → ((a : Placed) → Among a areas → test a ≡ true) → filter test areas ≡ areas
+  filter_all : (test : PlacedArea → Bool) (areas : List PlacedArea) → ((a : PlacedArea) → Among a areas → test a ≡ true) → filter test areas ≡ areas
   filter_all test [] h = refl
   filter_all test (x ∷ areas) h = ap (λ b. cond b (x ∷ filter test areas) (filter test areas)) (h x (inl refl)) ∙ ap (λ l. x ∷ l) (filter_all test areas (λ a m. h a (inr m)))
 
@@ -67,7 +67,7 @@ fewer (e ∷ areas) k x h =
 -- ---- segments
 
 -- an area and those without it
-any_without : (test : Placed → Bool) (areas : Map (ℕ × ℕ) Area) (k : ℕ × ℕ) (x : Area) → get spot_cmp areas k ≡ Some x → list_any test areas ≡ (test (k, x) || list_any test (without spot_cmp areas k))
+any_without : (test : PlacedArea → Bool) (areas : Map (ℕ × ℕ) Area) (k : ℕ × ℕ) (x : Area) → get spot_cmp areas k ≡ Some x → list_any test areas ≡ (test (k, x) || list_any test (without spot_cmp areas k))
 any_without test [] k x h = absurd (some_none (sym h))
 any_without test (e ∷ areas) k x h =
     elim (is_eq (spot_cmp k e.0)) as (λ b. is_eq (spot_cmp k e.0) ≡ b → cond b (Some e.1) (get spot_cmp areas k) ≡ Some x → (test e || list_any test areas) ≡ (test (k, x) || list_any test (cond b areas (e ∷ without spot_cmp areas k)))) [

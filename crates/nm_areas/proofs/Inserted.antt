@@ -11,7 +11,7 @@ use Rattle.nm_types.specs.declared.page.Page.{Page}
 use Rattle.nm_types.specs.declared.area.Area.{Area}
 use Rattle.nm_types.specs.declared.area.Segment.{Segment}
 use Rattle.nm_types.specs.Map.{Map, get, set, spot_cmp}
-use Rattle.nm_types.specs.State.{Placed}
+use Rattle.nm_types.specs.State.{PlacedArea}
 use Rattle.nm_types.proofs.Cases.{true_false}
 use Rattle.nm_model.specs.views.Table.{Table, with_areas}
 use Rattle.nm_model.specs.definitions.Areas.{mapping_of, IsSomePages, EndsLow, HasIndices, shows_segment, AllShown, PrivateIsOnce, IsWellFormed}
@@ -55,7 +55,7 @@ not_true false h = refl
 module _ (t : Table) (place : Map Page ℕ) (h : IsWellFormed (mapping_of t place)) (pid first : ℕ) (new : Area) (some : 0 < new.pages) (low : first + new.pages ≤ 2 ^ 35) (index : new.page.index + new.pages < 2 ^ 64)
     (free : true ≡ not (list_any (overlaps pid first (first + new.pages)) t.areas)) where
   -- what an area showed is still shown
-  any_more : (test : Placed → Bool) (areas : Map (ℕ × ℕ) Area) → AllByRecursion IsSomePages areas → NoneOverlaps pid first new areas → list_any test areas ≡ true → list_any test (set spot_cmp areas (pid, first) new) ≡ true
+  any_more : (test : PlacedArea → Bool) (areas : Map (ℕ × ℕ) Area) → AllByRecursion IsSomePages areas → NoneOverlaps pid first new areas → list_any test areas ≡ true → list_any test (set spot_cmp areas (pid, first) new) ≡ true
   any_more test [] each none h = cc
   any_more test (a ∷ areas) each none h =
       elim (spot_cmp (pid, first) a.0) as (λ r. spot_cmp (pid, first) a.0 ≡ r → list_any test (match_ordering r (one_more pid first new ∷ a ∷ areas) ((a.0, new) ∷ areas) (a ∷ set spot_cmp areas (pid, first) new)) ≡ true) [
@@ -112,7 +112,7 @@ module _ (t : Table) (place : Map Page ℕ) (h : IsWellFormed (mapping_of t plac
       })
 
 -- the new area is there
-new_there : (test : Placed → Bool) (pid first : ℕ) (new : Area) → test ((pid, first), new) ≡ true → (areas : Map (ℕ × ℕ) Area) → list_any test (set spot_cmp areas (pid, first) new) ≡ true
+new_there : (test : PlacedArea → Bool) (pid first : ℕ) (new : Area) → test ((pid, first), new) ≡ true → (areas : Map (ℕ × ℕ) Area) → list_any test (set spot_cmp areas (pid, first) new) ≡ true
 new_there test pid first new h [] = or_left _ _ h
 new_there test pid first new h (a ∷ areas) =
     elim (spot_cmp (pid, first) a.0) as (λ r. spot_cmp (pid, first) a.0 ≡ r → list_any test (match_ordering r (((pid, first), new) ∷ a ∷ areas) ((a.0, new) ∷ areas) (a ∷ set spot_cmp areas (pid, first) new)) ≡ true) [

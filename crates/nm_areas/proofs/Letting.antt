@@ -13,7 +13,7 @@ use Rattle.nm_types.specs.declared.area.Policy.TheVariants.{Default}
 use Rattle.nm_types.specs.declared.area.Area.{Area}
 use Rattle.nm_types.specs.declared.area.Segment.{Segment}
 use Rattle.nm_types.specs.Map.{Map, with_values, without, page_cmp}
-use Rattle.nm_types.specs.State.{Placed}
+use Rattle.nm_types.specs.State.{PlacedArea}
 use Rattle.nm_model.specs.views.Table.{Table, with_areas}
 use Rattle.nm_model.specs.definitions.Areas.{Mapping, mapping_of, IsSomePages, EndsLow, HasIndices, shows_segment, AllShown, IsWellFormed}
 use Rattle.nm_model.specs.definitions.Areas.{pages_from, pages_between, before, behind, parts_outside, is_covered}
@@ -27,10 +27,10 @@ use Rattle.nm_model.proofs.areas.Policed.{fine_split, fine_here, shown_split, al
 use Rattle.nm_areas.proofs.Private.{once_left}
 
 module _ (pid first end : ℕ) where
-  abbrev is_other : Placed → Bool
+  abbrev is_other : PlacedArea → Bool
   is_other a = not (is_own pid first end a)
 
-  abbrev pages_of : Placed → List Page
+  abbrev pages_of : PlacedArea → List Page
   pages_of a = pages_of_area a.1
 
   outside : (k : ℕ × ℕ) → (k.0 ≡ pid → first ≤ k.1 → k.1 < end → ⊥) → begins_in pid first end k ≡ false
@@ -61,21 +61,21 @@ module _ (pid first end : ℕ) where
 
   -- ---- the parts of one area
 
-  keep : (a : Placed) → begins_in pid first end a.0 ≡ false → (filter is_other (a ∷ []) ≡ a ∷ []) × (filter (is_own pid first end) (a ∷ []) ≡ [])
+  keep : (a : PlacedArea) → begins_in pid first end a.0 ≡ false → (filter is_other (a ∷ []) ≡ a ∷ []) × (filter (is_own pid first end) (a ∷ []) ≡ [])
   keep a h = (ap (λ b. cond (not b) (a ∷ []) []) h, ap (λ b. cond b (a ∷ []) []) h)
 
-  abbrev IsKept : List Placed → Type 0
+  abbrev IsKept : List PlacedArea → Type 0
   IsKept areas = (filter is_other areas ≡ areas) × (filter (is_own pid first end) areas ≡ [])
 
-  before_kept : (a : Placed) → IsKept (before first a)
+  before_kept : (a : PlacedArea) → IsKept (before first a)
   before_kept a =
-      let cut : Placed = (a.0, record (a.1) { pages = min a.1.pages (first - a.0.1) }) in
+      let cut : PlacedArea = (a.0, record (a.1) { pages = min a.1.pages (first - a.0.1) }) in
       elim (nat_lt a.0.1 first) as (λ b. nat_lt a.0.1 first ≡ b → IsKept (cond b (cut ∷ []) [])) [
         | true ↦ λ b. let less : a.0.1 < first = ltb-true a.0.1 first b in keep cut (outside a.0 (λ p low high. omega (arith, low, less)))
         | false ↦ λ b. (refl, refl)
       ] refl
 
-  behind_kept : (a : Placed) → IsKept (behind end a)
+  behind_kept : (a : PlacedArea) → IsKept (behind end a)
   behind_kept a =
       let from = max end a.0.1 in
       let page : Page = record { segment = a.1.page.segment; index = a.1.page.index + (from - a.0.1) } in
@@ -85,7 +85,7 @@ module _ (pid first end : ℕ) where
         | false ↦ (refl, refl)
       ]
 
-  inside_goes : (a : Placed) → a.0.0 ≡ pid → (filter is_other (inside first end Default a) ≡ []) × (flat_map pages_of (filter (is_own pid first end) (inside first end Default a)) ≡ pages_between first end a)
+  inside_goes : (a : PlacedArea) → a.0.0 ≡ pid → (filter is_other (inside first end Default a) ≡ []) × (flat_map pages_of (filter (is_own pid first end) (inside first end Default a)) ≡ pages_between first end a)
   inside_goes a own =
       let from = max first a.0.1 in
       let last = min end (a.0.1 + a.1.pages) in
@@ -105,25 +105,25 @@ module _ (pid first end : ℕ) where
       ] refl
 
   -- what is before, inside and after
-  three_others : (xs ys zs : List Placed) → IsKept xs → filter is_other ys ≡ [] → IsKept zs → filter is_other ((xs ++ ys) ++ zs) ≡ xs ++ zs
+  three_others : (xs ys zs : List PlacedArea) → IsKept xs → filter is_other ys ≡ [] → IsKept zs → filter is_other ((xs ++ ys) ++ zs) ≡ xs ++ zs
   three_others xs ys zs x y z =
       filter-append is_other (xs ++ ys) zs
       ∙ ap (λ l. l ++ filter is_other zs) (filter-append is_other xs ys ∙ ap (λ l. l ++ filter is_other ys) x.0 ∙ ap (λ l. xs ++ l) y ∙ append-nil xs)
       ∙ ap (λ l. xs ++ l) z.0
 
-  three_own : (xs ys zs : List Placed) → IsKept xs → IsKept zs → flat_map pages_of (filter (is_own pid first end) ((xs ++ ys) ++ zs)) ≡ flat_map pages_of (filter (is_own pid first end) ys)
+  three_own : (xs ys zs : List PlacedArea) → IsKept xs → IsKept zs → flat_map pages_of (filter (is_own pid first end) ((xs ++ ys) ++ zs)) ≡ flat_map pages_of (filter (is_own pid first end) ys)
   three_own xs ys zs x z =
       ap (flat_map pages_of) (filter-append (is_own pid first end) (xs ++ ys) zs ∙ ap (λ l. filter (is_own pid first end) (xs ++ ys) ++ l) z.1 ∙ append-nil (filter (is_own pid first end) (xs ++ ys))
       ∙ filter-append (is_own pid first end) xs ys ∙ ap (λ l. l ++ filter (is_own pid first end) ys) x.1)
 
-  one_other : (a : Placed) → filter is_other (parts_with_policy pid first end Default a) ≡ parts_outside pid first end a
+  one_other : (a : PlacedArea) → filter is_other (parts_with_policy pid first end Default a) ≡ parts_outside pid first end a
   one_other a =
       elim (a.0.0 == pid) as (λ b. (a.0.0 == pid) ≡ b → filter is_other (cond b (before first a ++ inside first end Default a ++ behind end a) (a ∷ [])) ≡ cond b (before first a ++ behind end a) (a ∷ [])) [
         | true ↦ λ b. three_others (before first a) (inside first end Default a) (behind end a) (before_kept a) (inside_goes a (eqb-true a.0.0 pid b)).0 (behind_kept a)
         | false ↦ λ b. (keep a (ap (λ c. c && (nat_le first a.0.1 && nat_lt a.0.1 end)) b)).0
       ] refl
 
-  one_own : (a : Placed) → flat_map pages_of (filter (is_own pid first end) (parts_with_policy pid first end Default a)) ≡ cond (a.0.0 == pid) (pages_between first end a) []
+  one_own : (a : PlacedArea) → flat_map pages_of (filter (is_own pid first end) (parts_with_policy pid first end Default a)) ≡ cond (a.0.0 == pid) (pages_between first end a) []
   one_own a =
       elim (a.0.0 == pid) as (λ b. (a.0.0 == pid) ≡ b → flat_map pages_of (filter (is_own pid first end) (cond b (before first a ++ inside first end Default a ++ behind end a) (a ∷ []))) ≡ cond b (pages_between first end a) []) [
         | true ↦ λ b. three_own (before first a) (inside first end Default a) (behind end a) (before_kept a) (behind_kept a) ∙ (inside_goes a (eqb-true a.0.0 pid b)).1
@@ -187,7 +187,7 @@ places_sorted areas (p ∷ pages) place h =
     (elim (is_covered areas p) as (λ b. IsStrictlySortedBy page_cmp (keys_of (if b then place else without page_cmp place p))) [ true ↦ h | false ↦ sorted-without page_cmp place p h ])
 
 module _ (m : Mapping) (h : IsWellFormed m) (pid first end : ℕ) (range : first ≤ end) where
-  each_part : (P : Placed → Type 0) → AllByRecursion P m.areas → ((a b : Placed) → P a → IsPart pid first end a b → P b) → AllByRecursion P (areas_left m.areas pid first end)
+  each_part : (P : PlacedArea → Type 0) → AllByRecursion P m.areas → ((a b : PlacedArea) → P a → IsPart pid first end a b → P b) → AllByRecursion P (areas_left m.areas pid first end)
   each_part P all f = all_from_among P (areas_left m.areas pid first end) (λ b n.
       let from = among_flat (parts_outside pid first end) m.areas b n in
       f from.0 b (All-among P m.areas from.0 all from.1) (part_of pid first end from.0 (All-among IsSomePages m.areas from.0 h.whole from.1) b from.2))

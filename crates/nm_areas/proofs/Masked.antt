@@ -11,7 +11,7 @@ use Rattle.nm_types.specs.declared.page.Page.{Page}
 use Rattle.nm_types.specs.declared.area.Area.{Area}
 use Rattle.nm_types.specs.declared.area.Segment.{Segment}
 use Rattle.nm_types.specs.Map.{Map, get, set, same_page, spot_cmp}
-use Rattle.nm_types.specs.State.{Placed, covers, page_of}
+use Rattle.nm_types.specs.State.{PlacedArea, covers, page_of}
 use Rattle.nm_types.proofs.Cases.{true_false}
 use Rattle.nm_types.proofs.Maps.{equal, get-set}
 use Rattle.nm_counts.specs.declared.step.Step.{Step}
@@ -83,7 +83,7 @@ module _ (x : Area) (p : Page) (other : p.segment ≡ x.page.segment → ⊥) wh
   pub covers_away : covers_of p x ≡ 0
   covers_away = one_none (shows_page p x) (λ k. other (sym (between_parts x.page.segment x.page.index (x.page.index + x.pages) p k).0))
 
-pub split_away : (pid at : ℕ) (p : Page) (a : Placed) → (p.segment ≡ a.1.page.segment → ⊥) → split_of pid at p a ≡ 0
+pub split_away : (pid at : ℕ) (p : Page) (a : PlacedArea) → (p.segment ≡ a.1.page.segment → ⊥) → split_of pid at p a ≡ 0
 split_away pid at p a other =
     ap (λ b. if b then 2 else 0) (false_from_ne_true _ (λ k.
     let both = and_parts (covers a pid at) (nat_lt a.0.1 at && same_page (page_of a at) p) k in
@@ -175,7 +175,7 @@ module _ (segments : Map ℕ Segment) (next : ℕ) (new : Segment) where
       sym (ap shown_segment (get-set nat_cmp_total segments next new n ∙ ap (λ b. cond b (Some new) (get nat_cmp segments n)) other))
 
 -- what areas have together, counted in two parts
-pub masked_parts : (m : Map Page Step) (segments : Map ℕ Segment) (areas left own : Map (ℕ × ℕ) Area) → ((f : Placed → ℕ) → total f areas ≡ total f left + total f own) → IsCoverage m segments areas
+pub masked_parts : (m : Map Page Step) (segments : Map ℕ Segment) (areas left own : Map (ℕ × ℕ) Area) → ((f : PlacedArea → ℕ) → total f areas ≡ total f left + total f own) → IsCoverage m segments areas
     → IsSteps m (of_shared segments (λ p. ends_at left p + ends_at own p)) (of_shared segments (λ p. covers_at left p + covers_at own p))
 masked_parts m segments areas left own sum h =
     steps_same m _ _ _ _ h
@@ -183,7 +183,7 @@ masked_parts m segments areas left own sum h =
     (λ p. masked_same segments (covers_at areas) (λ q. covers_at left q + covers_at own q) p (λ k. sum (λ b. covers_of p b.1)))
 
 -- the first of the second part by itself
-pub masked_next : (m : Map Page Step) (segments : Map ℕ Segment) (left own rest : Map (ℕ × ℕ) Area) (s : ℕ × ℕ) (x : Area) → ((f : Placed → ℕ) → total f left + total f own ≡ (total f left + total f rest) + f (s, x))
+pub masked_next : (m : Map Page Step) (segments : Map ℕ Segment) (left own rest : Map (ℕ × ℕ) Area) (s : ℕ × ℕ) (x : Area) → ((f : PlacedArea → ℕ) → total f left + total f own ≡ (total f left + total f rest) + f (s, x))
     → IsSteps m (of_shared segments (λ p. ends_at left p + ends_at own p)) (of_shared segments (λ p. covers_at left p + covers_at own p))
     → IsSteps m (of_shared segments (λ p. (ends_at left p + ends_at rest p) + ends_of p x)) (of_shared segments (λ p. (covers_at left p + covers_at rest p) + covers_of p x))
 masked_next m segments left own rest s x sum h =
@@ -195,7 +195,7 @@ masked_next m segments left own rest s x sum h =
 pub masked_end : (m : Map Page Step) (segments : Map ℕ Segment) (left own : Map (ℕ × ℕ) Area) → own ≡ []
     → IsSteps m (of_shared segments (λ p. ends_at left p + ends_at own p)) (of_shared segments (λ p. covers_at left p + covers_at own p)) → IsCoverage m segments left
 masked_end m segments left own none h =
-    let alone = λ (f : Placed → ℕ). let zero = ap (total f) none in let sum : total f left + total f own ≡ total f left = omega (arith, zero) in sum in
+    let alone = λ (f : PlacedArea → ℕ). let zero = ap (total f) none in let sum : total f left + total f own ≡ total f left = omega (arith, zero) in sum in
     steps_same m _ _ _ _ h
     (λ p. masked_same segments (λ q. ends_at left q + ends_at own q) (ends_at left) p (λ k. alone (λ b. ends_of p b.1)))
     (λ p. masked_same segments (λ q. covers_at left q + covers_at own q) (covers_at left) p (λ k. alone (λ b. covers_of p b.1)))

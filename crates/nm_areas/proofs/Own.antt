@@ -12,7 +12,7 @@ use Rattle.std.proofs.lemmas.Map.Keys.{sorted_head, sorted_tail}
 use Rattle.nm_types.specs.declared.area.Area.{Area}
 use Rattle.nm_types.specs.declared.area.Segment.{Segment}
 use Rattle.nm_types.specs.Map.{Map, get, spot_cmp}
-use Rattle.nm_types.specs.State.{Placed}
+use Rattle.nm_types.specs.State.{PlacedArea}
 use Rattle.nm_types.proofs.Cases.{true_false, some_none}
 use Rattle.nm_model.specs.definitions.Areas.{IsSomePages, EndsLow}
 use Rattle.nm_areas.specs.Lines.{line_of, lines_of}
@@ -24,21 +24,21 @@ use Rattle.nm_model.proofs.areas.Halves.{less_to, among_keys}
 use Rattle.nm_model.proofs.areas.Overs.{get_among, get_not_none}
 use Rattle.nm_model.proofs.areas.Painted.{exact_spot}
 
-pub own_parts : (pid at end : ℕ) (a : Placed) → is_own pid at end a ≡ true → (a.0.0 ≡ pid) × (at ≤ a.0.1) × (a.0.1 < end)
+pub own_parts : (pid at end : ℕ) (a : PlacedArea) → is_own pid at end a ≡ true → (a.0.0 ≡ pid) × (at ≤ a.0.1) × (a.0.1 < end)
 own_parts pid at end a h =
     let both = and_parts (a.0.0 == pid) (nat_le at a.0.1 && nat_lt a.0.1 end) h in
     let ends = and_parts (nat_le at a.0.1) (nat_lt a.0.1 end) both.1 in
     (eqb-true a.0.0 pid both.0, leb-true at a.0.1 ends.0, ltb-true a.0.1 end ends.1)
 
-pub own_from : (pid at end : ℕ) (a : Placed) → a.0.0 ≡ pid → at ≤ a.0.1 → a.0.1 < end → is_own pid at end a ≡ true
+pub own_from : (pid at end : ℕ) (a : PlacedArea) → a.0.0 ≡ pid → at ≤ a.0.1 → a.0.1 < end → is_own pid at end a ≡ true
 own_from pid at end a own low high = and_from _ _ (eq-eqb a.0.0 pid own) (and_from _ _ (le-leb at a.0.1 low) (lt-ltb a.0.1 end high))
 
-pub filter_none : (test : Placed → Bool) (areas : List Placed) → ((a : Placed) → Among a areas → test a ≡ true → ⊥) → filter test areas ≡ []
+pub filter_none : (test : PlacedArea → Bool) (areas : List PlacedArea) → ((a : PlacedArea) → Among a areas → test a ≡ true → ⊥) → filter test areas ≡ []
 filter_none test [] h = refl
 filter_none test (x ∷ areas) h =
     ap (λ b. cond b (x ∷ filter test areas) (filter test areas)) (false_from_ne_true (test x) (h x (inl refl))) ∙ filter_none test areas (λ a m. h a (inr m))
 
-pub filter_same : (test other : Placed → Bool) (areas : List Placed) → ((a : Placed) → Among a areas → test a ≡ other a) → filter test areas ≡ filter other areas
+pub filter_same : (test other : PlacedArea → Bool) (areas : List PlacedArea) → ((a : PlacedArea) → Among a areas → test a ≡ other a) → filter test areas ≡ filter other areas
 filter_same test other [] h = refl
 filter_same test other (x ∷ areas) h =
     ap (λ b. cond b (x ∷ filter test areas) (filter test areas)) (h x (inl refl))
@@ -60,7 +60,7 @@ own_none areas pid at end none =
     let parts = own_parts pid at end a h in
     get_not_none areas a m (ap (λ (p : ℕ). get spot_cmp areas (p, a.0.1)) parts.0 ∙ none a.0.1 parts.1 parts.2))
 
-none_later : (e : Placed) (areas : Map (ℕ × ℕ) Area) (q : ℕ × ℕ) → get spot_cmp (e ∷ areas) q ≡ None → get spot_cmp areas q ≡ None
+none_later : (e : PlacedArea) (areas : Map (ℕ × ℕ) Area) (q : ℕ × ℕ) → get spot_cmp (e ∷ areas) q ≡ None → get spot_cmp areas q ≡ None
 none_later e areas q h =
     elim (is_eq (spot_cmp q e.0)) as (λ b. cond b (Some e.1) (get spot_cmp areas q) ≡ None → get spot_cmp areas q ≡ None) [
       | true ↦ λ k. absurd (some_none k)
@@ -68,7 +68,7 @@ none_later e areas q h =
     ] h
 
 module _ (pid s end : ℕ) (x : Area) (high : s < end) where
-  abbrev it : Placed
+  abbrev it : PlacedArea
   it = ((pid, s), x)
 
   -- after it both tests say the same
@@ -94,7 +94,7 @@ module _ (pid s end : ℕ) (x : Area) (high : s < end) where
       let parts = own_parts pid (s + 1) end it h in absurd (omega (arith, parts.1))))))
 
   -- one that begins after it is not before it
-  not_later : (e : Placed) (areas : Map (ℕ × ℕ) Area) → IsStrictlySortedBy spot_cmp (keys_of (e ∷ areas)) → get spot_cmp areas (pid, s) ≡ Some x → e.0.0 ≡ pid → s < e.0.1 → ⊥
+  not_later : (e : PlacedArea) (areas : Map (ℕ × ℕ) Area) → IsStrictlySortedBy spot_cmp (keys_of (e ∷ areas)) → get spot_cmp areas (pid, s) ≡ Some x → e.0.0 ≡ pid → s < e.0.1 → ⊥
   not_later e areas sorted found own past =
       let less = less_to e.0 (pid, s) (among_keys (λ k. spot_cmp e.0 k ≡ Less) areas it (sorted_head spot_cmp e.0 (keys_of areas) sorted) (get_among areas (pid, s) x found)) in
       elim less as (λ _. ⊥) [
@@ -112,7 +112,7 @@ module _ (pid s end : ℕ) (x : Area) (high : s < end) where
             let spot : (pid, s) ≡ e.0 = exact_spot (pid, s) e.0 (equal _ b) in
             let value : e.1 ≡ x = cc in
             let here : it ≡ e = ap (λ (z : ℕ × ℕ). (z, x)) spot ∙ ap (λ (z : Area). (e.0, z)) (sym value) in
-            subst (λ (y : Placed). filter (is_own pid at end) (y ∷ areas) ≡ it ∷ filter (is_own pid (s + 1) end) (y ∷ areas)) here
+            subst (λ (y : PlacedArea). filter (is_own pid at end) (y ∷ areas) ≡ it ∷ filter (is_own pid (s + 1) end) (y ∷ areas)) here
             (first_own at areas low (subst (λ (q : ℕ × ℕ). AllByRecursion (λ k. spot_cmp q k ≡ Less) (keys_of areas)) (sym spot) (sorted_head spot_cmp e.0 (keys_of areas) sorted)))
         | false ↦ λ b k.
             let more = own_next areas at (sorted_tail spot_cmp e.0 (keys_of areas) sorted) low k (λ v from to. none_later e areas (pid, v) (none v from to)) in

@@ -11,7 +11,7 @@ use Rattle.nm_types.specs.declared.page.Page.{Page}
 use Rattle.nm_types.specs.declared.area.Area.{Area}
 use Rattle.nm_types.specs.declared.area.Segment.{Segment}
 use Rattle.nm_types.specs.Map.{Map, get, set, spot_cmp}
-use Rattle.nm_types.specs.State.{Placed, covers, area_over, page_of, page_shown, page_at}
+use Rattle.nm_types.specs.State.{PlacedArea, covers, area_over, page_of, page_shown, page_at}
 use Rattle.nm_types.proofs.Cases.{true_false, none_some, some_is}
 use Rattle.nm_model.specs.definitions.Areas.{is_shared}
 use Rattle.nm_model.specs.definitions.Areas.{AreasAreApart, IsSomePages, shows_segment, PrivateIsOnce}
@@ -24,9 +24,9 @@ use Rattle.nm_model.proofs.areas.Shown.{left_shows}
 
 -- ---- the area behind a page that is shown
 
-shown_by : (areas : Map (ℕ × ℕ) Area) (q v : ℕ) (p : Page) → page_at areas q v ≡ Some p → (a : Placed) × Among a areas × (covers a q v ≡ true) × (page_of a v ≡ p)
+shown_by : (areas : Map (ℕ × ℕ) Area) (q v : ℕ) (p : Page) → page_at areas q v ≡ Some p → (a : PlacedArea) × Among a areas × (covers a q v ≡ true) × (page_of a v ≡ p)
 shown_by areas q v p h =
-    elim (area_over areas q v) as (λ o. area_over areas q v ≡ o → page_shown o v ≡ Some p → (a : Placed) × Among a areas × (covers a q v ≡ true) × (page_of a v ≡ p)) [
+    elim (area_over areas q v) as (λ o. area_over areas q v ≡ o → page_shown o v ≡ Some p → (a : PlacedArea) × Among a areas × (covers a q v ≡ true) × (page_of a v ≡ p)) [
       | None ↦ λ o k. absurd (none_some k)
       | Some a ↦ λ o k. let found = among_over areas q v a o in (a, found.0, found.1, some_is k)
     ] refl h

@@ -11,7 +11,7 @@ use Rattle.std.proofs.lemmas.Map.Keys.{sorted_head, sorted_tail}
 use Rattle.nm_types.specs.declared.page.Page.{Page}
 use Rattle.nm_types.specs.declared.area.Area.{Area}
 use Rattle.nm_types.specs.Map.{Map, get, spot_cmp}
-use Rattle.nm_types.specs.State.{Placed, covers}
+use Rattle.nm_types.specs.State.{PlacedArea, covers}
 use Rattle.nm_types.proofs.Cases.{true_false}
 use Rattle.nm_model.specs.views.Table.{Table, with_areas}
 use Rattle.nm_model.specs.definitions.Areas.{mapping_of, AreasAreApart, IsSomePages, IsWellFormed}
@@ -30,11 +30,11 @@ so_many segment index zero = refl
 so_many segment index (suc n) = ap suc (so_many segment (index + 1) n)
 
 module _ (pid first end : ℕ) (range : first ≤ end) where
-  abbrev BeginsFrom : ℕ → Placed → Type 0
+  abbrev BeginsFrom : ℕ → PlacedArea → Type 0
   BeginsFrom low a = a.0.0 ≡ pid → low ≤ a.0.1
 
   -- a later area of the process begins after one of its areas
-  begins_behind : (a b : Placed) → a.0.0 ≡ pid → spot_cmp a.0 b.0 ≡ Less → 0 < b.1.pages → ((q v : ℕ) → covers a q v ≡ true → covers b q v ≡ false) → BeginsFrom (behind_last a) b
+  begins_behind : (a b : PlacedArea) → a.0.0 ≡ pid → spot_cmp a.0 b.0 ≡ Less → 0 < b.1.pages → ((q v : ℕ) → covers a q v ≡ true → covers b q v ≡ false) → BeginsFrom (behind_last a) b
   begins_behind a b own less some apart same =
       elim (less_to a.0 b.0 less) as (λ _. behind_last a ≤ b.0.1) [
         | inl k ↦ absurd (omega (arith, k, own, same))
@@ -46,7 +46,7 @@ module _ (pid first end : ℕ) (range : first ≤ end) where
         ] refl
       ]
 
-  few_between : (a : Placed) → length (pages_between first end a) ≡ min end (behind_last a) - max first a.0.1
+  few_between : (a : PlacedArea) → length (pages_between first end a) ≡ min end (behind_last a) - max first a.0.1
   few_between a = so_many a.1.page.segment (a.1.page.index + (max first a.0.1 - a.0.1)) (min end (behind_last a) - max first a.0.1)
 
   few_gone : (low : ℕ) (areas : Map (ℕ × ℕ) Area) → AllByRecursion (BeginsFrom low) areas → AllByRecursion IsSomePages areas → AreasAreApart areas → IsStrictlySortedBy spot_cmp (keys_of areas)

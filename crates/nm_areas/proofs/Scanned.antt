@@ -14,7 +14,7 @@ use Rattle.std.proofs.lemmas.Bool.{eqb-true, and_parts, and_from, or_left, or_ri
 use Rattle.std.proofs.lemmas.Map.Keys.{sorted_head, sorted_tail, le_from_not_gt}
 use Rattle.nm_types.specs.declared.area.Area.{Area}
 use Rattle.nm_types.specs.Map.{Map, get, spot_cmp}
-use Rattle.nm_types.specs.State.{Placed}
+use Rattle.nm_types.specs.State.{PlacedArea}
 use Rattle.nm_types.proofs.Cases.{true_false}
 use Rattle.nm_areas.specs.Index.{Key, key_cmp, is_of, IsIndex}
 use Rattle.nm_model.specs.definitions.Areas.{shows_segment}
@@ -25,16 +25,16 @@ use Rattle.nm_model.proofs.areas.Overs.{get_among}
 use Rattle.nm_areas.proofs.Indexed.{has, same_key, key_itself}
 
 -- whether there is an area, and it passes a test at its place
-abbrev is_passed : (Placed → Bool) → ℕ × ℕ → Option Area → Bool
+abbrev is_passed : (PlacedArea → Bool) → ℕ × ℕ → Option Area → Bool
 is_passed test spot None = false
 is_passed test spot (Some area) = test (spot, area)
 
 -- whether an area at that place passes a test
-abbrev passes : (Placed → Bool) → Map (ℕ × ℕ) Area → ℕ × ℕ → Bool
+abbrev passes : (PlacedArea → Bool) → Map (ℕ × ℕ) Area → ℕ × ℕ → Bool
 passes test areas spot = is_passed test spot (get spot_cmp areas spot)
 
 -- whether an area of the first keys passes a test, as long as they are of one segment
-abbrev pub scan : ℕ → (Placed → Bool) → Map (ℕ × ℕ) Area → List Key → Bool
+abbrev pub scan : ℕ → (PlacedArea → Bool) → Map (ℕ × ℕ) Area → List Key → Bool
 scan number test areas [] = false
 scan number test areas (k ∷ keys) = (k.0 == number) && (passes test areas (k.1, k.2) || scan number test areas keys)
 
@@ -44,9 +44,9 @@ both_ways false true h k = k refl
 both_ways false false h k = refl
 
 -- in order each area is found at its place
-get_here : (areas : Map (ℕ × ℕ) Area) (a : Placed) → IsStrictlySortedBy spot_cmp (keys_of areas) → Among a areas → get spot_cmp areas a.0 ≡ Some a.1
+get_here : (areas : Map (ℕ × ℕ) Area) (a : PlacedArea) → IsStrictlySortedBy spot_cmp (keys_of areas) → Among a areas → get spot_cmp areas a.0 ≡ Some a.1
 get_here [] a s m = absurd m
-get_here (x ∷ areas) a s (inl e) = subst (λ (z : Placed). get spot_cmp (x ∷ areas) z.0 ≡ Some z.1) (sym e) (found_first spot_cmp_total exact_spot x areas)
+get_here (x ∷ areas) a s (inl e) = subst (λ (z : PlacedArea). get spot_cmp (x ∷ areas) z.0 ≡ Some z.1) (sym e) (found_first spot_cmp_total exact_spot x areas)
 get_here (x ∷ areas) a s (inr m) = found_later spot_cmp_total exact_spot x areas s a.0 a.1 (get_here areas a (sorted_tail spot_cmp x.0 (keys_of areas) s) m)
 
 -- ---- keys that pass, and areas that do
@@ -68,14 +68,14 @@ any_key (x ∷ keys) test h =
     ] refl h
 
 -- whether a key is of a segment and its area passes a test
-abbrev pub hits : ℕ → (Placed → Bool) → Map (ℕ × ℕ) Area → Key → Bool
+abbrev pub hits : ℕ → (PlacedArea → Bool) → Map (ℕ × ℕ) Area → Key → Bool
 hits number test areas k = (k.0 == number) && passes test areas (k.1, k.2)
 
-passed : (test : Placed → Bool) (spot : ℕ × ℕ) (o : Option Area) → is_passed test spot o ≡ true → (x : Area) × (o ≡ Some x) × (test (spot, x) ≡ true)
+passed : (test : PlacedArea → Bool) (spot : ℕ × ℕ) (o : Option Area) → is_passed test spot o ≡ true → (x : Area) × (o ≡ Some x) × (test (spot, x) ≡ true)
 passed test spot None h = absurd (true_false (sym h))
 passed test spot (Some x) h = (x, refl, h)
 
-module _ (keys : List Key) (areas : Map (ℕ × ℕ) Area) (index : IsIndex keys areas) (sorted : IsStrictlySortedBy spot_cmp (keys_of areas)) (number : ℕ) (test : Placed → Bool) (own : (a : Placed) → test a ≡ true → a.1.page.segment ≡ number) where
+module _ (keys : List Key) (areas : Map (ℕ × ℕ) Area) (index : IsIndex keys areas) (sorted : IsStrictlySortedBy spot_cmp (keys_of areas)) (number : ℕ) (test : PlacedArea → Bool) (own : (a : PlacedArea) → test a ≡ true → a.1.page.segment ≡ number) where
   pub hits_tell : list_any (hits number test areas) keys ≡ list_any test areas
   hits_tell = both_ways _ _ (λ h.
       let found = any_key keys (hits number test areas) h in
@@ -121,7 +121,7 @@ later : (k : Key) (rest : List Key) → AllByRecursion (λ y. key_cmp k y ≡ Le
 later k [] h = tt
 later k (y ∷ rest) h = (le_from_not_gt k.0 y.0 (first_decides (nat_cmp k.0 y.0) (nat_cmp k.1 y.1) (nat_cmp k.2 y.2) h.0), later k rest h.1)
 
-module _ (number : ℕ) (test : Placed → Bool) (areas : Map (ℕ × ℕ) Area) where
+module _ (number : ℕ) (test : PlacedArea → Bool) (areas : Map (ℕ × ℕ) Area) where
   no_hits : (n : ℕ) (rest : List Key) → number < n → AllByRecursion (λ y. n ≤ y.0) rest → list_any (hits number test areas) rest ≡ false
   no_hits n [] low h = refl
   no_hits n (y ∷ rest) low h =
@@ -144,7 +144,7 @@ module _ (number : ℕ) (test : Placed → Bool) (areas : Map (ℕ × ℕ) Area)
       ] refl
 
   -- by what a range gives
-  pub scan_tells : (pid v : ℕ) (keys found : List Key) → IsIndex keys areas → IsStrictlySortedBy spot_cmp (keys_of areas) → ((a : Placed) → test a ≡ true → a.1.page.segment ≡ number) → IsStrictlySortedBy key_cmp keys → pid ≡ 0 → v ≡ 0
+  pub scan_tells : (pid v : ℕ) (keys found : List Key) → IsIndex keys areas → IsStrictlySortedBy spot_cmp (keys_of areas) → ((a : PlacedArea) → test a ≡ true → a.1.page.segment ≡ number) → IsStrictlySortedBy key_cmp keys → pid ≡ 0 → v ≡ 0
       → found ≡ filter (range_contains key_cmp (Included (number, pid, v)) Unbounded) keys → scan number test areas found ≡ list_any test areas
   scan_tells pid v keys found index ordered own sorted is_pid is_v is =
       ap (scan number test areas) (is ∙ ap (λ (p : ℕ). filter (range_contains key_cmp (Included (number, p, v)) Unbounded) keys) is_pid ∙ ap (λ (w : ℕ). filter (range_contains key_cmp (Included (number, 0, w)) Unbounded) keys) is_v)

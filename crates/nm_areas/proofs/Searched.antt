@@ -3,7 +3,7 @@ use Rattle.std.proofs.Common.{◌≡◌, ℕ, ◌+◌, ◌≤◌, ◌<◌, refl,
 use Rattle.std.specs.Prelude.{Option, Some, None, IfSome}
 use Rattle.nm_types.specs.declared.area.Area.{Area}
 use Rattle.nm_types.specs.Map.{Map, get, spot_cmp}
-use Rattle.nm_types.specs.State.{Placed, area_over}
+use Rattle.nm_types.specs.State.{PlacedArea, area_over}
 use Rattle.nm_model.specs.definitions.Areas.{AreasAreApart}
 use Rattle.nm_model.proofs.areas.Apart.{covers_from}
 use Rattle.nm_model.proofs.areas.Parted.{Among, among_over, over_among}
@@ -19,7 +19,7 @@ module _ (areas : Map (ℕ × ℕ) Area) (apart : AreasAreApart areas) (pid : �
   pub over_all : (at start : ℕ) (x : Area) → Some ((pid, start), x) ≡ area_over areas pid at → (v : ℕ) → start ≤ v → v < start + x.pages → area_over areas pid v ≡ Some ((pid, start), x)
   over_all at start x h = over_its start x (among_over areas pid at ((pid, start), x) (sym h)).0
 
-  pub found_over : (at : ℕ) (o : Option (ℕ × Area)) → option_map {U = Placed} (λ found. ((pid, found.0), found.1)) o ≡ area_over areas pid at
+  pub found_over : (at : ℕ) (o : Option (ℕ × Area)) → option_map {U = PlacedArea} (λ found. ((pid, found.0), found.1)) o ≡ area_over areas pid at
       → IfSome o (λ a. (v : ℕ) → a.0 ≤ v → v < a.0 + a.1.pages → area_over areas pid v ≡ Some ((pid, a.0), a.1))
   found_over at None h = tt
   found_over at (Some a) h = over_all at a.0 a.1 h

@@ -6,7 +6,7 @@ use Rattle.std.proofs.lemmas.Bool.{ltb-true, ltb-false}
 use Rattle.nm_types.specs.declared.page.Page.{Page}
 use Rattle.nm_types.specs.declared.area.Area.{Area}
 use Rattle.nm_types.specs.Map.{Map, get, page_cmp, spot_cmp}
-use Rattle.nm_types.specs.State.{Placed, area_over, page_of, page_shown, page_at}
+use Rattle.nm_types.specs.State.{PlacedArea, area_over, page_of, page_shown, page_at}
 use Rattle.nm_types.proofs.Cases.{none_some, some_is}
 use Rattle.nm_model.specs.definitions.Areas.{AreasAreApart, IsSomePages}
 use Rattle.nm_model.specs.definitions.Areas.{page_in}
@@ -49,10 +49,10 @@ module _ (place : Map Page ℕ) (counts : List ℕ) (segment at from past : ℕ)
 module _ (areas : Map (ℕ × ℕ) Area) (place : Map Page ℕ) (counts : List ℕ) (pid first end : ℕ) where
   -- the same of the page numbers of the areas that begin before a page number
   abbrev pub NoneShown : ℕ → Type 0
-  NoneShown from = (a : Placed) → Among a areas → a.0.0 ≡ pid → a.0.1 < from → (v : ℕ) → first ≤ v → v < end → a.0.1 ≤ v → v < behind_last a → Uncounted place counts (page_of a v)
+  NoneShown from = (a : PlacedArea) → Among a areas → a.0.0 ≡ pid → a.0.1 < from → (v : ℕ) → first ≤ v → v < end → a.0.1 ≤ v → v < behind_last a → Uncounted place counts (page_of a v)
 
   module _ (apart : AreasAreApart areas) where
-    own_place : (a : Placed) → a.0.0 ≡ pid → a ≡ ((pid, a.0.1), a.1)
+    own_place : (a : PlacedArea) → a.0.0 ≡ pid → a ≡ ((pid, a.0.1), a.1)
     own_place a own = ap (λ (q : ℕ). ((q, a.0.1), a.1)) own
 
     -- at the first
@@ -78,8 +78,8 @@ module _ (areas : Map (ℕ × ℕ) Area) (place : Map Page ℕ) (counts : List �
                   let mine : area_over areas pid start ≡ Some a = over_among areas pid start a apart m (covers_from a pid start own (omega (arith, same)) (omega (arith, same, s, t))) in
                   let its : area_over areas pid start ≡ Some ((pid, start), x) = begun_all areas apart pid start x there start (omega arith) (omega (arith, some)) in
                   let one : a ≡ ((pid, start), x) = some_is (sym mine ∙ its) in
-                  let long : a.1.pages ≡ x.pages = ap (λ (a : Placed). a.1.pages) one in
-                  none v frame l h (omega (arith, same, s)) (omega (arith, same, long, t)) (ap (λ (a : Placed). get page_cmp place (page_of a v)) (sym one) ∙ has)
+                  let long : a.1.pages ≡ x.pages = ap (λ (a : PlacedArea). a.1.pages) one in
+                  none v frame l h (omega (arith, same, s)) (omega (arith, same, long, t)) (ap (λ (a : PlacedArea). get page_cmp place (page_of a v)) (sym one) ∙ has)
             ] refl
           ] refl
 

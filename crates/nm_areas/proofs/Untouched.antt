@@ -7,7 +7,7 @@ use Rattle.nm_types.specs.declared.page.Page.{Page}
 use Rattle.nm_types.specs.declared.area.Area.{Area}
 use Rattle.nm_types.specs.declared.area.Segment.{Segment}
 use Rattle.nm_types.specs.Map.{Map}
-use Rattle.nm_types.specs.State.{Placed, page_at}
+use Rattle.nm_types.specs.State.{PlacedArea, page_at}
 use Rattle.nm_types.proofs.Cases.{true_false}
 use Rattle.nm_model.specs.views.Table.{Table}
 use Rattle.nm_model.specs.definitions.AreaRefusal.{overlaps}
@@ -30,7 +30,7 @@ module _ (pid first end : ℕ) (range : first < end) where
   NoneOverlaps areas = AllByRecursion (λ a. overlaps pid first end a ≡ false) areas
 
   -- an area of the process that does not overlap the range is behind it or in front of it
-  side : (a : Placed) → (a.0.0 == pid) ≡ true → overlaps pid first end a ≡ false → (end ≤ a.0.1) ⊎ (behind_last a ≤ first)
+  side : (a : PlacedArea) → (a.0.0 == pid) ≡ true → overlaps pid first end a ≡ false → (end ≤ a.0.1) ⊎ (behind_last a ≤ first)
   side a own none =
       elim (nat_lt a.0.1 end) as (λ b. nat_lt a.0.1 end ≡ b → (end ≤ a.0.1) ⊎ (behind_last a ≤ first)) [
         | false ↦ λ b. inl (ltb-false a.0.1 end b)
@@ -40,7 +40,7 @@ module _ (pid first end : ℕ) (range : first < end) where
         ] refl
       ] refl
 
-  stays : (a : Placed) → 0 < a.1.pages → overlaps pid first end a ≡ false → parts_outside pid first end a ≡ a ∷ []
+  stays : (a : PlacedArea) → 0 < a.1.pages → overlaps pid first end a ≡ false → parts_outside pid first end a ≡ a ∷ []
   stays a some none =
       elim (a.0.0 == pid) as (λ b. (a.0.0 == pid) ≡ b → cond b (before first a ++ behind end a) (a ∷ []) ≡ a ∷ []) [
         | false ↦ λ b. refl
@@ -54,7 +54,7 @@ module _ (pid first end : ℕ) (range : first < end) where
         ]
       ] refl
 
-  shows_none : (a : Placed) → (end ≤ a.0.1) ⊎ (behind_last a ≤ first) → pages_between first end a ≡ []
+  shows_none : (a : PlacedArea) → (end ≤ a.0.1) ⊎ (behind_last a ≤ first) → pages_between first end a ≡ []
   shows_none a where_it_is =
       let count : min end (a.0.1 + a.1.pages) - max first a.0.1 ≡ 0 =
       elim where_it_is as (λ _. min end (a.0.1 + a.1.pages) - max first a.0.1 ≡ 0) [ inl low ↦ omega (arith, low) | inr high ↦ omega (arith, high) ] in

@@ -4,14 +4,14 @@ use Rattle.nm_types.specs.declared.page.Page.{Page}
 use Rattle.nm_types.specs.declared.area.Area.{Area}
 use Rattle.nm_types.specs.declared.area.Segment.{Segment}
 use Rattle.nm_types.specs.Map.{Map, get, page_cmp, same_page}
-use Rattle.nm_types.specs.State.{Placed, covers, page_of}
+use Rattle.nm_types.specs.State.{PlacedArea, covers, page_of}
 use Rattle.nm_counts.specs.declared.step.Step.{Step}
 use Rattle.nm_model.specs.definitions.Areas.{is_shared}
 use Rattle.nm_model.specs.definitions.Areas.{shows_page}
 use Rattle.nm_model.specs.definitions.Areas.{page_in}
 
 -- the sum of a number of each area
-abbrev pub total : (Placed → ℕ) → List Placed → ℕ
+abbrev pub total : (PlacedArea → ℕ) → List PlacedArea → ℕ
 total number [] = 0
 total number (a ∷ areas) = number a + total number areas
 
@@ -64,7 +64,7 @@ IsFlat ends covers =
     × ((s i : ℕ) → ends (page_in s (suc i)) ≡ 0 → covers (page_in s (suc i)) ≡ covers (page_in s i))
 
 -- how many more ends an area has at a page if it is split at a page number: one for each part
-abbrev pub split_of : ℕ → ℕ → Page → Placed → ℕ
+abbrev pub split_of : ℕ → ℕ → Page → PlacedArea → ℕ
 split_of pid at p a = if covers a pid at && (nat_lt a.0.1 at && same_page (page_of a at) p) then 2 else 0
 
 -- the same over all areas, of which at most one covers the page number

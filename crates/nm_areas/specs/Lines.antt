@@ -4,12 +4,12 @@ use Rattle.std.specs.List.{filter}
 use Rattle.nm_types.specs.declared.area.Area as stored
 use Rattle.nm_types.specs.declared.area.Segment.{Segment}
 use Rattle.nm_types.specs.Map.{Map}
-use Rattle.nm_types.specs.State.{Placed}
+use Rattle.nm_types.specs.State.{PlacedArea}
 use Rattle.nm_areas.specs.declared.lines.Area.{Area}
 use Rattle.nm_model.specs.definitions.Areas.{is_shared}
 
 -- an area, and whether its segment is shared
-abbrev pub line_of : Map ℕ Segment → Placed → Area
+abbrev pub line_of : Map ℕ Segment → PlacedArea → Area
 line_of segments a =
     let shared = is_shared segments a.1.page.segment in
     record { first = a.0.1; pages = a.1.pages; policy = a.1.policy; page = a.1.page; shared = shared }

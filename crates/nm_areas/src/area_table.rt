@@ -6,7 +6,7 @@ ghost use Rattle.std.specs.List.{AllByRecursion, list_any};
 ghost use Rattle.std.specs.List.Sorted.{IsStrictlySortedBy};
 ghost use Rattle.std.specs.Map.{keys_of};
 ghost use Rattle.nm_types.specs.Map.{get, set, replace, without, spot_cmp};
-ghost use Rattle.nm_types.specs.State.{Placed, area_over};
+ghost use Rattle.nm_types.specs.State.{PlacedArea, area_over};
 ghost use Rattle.nm_types.specs.declared.area.Area.{Area};
 ghost use Rattle.nm_model.specs.definitions.Areas.{new_area};
 ghost use Rattle.nm_model.specs.definitions.Areas.{is_shared};
@@ -105,7 +105,7 @@ impl<A: Allocator + Copy> AreaTable<A> {
     pub(crate) fn over(&self, pid: Pid, vpn: Vpn) -> Option<(Vpn, Area)>
         requires apart { AreasAreApart self.now.areas }
         requires whole { AllByRecursion IsSomePages self.now.areas }
-        ensures { option_map {U = Placed} (λ found. ((pid, found.0), found.1)) result
+        ensures { option_map {U = PlacedArea} (λ found. ((pid, found.0), found.1)) result
             ≡ area_over self.now.areas pid vpn }
     {
         let ((owner, first), area) = self.areas.range(..=(pid, vpn)).next_back()?;

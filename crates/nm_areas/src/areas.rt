@@ -1,7 +1,7 @@
 //! The areas of all processes.
 
 ghost use Rattle.std.specs.Prelude.{ℕ, OnOk, Some, ◌≡◌, ◌≤◌, ◌<◌, ◌+◌, ◌/◌, true, IfOk, IfSome, option_map};
-ghost use Rattle.nm_types.specs.State.{Placed, area_over};
+ghost use Rattle.nm_types.specs.State.{PlacedArea, area_over};
 ghost use Rattle.nm_types.specs.Does.{Makes};
 ghost use Rattle.nm_model.specs.definitions.Areas.{no_areas, new_area, with_segment, with_area, over_with};
 ghost use Rattle.nm_model.specs.definitions.Areas.{is_shared};
@@ -69,7 +69,7 @@ impl<A: Allocator + Copy> Areas<A> {
     /// shared, which this does not look up. The result holds for all of the area's page numbers, so callers may keep it
     /// for those.
     pub fn over(&self, pid: Pid, vpn: Vpn) -> Option<(Vpn, nm_types::Area)>
-        ensures found { option_map {U = Placed} (λ found. ((pid, found.0), found.1)) result
+        ensures found { option_map {U = PlacedArea} (λ found. ((pid, found.0), found.1)) result
             ≡ area_over self.now.areas pid vpn }
         ensures over { IfSome result
             (λ a. (v : ℕ) →

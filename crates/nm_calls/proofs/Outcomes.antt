@@ -9,7 +9,7 @@ use Rattle.nm_types.specs.declared.errno.Errno.TheVariants.{Esrch}
 use Rattle.nm_types.specs.declared.machine_error.MachineError.{MachineError}
 use Rattle.nm_types.specs.declared.machine_error.MachineError.TheVariants as machine
 use Rattle.nm_types.specs.declared.process.ProcessInfo.{ProcessInfo}
-use Rattle.nm_types.specs.Does.{Tells, AsksLast}
+use Rattle.nm_types.specs.Does.{Returns, AsksLast}
 use Rattle.nm_types.specs.Layout.{node_count}
 use Rattle.nm_runs.specs.Targets.{earlier, first_refusal}
 use Rattle.nm_types.specs.State.{State, Process}
@@ -102,7 +102,7 @@ module _ {T : Type 0} (view : T → Answer) (y : SystemState) (call : Call) (r :
   out_at_once none is = subst (λ r. Does view r y y call) (sym (err_is r (out_of_memory 0) is)) (none, inl (refl, refl, refl))
 
 -- a call that only tells something, and is refused or without memory
-pub tells_error : {S T : Type 0} (view : T → Answer) (y : SystemState) (call : Call) (r : Result T CallError) (e : MachineError) (Holds : S → Type 0) → refused_at_once y.state call ≡ refusal_of y.state call → Tells (Err e) (refusal_of y.state call) Holds → AsksLast {T = S} (Err e) (refusal_of y.state call)
+pub tells_error : {S T : Type 0} (view : T → Answer) (y : SystemState) (call : Call) (r : Result T CallError) (e : MachineError) (Holds : S → Type 0) → refused_at_once y.state call ≡ refusal_of y.state call → Returns (Err e) (refusal_of y.state call) Holds → AsksLast {T = S} (Err e) (refusal_of y.state call)
     → IsErr r × IsErrAnd r (λ x. x ≡ of_machine e) → Does view r y y call
 tells_error view y call r (machine.Refused e) Holds same told last is = refuses_by view y call r e told is
 tells_error view y call r machine.HostMemory Holds same told last is = out_at_once view y call r (same ∙ last) is

@@ -1,7 +1,7 @@
 //! Where an access finds its bytes.
 
 ghost use Rattle.std.specs.Prelude.{◌≡◌, ◌+◌, ◌/◌, ◌%◌, ◌≤◌, Ok, Err, IfOk, IfErr};
-ghost use Rattle.nm_types.specs.State.{Process, Placed};
+ghost use Rattle.nm_types.specs.State.{Process, PlacedArea};
 ghost use Rattle.nm_engine.specs.views.Parts.{IsSiteOf, SiteIs, access_site};
 
 use nm_spaces::AddressSpaces;
@@ -30,7 +30,7 @@ impl ResolvedAddress {
     ) -> Result<Self, Errno>
         // On success
         ensures ok { IfOk result
-            (λ t. (p : Process) × (a : Placed) × IsSiteOf spaces.now.processes spaces.now.areas t p a
+            (λ t. (p : Process) × (a : PlacedArea) × IsSiteOf spaces.now.processes spaces.now.areas t p a
             × SiteIs spaces.now pid addr len (Ok (access_site t p a))) }
         ensures pid { IfOk result (λ t. t.pid ≡ pid) }
         ensures page { IfOk result (λ t. t.vpn ≡ addr / 4096) }

@@ -25,7 +25,7 @@ Alters (Err e) old new refusal after = (refusal ≡ Some e) × (new ≡ old)
 
 -- a call that only returns a value: the value is as stated, or the call is refused with this error, or the host is out
 -- of memory
-abbrev pub Tells : {T : Type 0} → Result T MachineError → Option Errno → (T → Type 0) → Type 0
-Tells (Ok value) refusal Holds = (refusal ≡ None) × Holds value
-Tells (Err (error.Refused e)) refusal Holds = refusal ≡ Some e
-Tells (Err error.HostMemory) refusal Holds = Unit {0}
+abbrev pub Returns : {T : Type 0} → Result T MachineError → Option Errno → (T → Type 0) → Type 0
+Returns (Ok value) refusal Holds = (refusal ≡ None) × Holds value
+Returns (Err (error.Refused e)) refusal Holds = refusal ≡ Some e
+Returns (Err error.HostMemory) refusal Holds = Unit {0}

@@ -36,23 +36,23 @@ pub record State : Type 0 where
   pub failed : ℕ
 
 -- an area, with its pid and first page number
-abbrev pub Placed : Type 0
-Placed = (ℕ × ℕ) × Area
+abbrev pub PlacedArea : Type 0
+PlacedArea = (ℕ × ℕ) × Area
 
 -- whether an area of the process covers a page number
-abbrev pub covers : Placed → ℕ → ℕ → Bool
+abbrev pub covers : PlacedArea → ℕ → ℕ → Bool
 covers a pid v = (a.0.0 == pid) && (nat_le a.0.1 v && nat_lt v (a.0.1 + a.1.pages))
 
 -- the process's area over a page number, if any
-abbrev pub area_over : Map (ℕ × ℕ) Area → ℕ → ℕ → Option Placed
+abbrev pub area_over : Map (ℕ × ℕ) Area → ℕ → ℕ → Option PlacedArea
 area_over [] pid v = None
 area_over (a ∷ areas) pid v = if covers a pid v then Some a else area_over areas pid v
 
 -- the page that an area shows at a page number that it covers
-abbrev pub page_of : Placed → ℕ → Page
+abbrev pub page_of : PlacedArea → ℕ → Page
 page_of a v = record { segment = a.1.page.segment; index = a.1.page.index + (v - a.0.1) }
 
-abbrev pub page_shown : Option Placed → ℕ → Option Page
+abbrev pub page_shown : Option PlacedArea → ℕ → Option Page
 page_shown None v = None
 page_shown (Some a) v = Some (page_of a v)
 

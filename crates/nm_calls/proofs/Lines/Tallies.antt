@@ -23,7 +23,7 @@ use Rattle.nm_areas.specs.Lines.{line_of, lines_of}
 use Rattle.nm_model.specs.definitions.Sound.{IsSound, IsWhole}
 use Rattle.nm_types.specs.Layout.{node_count}
 use Rattle.nm_types.specs.Nodes.{up_from}
-use Rattle.nm_types.specs.State.{State, Placed}
+use Rattle.nm_types.specs.State.{State, PlacedArea}
 use Rattle.nm_types.specs.declared.located.Located.{Located}
 use Rattle.nm_calls.specs.declared.maps.Tally.{Tally}
 use Rattle.nm_calls.specs.definitions.Maps.{told_from, node_text, most_users, numa_maps, area_text, pages_text}
@@ -135,7 +135,7 @@ lines_end s pid lines sound e = subst (All (λ (l : Listed). l.first + l.pages <
 
 -- ---- the areas of a process
 
-text_is : (s : State) (segments : Map ℕ Segment) (pid : ℕ) (a : Placed) → (a.0.0 == pid) ≡ true → line_text s pid (line_of segments a) ≡ area_text s a
+text_is : (s : State) (segments : Map ℕ Segment) (pid : ℕ) (a : PlacedArea) → (a.0.0 == pid) ≡ true → line_text s pid (line_of segments a) ≡ area_text s a
 text_is s segments pid a own = ap (λ (q : ℕ). area_text s ((q, a.0.1), a.1)) (sym (eqb-true a.0.0 pid own))
 
 texts_are : (s : State) (segments : Map ℕ Segment) (areas : Map (ℕ × ℕ) Area) (pid : ℕ)
@@ -143,7 +143,7 @@ texts_are : (s : State) (segments : Map ℕ Segment) (areas : Map (ℕ × ℕ) A
 texts_are s segments [] pid = refl
 texts_are s segments (a ∷ areas) pid =
     let rest = texts_are s segments areas pid in
-    let own = filter (λ (b : Placed). b.0.0 == pid) areas in
+    let own = filter (λ (b : PlacedArea). b.0.0 == pid) areas in
     elim (a.0.0 == pid) as (λ b. (a.0.0 == pid) ≡ b → map (line_text s pid) (map (line_of segments) (cond b (a ∷ own) own)) ≡ map (area_text s) (cond b (a ∷ own) own)) [
       | true ↦ λ is. ap (λ t. t ∷ map (line_text s pid) (lines_of segments areas pid)) (text_is s segments pid a is) ∙ ap (λ ts. area_text s a ∷ ts) rest
       | false ↦ λ is. rest

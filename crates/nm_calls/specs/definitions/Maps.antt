@@ -6,7 +6,7 @@ use Rattle.nm_types.specs.declared.area.Policy.{Policy}
 use Rattle.nm_types.specs.declared.area.Policy.TheVariants.{Default, Preferred, Bind, Interleave, Local}
 use Rattle.nm_types.specs.Layout.{node_count}
 use Rattle.nm_types.specs.Nodes.{up_from}
-use Rattle.nm_types.specs.State.{State, Placed}
+use Rattle.nm_types.specs.State.{State, PlacedArea}
 use Rattle.nm_model.specs.definitions.Seen.{users}
 use Rattle.nm_types.specs.declared.located.Located.{Located}
 use Rattle.nm_model.specs.definitions.Seen.{located_between}
@@ -62,7 +62,7 @@ pages_text s (p ∷ ps) =
     ++ flat_map (node_text (p ∷ ps)) (up_from 0 (node_count s.layout)) ++ codes " kernelpagesize_kB=4"
 
 -- an area as text
-abbrev pub area_text : State → Placed → List ℕ
+abbrev pub area_text : State → PlacedArea → List ℕ
 area_text s a =
     let pages = located_between s a.0.0 a.0.1 (a.0.1 + a.1.pages) in
     address_text a.0.1 ++ codes " " ++ policy_text a.1.policy ++ pages_text s pages

@@ -3,14 +3,14 @@ use Rattle.std.specs.Prelude.{ℕ, ◌+◌, Bool, List, [], ◌++◌, codes, dec
 use Rattle.std.specs.List.{flat_map}
 use Rattle.nm_types.specs.Nodes.{up_from}
 use Rattle.nm_calls.specs.declared.maps.Tally.{Tally}
-use Rattle.nm_types.specs.State.{State, Placed}
+use Rattle.nm_types.specs.State.{State, PlacedArea}
 use Rattle.nm_types.specs.declared.located.Located.{Located}
 use Rattle.nm_areas.specs.declared.lines.Area.{Area as Listed}
 use Rattle.nm_model.specs.definitions.Seen.{located_between}
 use Rattle.nm_calls.specs.definitions.Maps.{area_text, told_from}
 
 -- an area of a process, from how the areas are listed
-abbrev pub placed_of : ℕ → Listed → Placed
+abbrev pub placed_of : ℕ → Listed → PlacedArea
 placed_of pid line = ((pid, line.first), record { pages = line.pages; policy = line.policy; page = line.page })
 
 -- the pages that the process sees in it

@@ -10,7 +10,7 @@ use Rattle.nm_types.specs.declared.sight.Sight.{Sight}
 use Rattle.nm_types.specs.declared.sight.Sight.TheVariants.{ZeroPage, Sees}
 use Rattle.nm_types.specs.declared.errno.Errno.TheVariants.{Einval}
 use Rattle.nm_types.specs.Map.{Map, get, set, replace, page_cmp}
-use Rattle.nm_types.specs.State.{Process, State, Placed, covers, area_over, page_of}
+use Rattle.nm_types.specs.State.{Process, State, PlacedArea, covers, area_over, page_of}
 use Rattle.nm_model.specs.definitions.Seen.{sight_in, sight_at, frame_seen}
 use Rattle.nm_model.specs.definitions.Order.{first_touch_order}
 use Rattle.nm_engine.specs.declared.resolved_address.ResolvedAddress.{ResolvedAddress}
@@ -41,7 +41,7 @@ inside s left room y is P h = subst (λ (z : RunState). P z.state) (sym is) h
 pub outside : (s : State) (left : List ℕ) (room : ℕ) (y : RunState) → record { state = s; left = left; room = room } ≡ y → (P : State → Type 0) → P s → P y.state
 outside s left room y is P h = subst (λ (z : RunState). P z.state) is h
 
-pub spot_there : (s : State) (t : ResolvedAddress) (p : Process) (a : Placed) → IsSiteOf s.processes s.areas t p a → IsSpot s (access_site t p a)
+pub spot_there : (s : State) (t : ResolvedAddress) (p : Process) (a : PlacedArea) → IsSiteOf s.processes s.areas t p a → IsSpot s (access_site t p a)
 spot_there s t p a h = record { process = h.known; area = h.over }
 
 pub not_none : {V : Type 0} (P : Type 0) (o : Option V) → IsSome o → IfNone o P
@@ -65,7 +65,7 @@ no_front (f ∷ frames) h some = cc
 pub found_free : (free : List (List ℕ)) (order : List ℕ) (node : ℕ) → first_free free order ≡ Some node → 0 < length (slice_index_or free node [])
 found_free free order node h = some_length _ (has_front free order node h)
 
-module _ {c : ℕ} (tasks : Map ℕ Process) (m : Table) (x : PagedFrames) (online : List ℕ) (moved failed : ℕ) (l : List ℕ) (t : ResolvedAddress) (p : Process) (a : Placed)
+module _ {c : ℕ} (tasks : Map ℕ Process) (m : Table) (x : PagedFrames) (online : List ℕ) (moved failed : ℕ) (l : List ℕ) (t : ResolvedAddress) (p : Process) (a : PlacedArea)
     (kept : IsSoundMachine (state_of_parts tasks m x online moved failed) l c) (touch_site : IsSiteOf tasks m.areas t p a) where
   -- the process sees something else
   pub seen_kept : (sight : Sight) (new : Map ℕ Process) → new ≡ replace nat_cmp tasks t.pid (seeing p t.vpn sight) → Fits (state_of_parts tasks m x online moved failed) (access_site t p a) sight
@@ -134,7 +134,7 @@ get_set_same places page frame =
     get-set page_cmp_total places page frame page ∙ ap (λ r. cond (is_eq r) (Some frame) (get page_cmp places page)) (tied_itself page_cmp_total page)
 
 -- the area over a page number covers it, and is one of the areas
-pub over_covers : (areas : Map (ℕ × ℕ) Area) (pid v : ℕ) (a : Placed) → area_over areas pid v ≡ Some a → covers a pid v ≡ true
+pub over_covers : (areas : Map (ℕ × ℕ) Area) (pid v : ℕ) (a : PlacedArea) → area_over areas pid v ≡ Some a → covers a pid v ≡ true
 over_covers [] pid v a h = cc
 over_covers (x ∷ areas) pid v a h =
     elim (covers x pid v) as (λ b. covers x pid v ≡ b → cond b (Some x) (area_over areas pid v) ≡ Some a → covers a pid v ≡ true) [
@@ -147,7 +147,7 @@ pub mapped_some : {V W : Type 0} (f : V → W) (o : Option V) (w : W) → option
 mapped_some f None w h = cc
 mapped_some f (Some v) w h = (v, refl, some_is h)
 
-pub spot_found : (s : State) (pid address len : ℕ) (p : Process) (a : Placed) → get nat_cmp s.processes pid ≡ Some p → (len == 0) ≡ false → nat_lt 4096 (address % 4096 + len) ≡ false
+pub spot_found : (s : State) (pid address len : ℕ) (p : Process) (a : PlacedArea) → get nat_cmp s.processes pid ≡ Some p → (len == 0) ≡ false → nat_lt 4096 (address % 4096 + len) ≡ false
     → area_over s.areas pid (address / 4096) ≡ Some a → site s pid address len ≡ Ok (record { pid = pid; process = p; area = a; vpn = address / 4096 })
 spot_found s pid address len p a known some inside over =
     ap (λ o. site_of s o pid address len) known
@@ -158,13 +158,13 @@ spot_found s pid address len p a known some inside over =
 -- where an area is over a page number of a process, bytes inside the page are touched there
 pub touched_there : (processes : Map ℕ Process) (areas : Map (ℕ × ℕ) Area) (pid address len v first index : ℕ) (info : ProcessInfo) (area : Area) → option_map info_of (get nat_cmp processes pid) ≡ Some info → (len ≡ 0 → ⊥)
     → len ≤ 4096 - address % 4096 → v ≡ address / 4096 → Some ((pid, first), area) ≡ area_over areas pid v → index ≡ area.page.index + (v - first)
-    → (p : Process) × (a : Placed)
+    → (p : Process) × (a : PlacedArea)
     × IsSiteOf processes areas (record { pid = pid; info = info; vpn = v; page = record { segment = area.page.segment; index = index }; policy = area.policy }) p a
     × ((s : State) → s.processes ≡ processes → s.areas ≡ areas
     → site s pid address len ≡ Ok (access_site (record { pid = pid; info = info; vpn = v; page = record { segment = area.page.segment; index = index }; policy = area.policy }) p a))
 touched_there processes areas pid address len v first index info area known some within at over is =
     let p = mapped_some info_of (get nat_cmp processes pid) info known in
-    let a : Placed = ((pid, first), area) in
+    let a : PlacedArea = ((pid, first), area) in
     let part : address % 4096 < 4096 = mod-lt address (omega arith) in
     let fits : nat_lt 4096 (address % 4096 + len) ≡ false = le-ltb 4096 (address % 4096 + len) (omega (arith, within, part)) in
     let there : area_over areas pid (address / 4096) ≡ Some a = ap (area_over areas pid) (sym at) ∙ sym over in (

@@ -18,7 +18,7 @@ use Rattle.nm_types.specs.declared.sight.Sight.{Sight}
 use Rattle.nm_types.specs.declared.sight.Sight.TheVariants.{ZeroPage, Sees}
 use Rattle.nm_types.specs.Layout.{owner, node_of, frame_count}
 use Rattle.nm_types.specs.Map.{Map, get, set, replace, page_cmp}
-use Rattle.nm_types.specs.State.{Process, State, Placed, free_list, page_of}
+use Rattle.nm_types.specs.State.{Process, State, PlacedArea, free_list, page_of}
 use Rattle.nm_types.proofs.Cases.{none_is_not, some_is}
 use Rattle.nm_types.proofs.Maps.{page_cmp_total, exact_page, equal, get-set, get-replace, without-set, with_values-without}
 use Rattle.nm_types.proofs.Keys.{All-get, sorted-set, some_from_keys}
@@ -309,7 +309,7 @@ touch_back s l at writes (Some ZeroPage) new frame h i e found seen = zero_back 
 touch_back s l at writes (Some (Sees q)) new frame h i e found seen = sym (ok_is found)
 
 -- the same of a touch that was looked up
-pub touched_back : (s : State) (l : List ℕ) (t : ResolvedAddress) (p : Process) (a : Placed) (writes : Bool) (new : State) (frame : Option ℕ) → IsSoundInFlight s l → IsSiteOf s.processes s.areas t p a
+pub touched_back : (s : State) (l : List ℕ) (t : ResolvedAddress) (p : Process) (a : PlacedArea) (writes : Bool) (new : State) (frame : Option ℕ) → IsSoundInFlight s l → IsSiteOf s.processes s.areas t p a
     → touch_sight s (access_site t p a) writes (get nat_cmp p.sees t.vpn) ≡ Ok new → frame ≡ frame_seen new t.pid t.vpn
     → IsTakenBack s l new (undo_of t.pid t.vpn t.page (sight_at s t.pid t.vpn) (get page_cmp s.place t.page) frame)
 touched_back s l t p a writes new frame h r found seen =

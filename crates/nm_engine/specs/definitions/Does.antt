@@ -6,7 +6,7 @@ use Rattle.nm_types.specs.declared.page.Page.{Page}
 use Rattle.nm_types.specs.State.{State}
 use Rattle.nm_types.specs.declared.machine_error.MachineError.{MachineError}
 use Rattle.nm_types.specs.declared.machine_error.MachineError.TheVariants as error
-pub use Rattle.nm_types.specs.Does.{Makes, AsksLast, Alters, Tells}
+pub use Rattle.nm_types.specs.Does.{Makes, AsksLast, Alters, Returns}
 use Rattle.nm_model.specs.definitions.Touch.{Access, AccessAnswer, AccessResult, Refused, site_of_access, is_held}
 
 -- a read or a write: its answer and the state after it are as defined, or the host is out of memory and nothing changes

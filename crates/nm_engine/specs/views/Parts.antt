@@ -7,7 +7,7 @@ use Rattle.nm_types.specs.declared.errno.Errno.{Errno}
 use Rattle.nm_types.specs.declared.machine_error.MachineError.{MachineError}
 use Rattle.nm_types.specs.declared.sight.Sight.{Sight}
 use Rattle.nm_types.specs.declared.area.Area.{Area}
-use Rattle.nm_types.specs.State.{Process, Placed, State, area_over, page_of}
+use Rattle.nm_types.specs.State.{Process, PlacedArea, State, area_over, page_of}
 use Rattle.nm_engine.specs.declared.resolved_address.ResolvedAddress.{ResolvedAddress}
 use Rattle.nm_model.specs.definitions.Effect.{info_of}
 use Rattle.nm_model.specs.definitions.Seen.{sight_in}
@@ -21,12 +21,12 @@ use Rattle.nm_engine.specs.views.MidRun.{IsSoundMachine}
 use Rattle.nm_engine.specs.views.Shown.{shown_by}
 
 -- the place of a touch by this process in this area
-abbrev pub access_site : ResolvedAddress → Process → Placed → AccessSite
+abbrev pub access_site : ResolvedAddress → Process → PlacedArea → AccessSite
 access_site t process area = record { pid = t.pid; process = process; area = area; vpn = t.vpn }
 
 -- the process exists, and so does the area, which shows the page
 pub record IsSiteOf (processes : Map ℕ Process) (areas : Map (ℕ × ℕ) Area) (t : ResolvedAddress) (process : Process)
-    (area : Placed) : Type 0 where
+    (area : PlacedArea) : Type 0 where
   pub known : get nat_cmp processes t.pid ≡ Some process
   pub info : info_of process ≡ t.info
   pub over : area_over areas t.pid t.vpn ≡ Some area
@@ -39,7 +39,7 @@ AreKept y k online = (moved failed : ℕ) → IsSoundMachine (shown_by y k onlin
 
 -- the address is that of an area of a process
 abbrev pub HasSite : Map ℕ Process → Map (ℕ × ℕ) Area → ResolvedAddress → Type 0
-HasSite processes areas t = (p : Process) × (a : Placed) × IsSiteOf processes areas t p a
+HasSite processes areas t = (p : Process) × (a : PlacedArea) × IsSiteOf processes areas t p a
 
 -- where an access finds its bytes, or why it does not, in each state with these processes and areas
 abbrev pub SiteIs : AddressSpacesView → ℕ → ℕ → ℕ → Result AccessSite Errno → Type 0
@@ -66,12 +66,12 @@ module _ {T : Type 0} where
   abbrev pub TouchesBoth : Result T MachineError → ResolvedAddress → AddressSpacesView → FramesView → AddressSpacesView → FramesView
       → List ℕ → Effect → Type 0
   TouchesBoth result t y k z w online effect =
-      (moved failed : ℕ) (p : Process) (a : Placed) → IsSiteOf y.processes y.areas t p a →
+      (moved failed : ℕ) (p : Process) (a : PlacedArea) → IsSiteOf y.processes y.areas t p a →
       let s = shown_by y k online moved failed in
       Touches result s (shown_by z w online moved failed) (effect s p (access_site t p a))
 
   -- whatever has been counted, a touch of this effect allocates only if it is not refused
   abbrev pub TouchesLast : Result T MachineError → ResolvedAddress → AddressSpacesView → FramesView → List ℕ → Effect → Type 0
   TouchesLast result t y k online effect =
-      (moved failed : ℕ) (p : Process) (a : Placed) → IsSiteOf y.processes y.areas t p a →
+      (moved failed : ℕ) (p : Process) (a : PlacedArea) → IsSiteOf y.processes y.areas t p a →
       AsksLast result (result_err (effect (shown_by y k online moved failed) p (access_site t p a)))

@@ -1,7 +1,7 @@
 //! What a machine has counted, and its free frames.
 
 ghost use Rattle.std.specs.Prelude.{Err, IfOk, length, true, ◌<◌, ◌≡◌};
-ghost use Rattle.nm_engine.specs.definitions.Does.{AsksLast, Tells};
+ghost use Rattle.nm_engine.specs.definitions.Does.{AsksLast, Returns};
 ghost use Rattle.nm_model.specs.definitions.Sound.{IsSound, each_frame_is_once};
 ghost use Rattle.nm_model.specs.definitions.Effect.{list_refusal};
 ghost use Rattle.nm_types.specs.State.{free_list};
@@ -31,7 +31,7 @@ impl<A: Allocator + Copy + Send + Sync> Machine<A> {
 
     /// The free frames of a node, front first. EINVAL if there is no such node. An empty list takes no memory.
     pub fn free_list(&self, node: NodeId) -> Result<Vec<FrameId, A>, MachineError>
-        ensures told { Tells result (list_refusal self.now node)
+        ensures told { Returns result (list_refusal self.now node)
             (λ frames. frames.items ≡ free_list self.now node) }
         ensures memory { AsksLast result (list_refusal self.now node) }
         ensures asked { result ≡ Err MachineError.HostMemory → 0 < length (free_list self.now node) }

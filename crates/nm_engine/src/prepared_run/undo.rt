@@ -2,7 +2,7 @@
 
 ghost use Rattle.std.specs.Prelude.{◌≡◌, [], true, vec_capacity, Some, IfOk, IfNone, IsSome, OnErr, OnOk};
 ghost use Rattle.nm_types.specs.declared.sight.Sight.TheVariants.{ZeroPage};
-ghost use Rattle.nm_types.specs.State.{Process, Placed};
+ghost use Rattle.nm_types.specs.State.{Process, PlacedArea};
 ghost use Rattle.nm_model.specs.definitions.Seen.{sight_at};
 ghost use Rattle.nm_engine.specs.views.MidRun.{with_state};
 ghost use Rattle.nm_engine.specs.views.Parts.{HasSite, IsSiteOf, access_site, noted_by, touched_by};
@@ -41,7 +41,7 @@ impl<A: Allocator + Copy> PreparedRun<A> {
         requires { HasSite self.old.state.processes self.old.state.areas t }
 
         // The touch
-        ensures touches { (p : Process) (a : Placed) →
+        ensures touches { (p : Process) (a : PlacedArea) →
             IsSiteOf self.old.state.processes self.old.state.areas t p a →
             Touches result self.old.state self.new.state
             (touched_by t writes self.old.state p (access_site t p a)) }

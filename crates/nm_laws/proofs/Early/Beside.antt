@@ -8,7 +8,7 @@ use Rattle.nm_types.specs.declared.errno.Errno.TheVariants.{Einval}
 use Rattle.nm_types.specs.declared.sight.Sight.{Sight}
 use Rattle.nm_types.specs.declared.sight.Sight.TheVariants.{ZeroPage, Sees}
 use Rattle.nm_types.specs.Map.{Map, get, set, page_cmp}
-use Rattle.nm_types.specs.State.{Process, State, Placed, area_over, free_list}
+use Rattle.nm_types.specs.State.{Process, State, PlacedArea, area_over, free_list}
 use Rattle.nm_model.specs.definitions.Seen.{sight_at, sight_in}
 use Rattle.nm_model.specs.definitions.Areas.{is_shared}
 use Rattle.nm_model.specs.definitions.Order.{first_touch_order}
@@ -133,7 +133,7 @@ module _ (places : Map Page ℕ → Map Page ℕ) (bytes : Map Page (List ℕ) �
       ap (then_all moved accesses) (early_too s moved a (spares s a h)) ∙ ap (due_first (before_copy s moved a).due) (all_early_too Apart moved spares stays accesses (before_copy s moved a).state (stays s a h))
 
 -- the process and the area of a spot that is found are there
-found_over : (s : State) (pid v : ℕ) (process : Process) (o : Option Placed) (at : AccessSite) → get nat_cmp s.processes pid ≡ Some process → area_over s.areas pid v ≡ o → site_over pid process v o ≡ Ok at → IsSpot s at
+found_over : (s : State) (pid v : ℕ) (process : Process) (o : Option PlacedArea) (at : AccessSite) → get nat_cmp s.processes pid ≡ Some process → area_over s.areas pid v ≡ o → site_over pid process v o ≡ Ok at → IsSpot s at
 found_over s pid v process None at p a e = cc
 found_over s pid v process (Some area) at p a e =
     let site : AccessSite = record { pid = pid; process = process; area = area; vpn = v } in

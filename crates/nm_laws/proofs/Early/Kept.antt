@@ -8,7 +8,7 @@ use Rattle.nm_types.specs.declared.errno.Errno.TheVariants.{Einval}
 use Rattle.nm_types.specs.declared.sight.Sight.{Sight}
 use Rattle.nm_types.specs.declared.sight.Sight.TheVariants.{ZeroPage, Sees}
 use Rattle.nm_types.specs.Map.{Map, get, set, page_cmp}
-use Rattle.nm_types.specs.State.{Process, State, Placed, area_over, free_list}
+use Rattle.nm_types.specs.State.{Process, State, PlacedArea, area_over, free_list}
 use Rattle.nm_types.proofs.Cases.{some_is}
 use Rattle.nm_types.proofs.Maps.{page_cmp_total, exact_page, equal, get-set}
 use Rattle.nm_model.specs.definitions.Seen.{sight_at, sight_in}
@@ -84,7 +84,7 @@ module _ (s : State) (q : Page) (placed : IsSome (get page_cmp s.place q)) (at :
     entry_keeps writes (Some (Sees p)) e = (refl, refl)
 
 module _ (s : State) (q : Page) (placed : IsSome (get page_cmp s.place q)) (l : List ℕ) (h : IsSoundInFlight s l) where
-  over_keeps : (pid v : ℕ) (process : Process) (writes : Bool) (o : Option Placed) → get nat_cmp s.processes pid ≡ Some process → area_over s.areas pid v ≡ o → Keeps s q (touch_site s writes (site_over pid process v o))
+  over_keeps : (pid v : ℕ) (process : Process) (writes : Bool) (o : Option PlacedArea) → get nat_cmp s.processes pid ≡ Some process → area_over s.areas pid v ≡ o → Keeps s q (touch_site s writes (site_over pid process v o))
   unfolding Keeps
   over_keeps pid v process writes None p a = tt
   over_keeps pid v process writes (Some area) p a =

@@ -9,7 +9,7 @@ use Rattle.nm_types.specs.declared.errno.Errno.TheVariants.{Einval}
 use Rattle.nm_types.specs.declared.sight.Sight.{Sight}
 use Rattle.nm_types.specs.declared.sight.Sight.TheVariants.{ZeroPage, Sees}
 use Rattle.nm_types.specs.Map.{get, page_cmp, same_page}
-use Rattle.nm_types.specs.State.{Process, State, Placed, area_over, page_at}
+use Rattle.nm_types.specs.State.{Process, State, PlacedArea, area_over, page_at}
 use Rattle.nm_types.proofs.Cases.{some_is}
 use Rattle.nm_model.specs.definitions.Seen.{sight_at}
 use Rattle.nm_model.specs.definitions.Touch.{AccessSite, shown_at, site_over, site_of, site, touch_site, touch, Access, Read, Write}
@@ -61,7 +61,7 @@ write_is_at s l pid address new p (Err e) sound shows at = tt
 write_is_at s l pid address new p (Ok t) sound shows at = write_at s t l sound.0 pid (address / 4096) p shows.1 at (address % 4096) new (sight_at t pid (address / 4096)) refl
 
 -- the page that is shown where a spot is found
-over_page : (s : State) (pid v : ℕ) (process : Process) (o : Option Placed) (at : AccessSite) → get nat_cmp s.processes pid ≡ Some process → area_over s.areas pid v ≡ o → site_over pid process v o ≡ Ok at → page_at s.areas pid v ≡ Some (shown_at at)
+over_page : (s : State) (pid v : ℕ) (process : Process) (o : Option PlacedArea) (at : AccessSite) → get nat_cmp s.processes pid ≡ Some process → area_over s.areas pid v ≡ o → site_over pid process v o ≡ Ok at → page_at s.areas pid v ≡ Some (shown_at at)
 over_page s pid v process None at p a e = cc
 over_page s pid v process (Some area) at p a e =
     let there : AccessSite = record { pid = pid; process = process; area = area; vpn = v } in

@@ -7,7 +7,7 @@ use Rattle.nm_types.specs.declared.errno.Errno.TheVariants.{Einval}
 use Rattle.nm_types.specs.declared.sight.Sight.{Sight}
 use Rattle.nm_types.specs.declared.sight.Sight.TheVariants.{ZeroPage, Sees}
 use Rattle.nm_types.specs.Map.{get, page_cmp}
-use Rattle.nm_types.specs.State.{Process, State, Placed, area_over, free_list}
+use Rattle.nm_types.specs.State.{Process, State, PlacedArea, area_over, free_list}
 use Rattle.nm_model.specs.definitions.Seen.{sight_at, sight_in}
 use Rattle.nm_model.specs.definitions.Areas.{is_shared}
 use Rattle.nm_model.specs.definitions.Order.{first_touch_order}
@@ -50,7 +50,7 @@ module _ (s : State) (at : AccessSite) (i : IsSpot s at) where
   entry_shows writes (Some (Sees p)) e = (subst (λ o. IsSome o) (sym e) refl, refl, refl)
 
 module _ (s : State) where
-  over_shows : (pid v : ℕ) (process : Process) (writes : Bool) (o : Option Placed) → get nat_cmp s.processes pid ≡ Some process → area_over s.areas pid v ≡ o → Shows s pid v (touch_site s writes (site_over pid process v o))
+  over_shows : (pid v : ℕ) (process : Process) (writes : Bool) (o : Option PlacedArea) → get nat_cmp s.processes pid ≡ Some process → area_over s.areas pid v ≡ o → Shows s pid v (touch_site s writes (site_over pid process v o))
   unfolding Shows
   over_shows pid v process writes None p a = tt
   over_shows pid v process writes (Some area) p a =

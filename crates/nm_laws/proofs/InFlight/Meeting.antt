@@ -9,7 +9,7 @@ use Rattle.nm_types.specs.declared.errno.Errno.{Errno}
 use Rattle.nm_types.specs.declared.errno.Errno.TheVariants.{Einval}
 use Rattle.nm_types.specs.declared.sight.Sight.TheVariants.{ZeroPage, Sees}
 use Rattle.nm_types.specs.Map.{get, page_cmp}
-use Rattle.nm_types.specs.State.{Process, State, Placed, area_over, free_list}
+use Rattle.nm_types.specs.State.{Process, State, PlacedArea, area_over, free_list}
 use Rattle.nm_types.specs.declared.entry.Entry.{Entry}
 use Rattle.nm_types.specs.declared.entry.Entry.TheVariants.{Zero, Frame, Held as OnItsWay}
 use Rattle.nm_model.specs.definitions.Order.{first_touch_order}
@@ -50,7 +50,7 @@ unfoldable pub ComesTo : State → ℕ → ℕ → ℕ → Result AccessSite Err
 ComesTo s pid address len (Err e) = Unit {0}
 ComesTo s pid address len (Ok at) = IsThere s pid address len at
 
-over_comes : (s : State) (pid address len : ℕ) (p : Process) (o : Option Placed) → get nat_cmp s.processes pid ≡ Some p → area_over s.areas pid (address / 4096) ≡ o → address % 4096 + len ≤ 4096
+over_comes : (s : State) (pid address len : ℕ) (p : Process) (o : Option PlacedArea) → get nat_cmp s.processes pid ≡ Some p → area_over s.areas pid (address / 4096) ≡ o → address % 4096 + len ≤ 4096
     → ComesTo s pid address len (site_over pid p (address / 4096) o)
 unfolding ComesTo
 over_comes s pid address len p None known over fits = tt

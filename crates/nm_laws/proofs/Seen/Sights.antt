@@ -10,7 +10,7 @@ use Rattle.nm_types.specs.declared.page.Page.{Page}
 use Rattle.nm_types.specs.Map.{get, page_cmp, replace, set}
 use Rattle.nm_types.specs.declared.sight.Sight.{Sight}
 use Rattle.nm_types.specs.declared.sight.Sight.TheVariants.{Sees, ZeroPage}
-use Rattle.nm_types.specs.State.{Placed, Process, State, area_over, page_at, page_shown}
+use Rattle.nm_types.specs.State.{PlacedArea, Process, State, area_over, page_at, page_shown}
 use Rattle.nm_types.proofs.Cases.{some_is}
 use Rattle.nm_model.specs.definitions.Seen.{sight_in, sight_at}
 use Rattle.nm_model.specs.definitions.Areas.{is_shared}
@@ -84,7 +84,7 @@ order_kept s at x i h =
     }
 
 -- the processes that were there are there
-pub whole_still : (s : State) (at : AccessSite) (x : Sight) (a : Placed) → IsWhole s a → IsWhole (with_sight s at x) a
+pub whole_still : (s : State) (at : AccessSite) (x : Sight) (a : PlacedArea) → IsWhole s a → IsWhole (with_sight s at x) a
 whole_still s at x a whole =
     let new : Process = record (at.process) { sees = set nat_cmp at.process.sees at.vpn x } in
     (whole.0, whole.1, some_from_keys nat_cmp s.processes (replace nat_cmp s.processes at.pid new) a.0.0 (sym (keys-replace nat_cmp s.processes at.pid new)) whole.2, whole.3)

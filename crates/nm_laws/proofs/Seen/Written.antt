@@ -11,7 +11,7 @@ use Rattle.nm_types.specs.declared.errno.Errno.TheVariants.{Einval}
 use Rattle.nm_types.specs.Map.{get, replace, page_cmp, same_page}
 use Rattle.nm_types.specs.declared.sight.Sight.{Sight}
 use Rattle.nm_types.specs.declared.sight.Sight.TheVariants.{ZeroPage, Sees}
-use Rattle.nm_types.specs.State.{Process, State, Placed, free_list, area_over, page_at}
+use Rattle.nm_types.specs.State.{Process, State, PlacedArea, free_list, area_over, page_at}
 use Rattle.nm_model.specs.definitions.Seen.{sight_in, sight_at}
 use Rattle.nm_model.specs.definitions.Order.{first_touch_order}
 use Rattle.nm_model.specs.definitions.Memory.{mem, byte_of}
@@ -58,7 +58,7 @@ module _ (s : State) (at : AccessSite) (i : IsSpot s at) where
   entry_reaches (Some ZeroPage) e = filled_reaches
   entry_reaches (Some (Sees p)) e = (refl, (p, e))
 
-over_reaches : (s : State) (pid v : ℕ) (process : Process) (o : Option Placed) → get nat_cmp s.processes pid ≡ Some process → area_over s.areas pid v ≡ o → Reaches s pid v (touch_site s true (site_over pid process v o))
+over_reaches : (s : State) (pid v : ℕ) (process : Process) (o : Option PlacedArea) → get nat_cmp s.processes pid ≡ Some process → area_over s.areas pid v ≡ o → Reaches s pid v (touch_site s true (site_over pid process v o))
 unfolding Reaches
 over_reaches s pid v process None p a = tt
 over_reaches s pid v process (Some area) p a =

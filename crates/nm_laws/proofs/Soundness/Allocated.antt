@@ -16,7 +16,7 @@ use Rattle.nm_types.specs.declared.area.Area.{Area}
 use Rattle.nm_types.specs.Layout.{node_of}
 use Rattle.nm_types.specs.Map.{Map, get, set, page_cmp}
 use Rattle.nm_types.specs.declared.sight.Sight.TheVariants.{ZeroPage, Sees}
-use Rattle.nm_types.specs.State.{State, Placed, free_list, page_at, page_of, covers, area_over}
+use Rattle.nm_types.specs.State.{State, PlacedArea, free_list, page_at, page_of, covers, area_over}
 use Rattle.nm_types.proofs.Cases.{true_false}
 use Rattle.nm_model.specs.definitions.Seen.{sight_at}
 use Rattle.nm_model.specs.definitions.Areas.{is_shared}
@@ -61,7 +61,7 @@ placed_frames s l node (frame ∷ rest) p h order unplaced e some =
     }
 
 -- the area over a page number covers the page that it shows there
-pub shows_within : (a : Placed) (pid v : ℕ) → covers a pid v ≡ true → covers_page (page_of a v) a ≡ true
+pub shows_within : (a : PlacedArea) (pid v : ℕ) → covers a pid v ≡ true → covers_page (page_of a v) a ≡ true
 shows_within a pid v h =
     let first = a.0.1 in
     let index = a.1.page.index in
@@ -72,7 +72,7 @@ shows_within a pid v h =
     and_from _ _ (eq-eqb a.1.page.segment a.1.page.segment refl)
     (and_from _ _ (le-leb index (index + (v - first)) (omega arith)) (lt-ltb (index + (v - first)) (index + a.1.pages) (omega arith)))
 
-pub area_covers : (areas : Map (ℕ × ℕ) Area) (pid v : ℕ) (a : Placed) → area_over areas pid v ≡ Some a → is_covered areas (page_of a v) ≡ true
+pub area_covers : (areas : Map (ℕ × ℕ) Area) (pid v : ℕ) (a : PlacedArea) → area_over areas pid v ≡ Some a → is_covered areas (page_of a v) ≡ true
 area_covers [] pid v a h = cc
 area_covers (x ∷ areas) pid v a h =
     elim (covers x pid v) as (λ b. covers x pid v ≡ b → cond b (Some x) (area_over areas pid v) ≡ Some a → is_covered (x ∷ areas) (page_of a v) ≡ true) [

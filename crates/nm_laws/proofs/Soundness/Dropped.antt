@@ -19,7 +19,7 @@ use Rattle.nm_types.specs.declared.area.Segment.{Segment}
 use Rattle.nm_types.specs.Map.{Map, get, with_values, without, page_cmp, spot_cmp}
 use Rattle.nm_types.specs.declared.sight.Sight.{Sight}
 use Rattle.nm_types.specs.declared.sight.Sight.TheVariants.{ZeroPage, Sees}
-use Rattle.nm_types.specs.State.{Process, State, Placed, covers, area_over, page_of, page_shown, page_at}
+use Rattle.nm_types.specs.State.{Process, State, PlacedArea, covers, area_over, page_of, page_shown, page_at}
 use Rattle.nm_types.proofs.Cases.{true_false, none_some, some_is}
 use Rattle.nm_model.specs.definitions.Seen.{sight_in, sight_at}
 use Rattle.nm_model.specs.definitions.Areas.{is_shared}
@@ -37,10 +37,10 @@ use Rattle.nm_laws.proofs.Soundness.Released.{Listed, Pending, all_released}
 -- ---- what areas cover
 
 -- the page number at which an area shows a page that it covers
-abbrev pub shown_number : Placed → Page → ℕ
+abbrev pub shown_number : PlacedArea → Page → ℕ
 shown_number a p = a.0.1 + (p.index - a.1.page.index)
 
-pub covers_shown : (a : Placed) (p : Page) → covers_page p a ≡ true → (covers a a.0.0 (shown_number a p) ≡ true) × (page_of a (shown_number a p) ≡ p)
+pub covers_shown : (a : PlacedArea) (p : Page) → covers_page p a ≡ true → (covers a a.0.0 (shown_number a p) ≡ true) × (page_of a (shown_number a p) ≡ p)
 covers_shown a p h =
     let both = and_parts (a.1.page.segment == p.segment) _ h in
     let range = and_parts (nat_le a.1.page.index p.index) (nat_lt p.index (a.1.page.index + a.1.pages)) both.1 in
@@ -67,7 +67,7 @@ listed_right : (xs ys : List Page) (p : Page) → Listed p ys → Listed p (xs +
 listed_right [] ys p m = m
 listed_right (x ∷ xs) ys p m = inr (listed_right xs ys p m)
 
-listed_flat : (f : Placed → List Page) (test : Placed → Bool) (areas : List Placed) (a : Placed) (p : Page) → Among a areas → test a ≡ true → Listed p (f a) → Listed p (flat_map f (filter test areas))
+listed_flat : (f : PlacedArea → List Page) (test : PlacedArea → Bool) (areas : List PlacedArea) (a : PlacedArea) (p : Page) → Among a areas → test a ≡ true → Listed p (f a) → Listed p (flat_map f (filter test areas))
 listed_flat f test [] a p m t k = absurd m
 listed_flat f test (x ∷ areas) a p (inl e) t k =
     subst (λ b. Listed p (flat_map f (cond b (x ∷ filter test areas) (filter test areas)))) (sym (ap test (sym e) ∙ t)) (listed_left (f x) (flat_map f (filter test areas)) p (subst (λ y. Listed p (f y)) e k))
@@ -76,7 +76,7 @@ listed_flat f test (x ∷ areas) a p (inr m) t k =
     elim (test x) as (λ b. Listed p (flat_map f (cond b (x ∷ filter test areas) (filter test areas)))) [ true ↦ listed_right (f x) (flat_map f (filter test areas)) p more | false ↦ more ]
 
 -- a part of an area ends within the segment, as the area does
-pub part_within : (pid first end : ℕ) (a b : Placed) → IsPart pid first end a b → (o : ℕ → Option Segment) → HasPages (o a.1.page.segment) (a.1.page.index + a.1.pages) → HasPages (o b.1.page.segment) (b.1.page.index + b.1.pages)
+pub part_within : (pid first end : ℕ) (a b : PlacedArea) → IsPart pid first end a b → (o : ℕ → Option Segment) → HasPages (o a.1.page.segment) (a.1.page.index + a.1.pages) → HasPages (o b.1.page.segment) (b.1.page.index + b.1.pages)
 part_within pid first end a b part o within =
     subst (λ n. HasPages (o n) (b.1.page.index + b.1.pages)) (sym part.segment)
     (elim (o a.1.page.segment) as (λ s. HasPages s (a.1.page.index + a.1.pages) → HasPages s (b.1.page.index + b.1.pages)) [
@@ -113,7 +113,7 @@ module _ (s : State) (l : List ℕ) (h : IsSoundInFlight s l) (pid first end : �
   abbrev Out : ℕ → ℕ → Type 0
   Out q w = q ≡ pid → (w < first) ⊎ (end ≤ w)
 
-  parts : Placed → List Placed
+  parts : PlacedArea → List PlacedArea
   parts = parts_outside pid first end
 
   areas : Map (ℕ × ℕ) Area
@@ -123,7 +123,7 @@ module _ (s : State) (l : List ℕ) (h : IsSoundInFlight s l) (pid first end : �
   some = all_then s.areas (IsWhole s) (λ a. 0 < a.1.pages) (λ a whole. whole.0) h.areas
 
   -- a part and its area
-  whose : (b : Placed) → Among b areas → (a : Placed) × Among a s.areas × IsPart pid first end a b
+  whose : (b : PlacedArea) → Among b areas → (a : PlacedArea) × Among a s.areas × IsPart pid first end a b
   unfolding areas
   whose b m =
       let from = among_flat (parts_outside pid first end) s.areas b m in
@@ -147,7 +147,7 @@ module _ (s : State) (l : List ℕ) (h : IsSoundInFlight s l) (pid first end : �
   unfolding areas
   shown_back_all q w p e = shown_back q w p e
 
-  there : (a : Placed) (q w : ℕ) → Among a s.areas → covers a q w ≡ true → Out q w → (b : Placed) × Among b areas × (covers b q w ≡ true)
+  there : (a : PlacedArea) (q w : ℕ) → Among a s.areas → covers a q w ≡ true → Out q w → (b : PlacedArea) × Among b areas × (covers b q w ≡ true)
   unfolding areas
   there a q w m c out =
       let b = part_there pid first end a q w c out in
@@ -166,7 +166,7 @@ module _ (s : State) (l : List ℕ) (h : IsSoundInFlight s l) (pid first end : �
             ap (λ o. page_shown o w) (over_among areas q w cut.0 (flat_apart pid first end range s.areas some h.disjoint) m cut.2) ∙ ap Some (part_page pid first end a cut.0 q w part cut.2) ∙ k
       ] refl e
 
-  still_covered : (a : Placed) (p : Page) → Among a s.areas → covers_page p a ≡ true → Out a.0.0 (shown_number a p) → is_covered areas p ≡ true
+  still_covered : (a : PlacedArea) (p : Page) → Among a s.areas → covers_page p a ≡ true → Out a.0.0 (shown_number a p) → is_covered areas p ≡ true
   still_covered a p m c out =
       let at = covers_shown a p c in
       let w = shown_number a p in
@@ -336,7 +336,7 @@ module _ (s : State) (l : List ℕ) (h : IsSoundInFlight s l) (pid first end : �
   unfolding blind
   blind_sorted = all_blind pid first end s.processes h.order.sees
 
-  part_whole : (b : Placed) → Among b areas → IsWhole left b
+  part_whole : (b : PlacedArea) → Among b areas → IsWhole left b
   unfolding left
   part_whole b m =
       let a = whose b m in
@@ -453,7 +453,7 @@ module _ (s : State) (h : IsSound s) (pid : ℕ) where
   nothing_seen : (w : ℕ) → sight_at rest pid w ≡ None
   nothing_seen w = sight_area rest [] pid w (sight_at rest pid w) rest_sound refl (nothing_shown w)
 
-  other_area : (a : Placed) → Among a rest.areas → a.0.0 ≡ pid → ⊥
+  other_area : (a : PlacedArea) → Among a rest.areas → a.0.0 ≡ pid → ⊥
   other_area a m e =
       let whole = All-among (IsWhole rest) rest.areas a rest_sound.areas m in
       let over = over_among rest.areas a.0.0 a.0.1 a rest_sound.disjoint m (covers_from a a.0.0 a.0.1 refl (omega arith) (omega (arith, whole.0))) in
@@ -470,7 +470,7 @@ module _ (s : State) (h : IsSound s) (pid : ℕ) where
         | false ↦ λ b. refl
       ] refl
 
-  still_there : (a : Placed) → Among a rest.areas → IsSome (get nat_cmp (without nat_cmp rest.processes pid) a.0.0)
+  still_there : (a : PlacedArea) → Among a rest.areas → IsSome (get nat_cmp (without nat_cmp rest.processes pid) a.0.0)
   still_there a m =
       let whole = All-among (IsWhole rest) rest.areas a rest_sound.areas m in
       subst IsSome (sym (get_left a.0.0))

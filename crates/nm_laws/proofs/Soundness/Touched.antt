@@ -12,7 +12,7 @@ use Rattle.nm_types.specs.declared.errno.Errno.TheVariants.{Einval}
 use Rattle.nm_types.specs.Map.{get, replace, page_cmp, set}
 use Rattle.nm_types.specs.declared.sight.Sight.{Sight}
 use Rattle.nm_types.specs.declared.sight.Sight.TheVariants.{ZeroPage, Sees}
-use Rattle.nm_types.specs.State.{Process, State, Placed, free_list, area_over, page_at}
+use Rattle.nm_types.specs.State.{Process, State, PlacedArea, free_list, area_over, page_at}
 use Rattle.nm_types.proofs.Cases.{some_is}
 use Rattle.nm_model.specs.definitions.Seen.{sight_in, sight_at}
 use Rattle.nm_model.specs.definitions.Order.{first_touch_order}
@@ -131,7 +131,7 @@ entry_sound s l at writes (Some ZeroPage) h i e =
     zero_sound s l at h i (λ p k. zero_page p (sym e ∙ k)) writes (subst (λ p. is_shared s.segments p.segment ≡ false) (some_is same) zero.2)
 entry_sound s l at writes (Some (Sees p)) h i e = (h, λ q a. refl)
 
-over_sound : (s : State) (l : List ℕ) (pid v : ℕ) (process : Process) (writes : Bool) (o : Option Placed) → IsSoundInFlight s l → get nat_cmp s.processes pid ≡ Some process → area_over s.areas pid v ≡ o
+over_sound : (s : State) (l : List ℕ) (pid v : ℕ) (process : Process) (writes : Bool) (o : Option PlacedArea) → IsSoundInFlight s l → get nat_cmp s.processes pid ≡ Some process → area_over s.areas pid v ≡ o
     → StaysSound s l (touch_site s writes (site_over pid process v o))
 unfolding StaysSound
 over_sound s l pid v process writes None h p a = tt

@@ -9,26 +9,26 @@ use Rattle.std.proofs.lemmas.Map.Lookups.{exact_unsigned, exact_pairs}
 use Rattle.nm_types.specs.declared.page.Page.{Page}
 use Rattle.nm_types.specs.declared.area.Area.{Area}
 use Rattle.nm_types.specs.Map.{Map, set, spot_cmp}
-use Rattle.nm_types.specs.State.{Placed, covers, area_over}
+use Rattle.nm_types.specs.State.{PlacedArea, covers, area_over}
 use Rattle.nm_types.proofs.Cases.{true_false}
 use Rattle.nm_model.specs.definitions.Areas.{covers_page, is_covered, AreasAreApart}
 use Rattle.nm_model.specs.definitions.AreaRefusal.{overlaps}
 
 -- from the first page number to before the last
-abbrev pub behind_last : Placed → ℕ
+abbrev pub behind_last : PlacedArea → ℕ
 behind_last a = a.0.1 + a.1.pages
 
-pub covers_parts : (a : Placed) (pid v : ℕ) → covers a pid v ≡ true → (a.0.0 ≡ pid) × (a.0.1 ≤ v) × (v < behind_last a)
+pub covers_parts : (a : PlacedArea) (pid v : ℕ) → covers a pid v ≡ true → (a.0.0 ≡ pid) × (a.0.1 ≤ v) × (v < behind_last a)
 covers_parts a pid v h =
     let both = and_parts (a.0.0 == pid) _ h in
     let range = and_parts (nat_le a.0.1 v) (nat_lt v (behind_last a)) both.1 in
     (eqb-true a.0.0 pid both.0, leb-true a.0.1 v range.0, ltb-true v (behind_last a) range.1)
 
-pub covers_from : (a : Placed) (pid v : ℕ) → a.0.0 ≡ pid → a.0.1 ≤ v → v < behind_last a → covers a pid v ≡ true
+pub covers_from : (a : PlacedArea) (pid v : ℕ) → a.0.0 ≡ pid → a.0.1 ≤ v → v < behind_last a → covers a pid v ≡ true
 covers_from a pid v e low high = and_from _ _ (eq-eqb a.0.0 pid e) (and_from _ _ (le-leb a.0.1 v low) (lt-ltb v (behind_last a) high))
 
 -- two areas that cover one page number overlap
-covered_twice : (a : Placed) (pid first end q v : ℕ) → overlaps pid first end a ≡ false → covers a q v ≡ true → q ≡ pid → first ≤ v → v < end → ⊥
+covered_twice : (a : PlacedArea) (pid first end q v : ℕ) → overlaps pid first end a ≡ false → covers a q v ≡ true → q ≡ pid → first ≤ v → v < end → ⊥
 covered_twice a pid first end q v h c e low high =
     let parts = covers_parts a q v c in
     let before : a.0.1 < end = omega (arith, parts.1, high) in
@@ -36,19 +36,19 @@ covered_twice a pid first end q v h c e low high =
     true_false (sym (and_from _ _ (and_from _ _ (eq-eqb a.0.0 pid (parts.0 ∙ e)) (lt-ltb a.0.1 end before)) (lt-ltb first (behind_last a) after)) ∙ h)
 
 module _ (pid first : ℕ) (new : Area) where
-  abbrev pub one_more : Placed
+  abbrev pub one_more : PlacedArea
   one_more = ((pid, first), new)
 
   abbrev pub NoneOverlaps : Map (ℕ × ℕ) Area → Type 0
   NoneOverlaps areas = AllByRecursion (λ a. overlaps pid first (first + new.pages) a ≡ false) areas
 
-  pub apart_from_new : (a : Placed) (q v : ℕ) → overlaps pid first (first + new.pages) a ≡ false → covers a q v ≡ true → covers one_more q v ≡ false
+  pub apart_from_new : (a : PlacedArea) (q v : ℕ) → overlaps pid first (first + new.pages) a ≡ false → covers a q v ≡ true → covers one_more q v ≡ false
   apart_from_new a q v h c = false_from_ne_true _ (λ k.
       let parts = covers_parts one_more q v k in
       covered_twice a pid first (first + new.pages) q v h c (sym parts.0) parts.1 parts.2)
 
   -- the key is new
-  pub other_key : (a : Placed) → 0 < a.1.pages → 0 < new.pages → overlaps pid first (first + new.pages) a ≡ false → spot_cmp (pid, first) a.0 ≡ Equal → ⊥
+  pub other_key : (a : PlacedArea) → 0 < a.1.pages → 0 < new.pages → overlaps pid first (first + new.pages) a ≡ false → spot_cmp (pid, first) a.0 ≡ Equal → ⊥
   other_key a some fresh h e =
       let same = exact_pairs nat_cmp nat_cmp exact_unsigned exact_unsigned (pid, first) a.0 e in
       let at : first ≡ a.0.1 = ap (λ (z : ℕ × ℕ). z.1) same in
@@ -84,7 +84,7 @@ module _ (pid first : ℕ) (new : Area) where
       ] refl
 
   -- what holds of an area and of all others holds of all
-  pub each_set : (P : Placed → Type 0) (areas : Map (ℕ × ℕ) Area) → ((a : Placed) → spot_cmp (pid, first) a.0 ≡ Equal → P (a.0, new)) → P one_more → AllByRecursion P areas → AllByRecursion P (set spot_cmp areas (pid, first) new)
+  pub each_set : (P : PlacedArea → Type 0) (areas : Map (ℕ × ℕ) Area) → ((a : PlacedArea) → spot_cmp (pid, first) a.0 ≡ Equal → P (a.0, new)) → P one_more → AllByRecursion P areas → AllByRecursion P (set spot_cmp areas (pid, first) new)
   each_set P [] same p h = (p, tt)
   each_set P (a ∷ areas) same p h =
       elim (spot_cmp (pid, first) a.0) as (λ r. spot_cmp (pid, first) a.0 ≡ r → AllByRecursion P (match_ordering r (one_more ∷ a ∷ areas) ((a.0, new) ∷ areas) (a ∷ set spot_cmp areas (pid, first) new))) [
@@ -97,7 +97,7 @@ module _ (pid first : ℕ) (new : Area) where
   all_apart [] h = tt
   all_apart (a ∷ areas) h = (λ q v c. false_from_ne_true _ (λ k. true_false (sym c ∙ apart_from_new a q v h.0 k)), all_apart areas h.1)
 
-  pub same_key : (a : Placed) → spot_cmp (pid, first) a.0 ≡ Equal → (a.0, new) ≡ one_more
+  pub same_key : (a : PlacedArea) → spot_cmp (pid, first) a.0 ≡ Equal → (a.0, new) ≡ one_more
   same_key a e = ap (λ (z : ℕ × ℕ). (z, new)) (sym (exact_pairs nat_cmp nat_cmp exact_unsigned exact_unsigned (pid, first) a.0 e))
 
   pub apart-set : (areas : Map (ℕ × ℕ) Area) → 0 < new.pages → AllByRecursion (λ a. 0 < a.1.pages) areas → NoneOverlaps areas → AreasAreApart areas → AreasAreApart (set spot_cmp areas (pid, first) new)
@@ -107,18 +107,18 @@ module _ (pid first : ℕ) (new : Area) where
         | Less ↦ λ r. (all_apart (a ∷ areas) h, d)
         | Equal ↦ λ r. absurd (other_key a some.0 fresh h.0 r)
         | Greater ↦ λ r.
-            let Apart : Placed → Type 0 = λ b. (q v : ℕ) → covers a q v ≡ true → covers b q v ≡ false in
+            let Apart : PlacedArea → Type 0 = λ b. (q v : ℕ) → covers a q v ≡ true → covers b q v ≡ false in
             let new_too : Apart one_more = λ q v c. apart_from_new a q v h.0 c in
             (each_set Apart areas (λ b e. subst Apart (sym (same_key b e)) new_too) new_too d.0, apart-set areas fresh some.1 h.1 d.1)
       ] refl
 
 -- what follows for each area
-pub all_then : (areas : Map (ℕ × ℕ) Area) (P Q : Placed → Type 0) → ((a : Placed) → P a → Q a) → AllByRecursion P areas → AllByRecursion Q areas
+pub all_then : (areas : Map (ℕ × ℕ) Area) (P Q : PlacedArea → Type 0) → ((a : PlacedArea) → P a → Q a) → AllByRecursion P areas → AllByRecursion Q areas
 all_then [] P Q f h = tt
 all_then (a ∷ areas) P Q f h = (f a h.0, all_then areas P Q f h.1)
 
 -- none of the areas passes
-pub all_from_none : (areas : Map (ℕ × ℕ) Area) (test : Placed → Bool) → list_any test areas ≡ false → AllByRecursion (λ a. test a ≡ false) areas
+pub all_from_none : (areas : Map (ℕ × ℕ) Area) (test : PlacedArea → Bool) → list_any test areas ≡ false → AllByRecursion (λ a. test a ≡ false) areas
 all_from_none [] test h = tt
 all_from_none (a ∷ areas) test h =
     elim (test a) as (λ b. (b || list_any test areas) ≡ false → (b ≡ false) × AllByRecursion (λ a. test a ≡ false) areas) [

@@ -13,7 +13,7 @@ use Rattle.nm_types.specs.declared.page.Page.{Page}
 use Rattle.nm_types.specs.declared.area.Area.{Area}
 use Rattle.nm_types.specs.declared.area.Segment.{Segment}
 use Rattle.nm_types.specs.Map.{Map, set, replace, without, spot_cmp}
-use Rattle.nm_types.specs.State.{Placed, covers, area_over}
+use Rattle.nm_types.specs.State.{PlacedArea, covers, area_over}
 use Rattle.nm_types.proofs.Cases.{true_false, none_some, some_is}
 use Rattle.nm_model.specs.definitions.Areas.{before, behind, parts_outside, AreasAreApart, IsSomePages, split_at}
 use Rattle.nm_model.specs.views.Table.{with_areas, Table}
@@ -24,63 +24,63 @@ use Rattle.nm_model.proofs.areas.Halves.{less_to, less_from, among_keys}
 use Rattle.nm_model.proofs.areas.Overs.{spot_same, spot_behind}
 
 -- an area up to a page number ..
-abbrev pub shorter : ℕ → Placed → Area
+abbrev pub shorter : ℕ → PlacedArea → Area
 shorter at a = record (a.1) { pages = at - a.0.1 }
 
 -- .. and from it on
-abbrev pub later : ℕ → Placed → Area
+abbrev pub later : ℕ → PlacedArea → Area
 later at a =
     let page : Page = record { segment = a.1.page.segment; index = a.1.page.index + (at - a.0.1) } in
     record (a.1) { pages = a.1.pages - (at - a.0.1); page = page }
 
 -- areas of the same page numbers and pages are the same
-pub same_placed : (a b : Placed) → a.0.0 ≡ b.0.0 → a.0.1 ≡ b.0.1 → a.1.pages ≡ b.1.pages → a.1.policy ≡ b.1.policy → a.1.page.segment ≡ b.1.page.segment → a.1.page.index ≡ b.1.page.index → a ≡ b
+pub same_placed : (a b : PlacedArea) → a.0.0 ≡ b.0.0 → a.0.1 ≡ b.0.1 → a.1.pages ≡ b.1.pages → a.1.policy ≡ b.1.policy → a.1.page.segment ≡ b.1.page.segment → a.1.page.index ≡ b.1.page.index → a ≡ b
 same_placed a b p v n o s i = λ t. ((p t, v t), record { pages = n t; policy = o t; page = record { segment = s t; index = i t } })
 
-pub one : {a b : Placed} → a ≡ b → a ∷ [] ≡ b ∷ []
+pub one : {a b : PlacedArea} → a ≡ b → a ∷ [] ≡ b ∷ []
 one e = ap (λ x. x ∷ []) e
 
 -- ---- in front of a page number and from it on
 
-abbrev pub front_of : ℕ → Placed → Placed
+abbrev pub front_of : ℕ → PlacedArea → PlacedArea
 front_of at a = (a.0, record (a.1) { pages = min a.1.pages (at - a.0.1) })
 
-pub before_none : (at : ℕ) (a : Placed) → at ≤ a.0.1 → before at a ≡ []
+pub before_none : (at : ℕ) (a : PlacedArea) → at ≤ a.0.1 → before at a ≡ []
 before_none at a low =
     elim (nat_lt a.0.1 at) as (λ b. nat_lt a.0.1 at ≡ b → cond b (front_of at a ∷ []) [] ≡ []) [
       | true ↦ λ b. let high : a.0.1 < at = ltb-true a.0.1 at b in absurd (omega (arith, low, high))
       | false ↦ λ b. refl
     ] refl
 
-pub before_some : (at : ℕ) (a : Placed) → a.0.1 < at → before at a ≡ front_of at a ∷ []
+pub before_some : (at : ℕ) (a : PlacedArea) → a.0.1 < at → before at a ≡ front_of at a ∷ []
 before_some at a high = ap (λ b. cond b (front_of at a ∷ []) []) (lt-ltb a.0.1 at high)
 
-abbrev pub rest_of : ℕ → Placed → Placed
+abbrev pub rest_of : ℕ → PlacedArea → PlacedArea
 rest_of at a =
     let from = max at a.0.1 in
     let page : Page = record { segment = a.1.page.segment; index = a.1.page.index + (from - a.0.1) } in
     let rest : Area = record (a.1) { pages = (a.0.1 + a.1.pages) - from; page = page } in
     ((a.0.0, from), rest)
 
-pub behind_none : (at : ℕ) (a : Placed) → 0 < a.1.pages → behind_last a ≤ at → behind at a ≡ []
+pub behind_none : (at : ℕ) (a : PlacedArea) → 0 < a.1.pages → behind_last a ≤ at → behind at a ≡ []
 behind_none at a some high =
     elim (nat_lt (max at a.0.1) (behind_last a)) as (λ b. nat_lt (max at a.0.1) (behind_last a) ≡ b → cond b (rest_of at a ∷ []) [] ≡ []) [
       | true ↦ λ b. let low : max at a.0.1 < behind_last a = ltb-true (max at a.0.1) (behind_last a) b in absurd (omega (arith, low, high))
       | false ↦ λ b. refl
     ] refl
 
-pub behind_some : (at : ℕ) (a : Placed) → 0 < a.1.pages → at < behind_last a → behind at a ≡ rest_of at a ∷ []
+pub behind_some : (at : ℕ) (a : PlacedArea) → 0 < a.1.pages → at < behind_last a → behind at a ≡ rest_of at a ∷ []
 behind_some at a some low = ap (λ b. cond b (rest_of at a ∷ []) []) (lt-ltb (max at a.0.1) (behind_last a) (omega (arith, some, low)))
 
 -- ---- an area that is split
 
-pub cut_other : (pid at : ℕ) (a : Placed) → (a.0.0 ≡ pid → ⊥) → parts_outside pid at at a ≡ a ∷ []
+pub cut_other : (pid at : ℕ) (a : PlacedArea) → (a.0.0 ≡ pid → ⊥) → parts_outside pid at at a ≡ a ∷ []
 cut_other pid at a h = ap (λ b. cond b (before at a ++ behind at a) (a ∷ [])) (false_from_ne_true (a.0.0 == pid) (λ e. h (eqb-true a.0.0 pid e)))
 
-own_parts : (pid at : ℕ) (a : Placed) → a.0.0 ≡ pid → parts_outside pid at at a ≡ before at a ++ behind at a
+own_parts : (pid at : ℕ) (a : PlacedArea) → a.0.0 ≡ pid → parts_outside pid at at a ≡ before at a ++ behind at a
 own_parts pid at a e = ap (λ b. cond b (before at a ++ behind at a) (a ∷ [])) (eq-eqb a.0.0 pid e)
 
-pub cut_low : (pid at : ℕ) (a : Placed) → 0 < a.1.pages → behind_last a ≤ at → parts_outside pid at at a ≡ a ∷ []
+pub cut_low : (pid at : ℕ) (a : PlacedArea) → 0 < a.1.pages → behind_last a ≤ at → parts_outside pid at at a ≡ a ∷ []
 cut_low pid at a some high =
     elim (a.0.0 == pid) as (λ b. cond b (before at a ++ behind at a) (a ∷ []) ≡ a ∷ []) [
       | false ↦ refl
@@ -89,7 +89,7 @@ cut_low pid at a some high =
           ∙ one (same_placed (front_of at a) a refl refl (omega (arith, high)) refl refl refl)
     ]
 
-pub cut_high : (pid at : ℕ) (a : Placed) → 0 < a.1.pages → at ≤ a.0.1 → parts_outside pid at at a ≡ a ∷ []
+pub cut_high : (pid at : ℕ) (a : PlacedArea) → 0 < a.1.pages → at ≤ a.0.1 → parts_outside pid at at a ≡ a ∷ []
 cut_high pid at a some low =
     elim (a.0.0 == pid) as (λ b. cond b (before at a ++ behind at a) (a ∷ []) ≡ a ∷ []) [
       | false ↦ refl
@@ -98,7 +98,7 @@ cut_high pid at a some low =
           ∙ one (same_placed (rest_of at a) a refl (omega (arith, low)) (omega (arith, low)) refl refl (omega (arith, low)))
     ]
 
-pub cut_mid : (pid at : ℕ) (a : Placed) → a.0.0 ≡ pid → a.0.1 < at → at < behind_last a → parts_outside pid at at a ≡ (a.0, shorter at a) ∷ ((a.0.0, at), later at a) ∷ []
+pub cut_mid : (pid at : ℕ) (a : PlacedArea) → a.0.0 ≡ pid → a.0.1 < at → at < behind_last a → parts_outside pid at at a ≡ (a.0, shorter at a) ∷ ((a.0.0, at), later at a) ∷ []
 cut_mid pid at a own low high =
     own_parts pid at a own
     ∙ ap (λ xs. xs ++ behind at a) (before_some at a low) ∙ ap (λ xs. front_of at a ∷ xs) (behind_some at a (omega (arith, low, high)) high)
@@ -106,7 +106,7 @@ cut_mid pid at a own low high =
     ∙ ap (λ x. (a.0, shorter at a) ∷ x ∷ []) (same_placed (rest_of at a) ((a.0.0, at), later at a) refl (omega (arith, low)) (omega (arith, low)) refl refl (omega (arith, low)))
 
 -- an area that does not cover the page number, or begins there, stays as it is
-pub cut_not : (pid at : ℕ) (a : Placed) → 0 < a.1.pages → (a.0.0 ≡ pid → a.0.1 < at → at < behind_last a → ⊥) → parts_outside pid at at a ≡ a ∷ []
+pub cut_not : (pid at : ℕ) (a : PlacedArea) → 0 < a.1.pages → (a.0.0 ≡ pid → a.0.1 < at → at < behind_last a → ⊥) → parts_outside pid at at a ≡ a ∷ []
 cut_not pid at a some h =
     elim (nat_lt a.0.1 at) as (λ b. nat_lt a.0.1 at ≡ b → parts_outside pid at at a ≡ a ∷ []) [
       | false ↦ λ b. cut_high pid at a some (ltb-false a.0.1 at b)
@@ -117,19 +117,19 @@ cut_not pid at a some h =
     ] refl
 
 -- no area is split
-pub split_none : (pid at : ℕ) (areas : Map (ℕ × ℕ) Area) → AllByRecursion IsSomePages areas → ((a : Placed) → Among a areas → a.0.0 ≡ pid → a.0.1 < at → at < behind_last a → ⊥) → split_at pid at areas ≡ areas
+pub split_none : (pid at : ℕ) (areas : Map (ℕ × ℕ) Area) → AllByRecursion IsSomePages areas → ((a : PlacedArea) → Among a areas → a.0.0 ≡ pid → a.0.1 < at → at < behind_last a → ⊥) → split_at pid at areas ≡ areas
 split_none pid at [] some h = refl
 split_none pid at (a ∷ areas) some h =
     ap (λ xs. xs ++ split_at pid at areas) (cut_not pid at a some.0 (h a (inl refl))) ∙ ap (λ xs. a ∷ xs) (split_none pid at areas some.1 (λ b m. h b (inr m)))
 
 -- ---- one area is split
 
-module _ (pid at : ℕ) (a : Placed) (own : a.0.0 ≡ pid) (low : a.0.1 < at) (high : at < behind_last a) where
+module _ (pid at : ℕ) (a : PlacedArea) (own : a.0.0 ≡ pid) (low : a.0.1 < at) (high : at < behind_last a) where
   at_it : covers a pid at ≡ true
   at_it = covers_from a pid at own (omega (arith, low)) high
 
   -- an area after it
-  comes_later : (y : Placed) → ((q v : ℕ) → covers a q v ≡ true → covers y q v ≡ false) → 0 < y.1.pages → spot_cmp a.0 y.0 ≡ Less → spot_cmp (pid, at) y.0 ≡ Less
+  comes_later : (y : PlacedArea) → ((q v : ℕ) → covers a q v ≡ true → covers y q v ≡ false) → 0 < y.1.pages → spot_cmp a.0 y.0 ≡ Less → spot_cmp (pid, at) y.0 ≡ Less
   comes_later y apart some less =
       less_from (pid, at) y.0 (elim (less_to a.0 y.0 less) as (λ _. (pid < y.0.0) ⊎ ((pid ≡ y.0.0) × (at < y.0.1))) [
         | inl k ↦ inl (omega (arith, k, own))
@@ -182,7 +182,7 @@ module _ (pid at : ℕ) (a : Placed) (own : a.0.0 ≡ pid) (low : a.0.1 < at) (h
         ∙ ap (λ r. cond (is_eq r) ((a.0, a.1) ∷ xs) ((a.0, shorter at a) ∷ replace spot_cmp xs a.0 a.1)) (tied_itself spot_cmp_total a.0)
 
   -- an area before it
-  module _ (x : Placed) (some : 0 < x.1.pages) (apart : (q v : ℕ) → covers x q v ≡ true → covers a q v ≡ false) (less : spot_cmp x.0 a.0 ≡ Less) where
+  module _ (x : PlacedArea) (some : 0 < x.1.pages) (apart : (q v : ℕ) → covers x q v ≡ true → covers a q v ≡ false) (less : spot_cmp x.0 a.0 ≡ Less) where
     front_stays : parts_outside pid at at x ≡ x ∷ []
     front_stays = cut_not pid at x some (λ of from to. true_false (sym at_it ∙ apart pid at (covers_from x pid at of (omega (arith, from)) to)))
 
@@ -217,25 +217,25 @@ module _ (pid at : ℕ) (a : Placed) (own : a.0.0 ≡ pid) (low : a.0.1 < at) (h
         ∙ ap (λ ys. x ∷ ys) is
 
 -- one more area from the page number on, and the one in front shorter
-pub split_is : (pid at : ℕ) (a : Placed) → a.0.0 ≡ pid → a.0.1 < at → at < behind_last a → (areas : Map (ℕ × ℕ) Area) → AllByRecursion IsSomePages areas → AreasAreApart areas → IsStrictlySortedBy spot_cmp (keys_of areas) → Among a areas
+pub split_is : (pid at : ℕ) (a : PlacedArea) → a.0.0 ≡ pid → a.0.1 < at → at < behind_last a → (areas : Map (ℕ × ℕ) Area) → AllByRecursion IsSomePages areas → AreasAreApart areas → IsStrictlySortedBy spot_cmp (keys_of areas) → Among a areas
     → replace spot_cmp (set spot_cmp areas (pid, at) (later at a)) a.0 (shorter at a) ≡ split_at pid at areas
 split_is pid at a own low high [] some apart sorted m = absurd m
 split_is pid at a own low high (x ∷ areas) some apart sorted (inl e) =
-    subst (λ (y : Placed). replace spot_cmp (set spot_cmp (y ∷ areas) (pid, at) (later at a)) a.0 (shorter at a) ≡ split_at pid at (y ∷ areas)) e
-    (first_is pid at a own low high areas some.1 (subst (λ (y : Placed). AllByRecursion (λ b. (q v : ℕ) → covers y q v ≡ true → covers b q v ≡ false) areas) (sym e) apart.0)
-    (subst (λ (y : Placed). AllByRecursion (λ k. spot_cmp y.0 k ≡ Less) (keys_of areas)) (sym e) (sorted_head spot_cmp x.0 (keys_of areas) sorted)))
+    subst (λ (y : PlacedArea). replace spot_cmp (set spot_cmp (y ∷ areas) (pid, at) (later at a)) a.0 (shorter at a) ≡ split_at pid at (y ∷ areas)) e
+    (first_is pid at a own low high areas some.1 (subst (λ (y : PlacedArea). AllByRecursion (λ b. (q v : ℕ) → covers y q v ≡ true → covers b q v ≡ false) areas) (sym e) apart.0)
+    (subst (λ (y : PlacedArea). AllByRecursion (λ k. spot_cmp y.0 k ≡ Less) (keys_of areas)) (sym e) (sorted_head spot_cmp x.0 (keys_of areas) sorted)))
 split_is pid at a own low high (x ∷ areas) some apart sorted (inr m) =
     later_is pid at a own low high x some.0 (All-among (λ b. (q v : ℕ) → covers x q v ≡ true → covers b q v ≡ false) areas a apart.0 m) (among_keys (λ k. spot_cmp x.0 k ≡ Less) areas a (sorted_head spot_cmp x.0 (keys_of areas) sorted) m) areas
     (split_is pid at a own low high areas some.1 apart.1 (sorted_tail spot_cmp x.0 (keys_of areas) sorted) m)
 
 -- without it, and with the old length in front, the areas are as they were
-pub split_back : (pid at : ℕ) (a : Placed) → a.0.0 ≡ pid → a.0.1 < at → at < behind_last a → (areas : Map (ℕ × ℕ) Area) → AllByRecursion IsSomePages areas → AreasAreApart areas → IsStrictlySortedBy spot_cmp (keys_of areas) → Among a areas
+pub split_back : (pid at : ℕ) (a : PlacedArea) → a.0.0 ≡ pid → a.0.1 < at → at < behind_last a → (areas : Map (ℕ × ℕ) Area) → AllByRecursion IsSomePages areas → AreasAreApart areas → IsStrictlySortedBy spot_cmp (keys_of areas) → Among a areas
     → replace spot_cmp (without spot_cmp (split_at pid at areas) (pid, at)) a.0 a.1 ≡ areas
 split_back pid at a own low high [] some apart sorted m = absurd m
 split_back pid at a own low high (x ∷ areas) some apart sorted (inl e) =
-    subst (λ (y : Placed). replace spot_cmp (without spot_cmp (split_at pid at (y ∷ areas)) (pid, at)) a.0 a.1 ≡ y ∷ areas) e
-    (first_back pid at a own low high areas some.1 (subst (λ (y : Placed). AllByRecursion (λ b. (q v : ℕ) → covers y q v ≡ true → covers b q v ≡ false) areas) (sym e) apart.0)
-    (subst (λ (y : Placed). AllByRecursion (λ k. spot_cmp y.0 k ≡ Less) (keys_of areas)) (sym e) (sorted_head spot_cmp x.0 (keys_of areas) sorted)))
+    subst (λ (y : PlacedArea). replace spot_cmp (without spot_cmp (split_at pid at (y ∷ areas)) (pid, at)) a.0 a.1 ≡ y ∷ areas) e
+    (first_back pid at a own low high areas some.1 (subst (λ (y : PlacedArea). AllByRecursion (λ b. (q v : ℕ) → covers y q v ≡ true → covers b q v ≡ false) areas) (sym e) apart.0)
+    (subst (λ (y : PlacedArea). AllByRecursion (λ k. spot_cmp y.0 k ≡ Less) (keys_of areas)) (sym e) (sorted_head spot_cmp x.0 (keys_of areas) sorted)))
 split_back pid at a own low high (x ∷ areas) some apart sorted (inr m) =
     later_back pid at a own low high x some.0 (All-among (λ b. (q v : ℕ) → covers x q v ≡ true → covers b q v ≡ false) areas a apart.0 m) (among_keys (λ k. spot_cmp x.0 k ≡ Less) areas a (sorted_head spot_cmp x.0 (keys_of areas) sorted) m) areas
     (split_back pid at a own low high areas some.1 apart.1 (sorted_tail spot_cmp x.0 (keys_of areas) sorted) m)
@@ -243,13 +243,13 @@ split_back pid at a own low high (x ∷ areas) some apart sorted (inr m) =
 -- ---- what the area over a page number tells
 
 -- there is nothing to split
-pub split_nothing : (pid at : ℕ) (areas : Map (ℕ × ℕ) Area) (o : Option Placed) → AllByRecursion IsSomePages areas → AreasAreApart areas → o ≡ area_over areas pid at → IfSome o (λ e. at ≤ e.0.1) → split_at pid at areas ≡ areas
+pub split_nothing : (pid at : ℕ) (areas : Map (ℕ × ℕ) Area) (o : Option PlacedArea) → AllByRecursion IsSomePages areas → AreasAreApart areas → o ≡ area_over areas pid at → IfSome o (λ e. at ≤ e.0.1) → split_at pid at areas ≡ areas
 split_nothing pid at areas None some apart h begins =
     split_none pid at areas some (λ a m own low high. none_some (h ∙ over_among areas pid at a apart m (covers_from a pid at own (omega (arith, low)) high)))
 split_nothing pid at areas (Some e) some apart h begins =
     split_none pid at areas some (λ a m own low high.
     let same : e ≡ a = some_is (h ∙ over_among areas pid at a apart m (covers_from a pid at own (omega (arith, low)) high)) in
-    let start : e.0.1 ≡ a.0.1 = ap (λ (y : Placed). y.0.1) same in
+    let start : e.0.1 ≡ a.0.1 = ap (λ (y : PlacedArea). y.0.1) same in
     absurd (omega (arith, start, low, begins)))
 
 -- it is there, begins no later and ends after the page number
@@ -265,7 +265,7 @@ pub split_made : (pid at start n : ℕ) (area : Area) (now more new : Table) →
     → more ≡ with_areas now (set spot_cmp now.areas (pid, at) (record { pages = area.pages - n; policy = area.policy; page = record { segment = area.page.segment; index = area.page.index + n } }))
     → new ≡ with_areas more (replace spot_cmp more.areas (pid, start) (record { pages = n; policy = area.policy; page = area.page })) → new ≡ with_areas now (split_at pid at now.areas)
 split_made pid at start n area now more new over size low some apart sorted added put =
-    let a : Placed = ((pid, start), area) in
+    let a : PlacedArea = ((pid, start), area) in
     let facts = over_facts pid at now.areas start area over in
     put ∙ ap (λ (m : Table). with_areas m (replace spot_cmp m.areas (pid, start) (record { pages = n; policy = area.policy; page = area.page }))) added
     ∙ ap (λ (k : ℕ). with_areas now (replace spot_cmp (set spot_cmp now.areas (pid, at) (record { pages = area.pages - k; policy = area.policy; page = record { segment = area.page.segment; index = area.page.index + k } })) (pid, start) (record { pages = k; policy = area.policy; page = area.page }))) size

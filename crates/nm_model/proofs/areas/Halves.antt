@@ -12,17 +12,17 @@ use Rattle.std.proofs.lemmas.Map.Keys.{sorted_head, sorted_tail}
 use Rattle.nm_types.specs.declared.page.Page.{Page}
 use Rattle.nm_types.specs.declared.area.Area.{Area}
 use Rattle.nm_types.specs.Map.{Map, spot_cmp}
-use Rattle.nm_types.specs.State.{Placed, covers}
+use Rattle.nm_types.specs.State.{PlacedArea, covers}
 use Rattle.nm_types.proofs.Cases.{true_false}
 use Rattle.nm_model.specs.definitions.Areas.{before, behind, parts_outside, AreasAreApart}
 use Rattle.nm_model.proofs.areas.Apart.{behind_last, covers_parts, covers_from}
 use Rattle.nm_model.proofs.areas.Parted.{Among, All-among, all_from_among, among_either, among_flat, IsPart, before_part, behind_part, part_of, part_covers}
 
 -- never both cover one page number
-abbrev Apart : Placed → Placed → Type 0
+abbrev Apart : PlacedArea → PlacedArea → Type 0
 Apart b c = (q v : ℕ) → covers b q v ≡ true → covers c q v ≡ false
 
-append_apart : (xs ys : List Placed) → AreasAreApart xs → AreasAreApart ys → ((b c : Placed) → Among b xs → Among c ys → Apart b c) → AreasAreApart (xs ++ ys)
+append_apart : (xs ys : List PlacedArea) → AreasAreApart xs → AreasAreApart ys → ((b c : PlacedArea) → Among b xs → Among c ys → Apart b c) → AreasAreApart (xs ++ ys)
 append_apart [] ys h k cross = k
 append_apart (x ∷ xs) ys h k cross = (
   all_from_among (Apart x) (xs ++ ys) (λ c m. elim (among_either xs ys c m) as (λ _. Apart x c) [
@@ -33,44 +33,44 @@ append_apart (x ∷ xs) ys h k cross = (
 )
 
 -- one before the range, and one after it
-two_apart : (b c : Placed) (first end : ℕ) → behind_last b ≤ first → first ≤ end → end ≤ c.0.1 → Apart b c
+two_apart : (b c : PlacedArea) (first end : ℕ) → behind_last b ≤ first → first ≤ end → end ≤ c.0.1 → Apart b c
 two_apart b c first end low mid high = λ q v k. false_from_ne_true _ (λ j.
     let front = covers_parts b q v k in
     let back = covers_parts c q v j in
     absurd (omega (arith, front.2, back.1, low, mid, high)))
 
 module _ (pid first end : ℕ) (range : first ≤ end) where
-  before_apart : (a : Placed) → AreasAreApart (before first a)
+  before_apart : (a : PlacedArea) → AreasAreApart (before first a)
   before_apart a = elim (nat_lt a.0.1 first) as (λ t. AreasAreApart (cond t ((a.0, record (a.1) { pages = min a.1.pages (first - a.0.1) }) ∷ []) [])) [ true ↦ (tt, tt) | false ↦ tt ]
 
-  behind_apart : (a : Placed) → AreasAreApart (behind end a)
+  behind_apart : (a : PlacedArea) → AreasAreApart (behind end a)
   behind_apart a =
       let from = max end a.0.1 in
       let page : Page = record { segment = a.1.page.segment; index = a.1.page.index + (from - a.0.1) } in
       let rest : Area = record (a.1) { pages = (a.0.1 + a.1.pages) - from; page = page } in
       elim (nat_lt from (a.0.1 + a.1.pages)) as (λ t. AreasAreApart (cond t (((a.0.0, from), rest) ∷ []) [])) [ true ↦ (tt, tt) | false ↦ tt ]
 
-  before_ends : (a b : Placed) → Among b (before first a) → behind_last b ≤ first
+  before_ends : (a b : PlacedArea) → Among b (before first a) → behind_last b ≤ first
   before_ends a b m =
       elim (nat_lt a.0.1 first) as (λ t. nat_lt a.0.1 first ≡ t → Among b (cond t ((a.0, record (a.1) { pages = min a.1.pages (first - a.0.1) }) ∷ []) []) → behind_last b ≤ first) [
         | true ↦ λ t m. elim m as (λ _. behind_last b ≤ first) [
-          | inl e ↦ let left : a.0.1 < first = ltb-true a.0.1 first t in subst (λ (y : Placed). behind_last y ≤ first) (sym e) (omega arith)
+          | inl e ↦ let left : a.0.1 < first = ltb-true a.0.1 first t in subst (λ (y : PlacedArea). behind_last y ≤ first) (sym e) (omega arith)
           | inr k ↦ absurd k
         ]
         | false ↦ λ t m. absurd m
       ] refl m
 
-  behind_begins : (a b : Placed) → Among b (behind end a) → end ≤ b.0.1
+  behind_begins : (a b : PlacedArea) → Among b (behind end a) → end ≤ b.0.1
   behind_begins a b m =
       let from = max end a.0.1 in
       let page : Page = record { segment = a.1.page.segment; index = a.1.page.index + (from - a.0.1) } in
       let rest : Area = record (a.1) { pages = (a.0.1 + a.1.pages) - from; page = page } in
       elim (nat_lt from (a.0.1 + a.1.pages)) as (λ t. Among b (cond t (((a.0.0, from), rest) ∷ []) []) → end ≤ b.0.1) [
-        | true ↦ λ m. elim m as (λ _. end ≤ b.0.1) [ inl e ↦ subst (λ (y : Placed). end ≤ y.0.1) (sym e) (omega arith) | inr k ↦ absurd k ]
+        | true ↦ λ m. elim m as (λ _. end ≤ b.0.1) [ inl e ↦ subst (λ (y : PlacedArea). end ≤ y.0.1) (sym e) (omega arith) | inr k ↦ absurd k ]
         | false ↦ λ m. absurd m
       ] m
 
-  parts_apart : (a : Placed) → AreasAreApart (parts_outside pid first end a)
+  parts_apart : (a : PlacedArea) → AreasAreApart (parts_outside pid first end a)
   parts_apart a =
       elim (a.0.0 == pid) as (λ t. AreasAreApart (cond t (before first a ++ behind end a) (a ∷ []))) [
         | true ↦ append_apart (before first a) (behind end a) (before_apart a) (behind_apart a) (λ b c m n. two_apart b c first end (before_ends a b m) range (behind_begins a c n))
@@ -78,7 +78,7 @@ module _ (pid first end : ℕ) (range : first ≤ end) where
       ]
 
   -- parts of areas that are apart
-  parts_of_two : (a y b c : Placed) → Apart a y → IsPart pid first end a b → IsPart pid first end y c → Apart b c
+  parts_of_two : (a y b c : PlacedArea) → Apart a y → IsPart pid first end a b → IsPart pid first end y c → Apart b c
   parts_of_two a y b c h p r = λ q v k. false_from_ne_true _ (λ j. true_false (sym (part_covers pid first end y c q v r j) ∙ h q v (part_covers pid first end a b q v p k)))
 
   pub flat_apart : (areas : Map (ℕ × ℕ) Area) → AllByRecursion (λ a. 0 < a.1.pages) areas → AreasAreApart areas → AreasAreApart (flat_map (parts_outside pid first end) areas)
@@ -105,16 +105,16 @@ less_to a b h =
       | Greater ↦ λ r k. absurd (greater_less k)
     ] refl h
 
-keys_from_among : (P : ℕ × ℕ → Type 0) (areas : List Placed) → ((a : Placed) → Among a areas → P a.0) → AllByRecursion P (keys_of areas)
+keys_from_among : (P : ℕ × ℕ → Type 0) (areas : List PlacedArea) → ((a : PlacedArea) → Among a areas → P a.0) → AllByRecursion P (keys_of areas)
 keys_from_among P [] h = tt
 keys_from_among P (x ∷ areas) h = (h x (inl refl), keys_from_among P areas (λ a m. h a (inr m)))
 
-pub among_keys : (P : ℕ × ℕ → Type 0) (areas : List Placed) (a : Placed) → AllByRecursion P (keys_of areas) → Among a areas → P a.0
+pub among_keys : (P : ℕ × ℕ → Type 0) (areas : List PlacedArea) (a : PlacedArea) → AllByRecursion P (keys_of areas) → Among a areas → P a.0
 among_keys P [] a h m = absurd m
-among_keys P (x ∷ areas) a h (inl e) = subst (λ (y : Placed). P y.0) (sym e) h.0
+among_keys P (x ∷ areas) a h (inl e) = subst (λ (y : PlacedArea). P y.0) (sym e) h.0
 among_keys P (x ∷ areas) a h (inr m) = among_keys P areas a h.1 m
 
-append_sorted : (xs ys : List Placed) → IsStrictlySortedBy spot_cmp (keys_of xs) → IsStrictlySortedBy spot_cmp (keys_of ys) → ((b c : Placed) → Among b xs → Among c ys → spot_cmp b.0 c.0 ≡ Less) → IsStrictlySortedBy spot_cmp (keys_of (xs ++ ys))
+append_sorted : (xs ys : List PlacedArea) → IsStrictlySortedBy spot_cmp (keys_of xs) → IsStrictlySortedBy spot_cmp (keys_of ys) → ((b c : PlacedArea) → Among b xs → Among c ys → spot_cmp b.0 c.0 ≡ Less) → IsStrictlySortedBy spot_cmp (keys_of (xs ++ ys))
 unfolding IsStrictlySortedBy
 append_sorted [] ys h k cross = k
 append_sorted (x ∷ xs) ys h k cross = (
@@ -126,11 +126,11 @@ append_sorted (x ∷ xs) ys h k cross = (
 )
 
 module _ (pid first end : ℕ) (range : first ≤ end) where
-  before_sorted : (a : Placed) → IsStrictlySortedBy spot_cmp (keys_of (before first a))
+  before_sorted : (a : PlacedArea) → IsStrictlySortedBy spot_cmp (keys_of (before first a))
   unfolding IsStrictlySortedBy
   before_sorted a = elim (nat_lt a.0.1 first) as (λ t. IsStrictlySortedBy spot_cmp (keys_of (cond t ((a.0, record (a.1) { pages = min a.1.pages (first - a.0.1) }) ∷ []) []))) [ true ↦ (tt, tt) | false ↦ tt ]
 
-  behind_sorted : (a : Placed) → IsStrictlySortedBy spot_cmp (keys_of (behind end a))
+  behind_sorted : (a : PlacedArea) → IsStrictlySortedBy spot_cmp (keys_of (behind end a))
   unfolding IsStrictlySortedBy
   behind_sorted a =
       let from = max end a.0.1 in
@@ -138,11 +138,11 @@ module _ (pid first end : ℕ) (range : first ≤ end) where
       let rest : Area = record (a.1) { pages = (a.0.1 + a.1.pages) - from; page = page } in
       elim (nat_lt from (a.0.1 + a.1.pages)) as (λ t. IsStrictlySortedBy spot_cmp (keys_of (cond t (((a.0.0, from), rest) ∷ []) []))) [ true ↦ (tt, tt) | false ↦ tt ]
 
-  alone_sorted : (a : Placed) → IsStrictlySortedBy spot_cmp (keys_of (a ∷ []))
+  alone_sorted : (a : PlacedArea) → IsStrictlySortedBy spot_cmp (keys_of (a ∷ []))
   unfolding IsStrictlySortedBy
   alone_sorted a = (tt, tt)
 
-  parts_sorted : (a : Placed) → 0 < a.1.pages → IsStrictlySortedBy spot_cmp (keys_of (parts_outside pid first end a))
+  parts_sorted : (a : PlacedArea) → 0 < a.1.pages → IsStrictlySortedBy spot_cmp (keys_of (parts_outside pid first end a))
   parts_sorted a some =
       elim (a.0.0 == pid) as (λ t. (a.0.0 == pid) ≡ t → IsStrictlySortedBy spot_cmp (keys_of (cond t (before first a ++ behind end a) (a ∷ [])))) [
         | true ↦ λ t. append_sorted (before first a) (behind end a) (before_sorted a) (behind_sorted a) (λ b c m n.
@@ -155,7 +155,7 @@ module _ (pid first end : ℕ) (range : first ≤ end) where
       ] refl
 
   -- of two areas of a process the first ends before the second
-  in_front : (a y b c : Placed) → Apart a y → 0 < y.1.pages → IsPart pid first end a b → IsPart pid first end y c → a.0.0 ≡ y.0.0 → a.0.1 < y.0.1 → b.0.1 < c.0.1
+  in_front : (a y b c : PlacedArea) → Apart a y → 0 < y.1.pages → IsPart pid first end a b → IsPart pid first end y c → a.0.0 ≡ y.0.0 → a.0.1 < y.0.1 → b.0.1 < c.0.1
   in_front a y b c h some p r same less =
       elim (nat_lt y.0.1 (behind_last a)) as (λ t. nat_lt y.0.1 (behind_last a) ≡ t → b.0.1 < c.0.1) [
         | true ↦ λ t.
@@ -167,7 +167,7 @@ module _ (pid first end : ℕ) (range : first ≤ end) where
       ] refl
 
   -- parts of areas that are apart and in order
-  parts_in_order : (a y b c : Placed) → Apart a y → 0 < y.1.pages → spot_cmp a.0 y.0 ≡ Less → IsPart pid first end a b → IsPart pid first end y c → spot_cmp b.0 c.0 ≡ Less
+  parts_in_order : (a y b c : PlacedArea) → Apart a y → 0 < y.1.pages → spot_cmp a.0 y.0 ≡ Less → IsPart pid first end a b → IsPart pid first end y c → spot_cmp b.0 c.0 ≡ Less
   parts_in_order a y b c h some less p r =
       less_from b.0 c.0 (elim (less_to a.0 y.0 less) as (λ _. (b.0.0 < c.0.0) ⊎ ((b.0.0 ≡ c.0.0) × (b.0.1 < c.0.1))) [
         | inl k ↦ inl (omega (arith, k, p.process, r.process))

@@ -14,7 +14,7 @@ use Rattle.std.proofs.lemmas.Bool.{and_parts, and_from, eqb-true, ltb-true, lt-l
 use Rattle.std.proofs.lemmas.Map.Lookups.{exact_unsigned, exact_pairs}
 use Rattle.nm_types.specs.declared.area.Area.{Area}
 use Rattle.nm_types.specs.Map.{Map, get, spot_cmp}
-use Rattle.nm_types.specs.State.{Placed, covers, area_over}
+use Rattle.nm_types.specs.State.{PlacedArea, covers, area_over}
 use Rattle.nm_types.proofs.Cases.{true_false, some_is}
 use Rattle.nm_model.specs.definitions.AreaRefusal.{overlaps}
 use Rattle.nm_model.specs.definitions.Areas.{AreasAreApart, IsSomePages}
@@ -106,20 +106,20 @@ get_among (e ∷ areas) k x h =
       | Greater ↦ λ r g. inr (get_among areas k x g)
     ] refl h
 
-among_get : (areas : Map (ℕ × ℕ) Area) (a : Placed) → Among a areas → IsSome (get spot_cmp areas a.0)
+among_get : (areas : Map (ℕ × ℕ) Area) (a : PlacedArea) → Among a areas → IsSome (get spot_cmp areas a.0)
 among_get [] a m = absurd m
 among_get (e ∷ areas) a (inl s) =
-    subst (λ (z : Placed). IsSome (get spot_cmp (z ∷ areas) a.0)) s (ap (λ r. is_some (cond (is_eq r) (Some a.1) (get spot_cmp areas a.0))) (tied_itself spot_cmp_total a.0))
+    subst (λ (z : PlacedArea). IsSome (get spot_cmp (z ∷ areas) a.0)) s (ap (λ r. is_some (cond (is_eq r) (Some a.1) (get spot_cmp areas a.0))) (tied_itself spot_cmp_total a.0))
 among_get (e ∷ areas) a (inr m) =
     elim (is_eq (spot_cmp a.0 e.0)) as (λ b. IsSome (cond b (Some e.1) (get spot_cmp areas a.0))) [
       | true ↦ refl
       | false ↦ among_get areas a m
     ]
 
-pub get_not_none : (areas : Map (ℕ × ℕ) Area) (a : Placed) → Among a areas → get spot_cmp areas a.0 ≡ None → ⊥
+pub get_not_none : (areas : Map (ℕ × ℕ) Area) (a : PlacedArea) → Among a areas → get spot_cmp areas a.0 ≡ None → ⊥
 get_not_none areas a m h = true_false (sym (subst (λ (o : Option Area). is_some o ≡ true) h (among_get areas a m)))
 
-any_none : (test : Placed → Bool) (areas : List Placed) → ((a : Placed) → Among a areas → test a ≡ true → ⊥) → list_any test areas ≡ false
+any_none : (test : PlacedArea → Bool) (areas : List PlacedArea) → ((a : PlacedArea) → Among a areas → test a ≡ true → ⊥) → list_any test areas ≡ false
 any_none test [] h = refl
 any_none test (x ∷ areas) h =
     elim (test x) as (λ b. test x ≡ b → (b || list_any test areas) ≡ false) [
@@ -128,17 +128,17 @@ any_none test (x ∷ areas) h =
     ] refl
 
 -- what it means that an area overlaps
-overlaps_parts : (pid first end : ℕ) (a : Placed) → overlaps pid first end a ≡ true → (a.0.0 ≡ pid) × (a.0.1 < end) × (first < behind_last a)
+overlaps_parts : (pid first end : ℕ) (a : PlacedArea) → overlaps pid first end a ≡ true → (a.0.0 ≡ pid) × (a.0.1 < end) × (first < behind_last a)
 overlaps_parts pid first end a h =
     let both = and_parts ((a.0.0 == pid) && nat_lt a.0.1 end) (nat_lt first (behind_last a)) h in
     let front = and_parts (a.0.0 == pid) (nat_lt a.0.1 end) both.0 in
     (eqb-true a.0.0 pid front.0, ltb-true a.0.1 end front.1, ltb-true first (behind_last a) both.1)
 
-overlaps_from : (pid first end : ℕ) (a : Placed) → a.0.0 ≡ pid → a.0.1 < end → first < behind_last a → overlaps pid first end a ≡ true
+overlaps_from : (pid first end : ℕ) (a : PlacedArea) → a.0.0 ≡ pid → a.0.1 < end → first < behind_last a → overlaps pid first end a ≡ true
 overlaps_from pid first end a e low high = and_from _ _ (and_from _ _ (eq-eqb a.0.0 pid e) (lt-ltb a.0.1 end low)) (lt-ltb first (behind_last a) high)
 
 -- of an area of the process that begins before the end
-free_says : (pid first end : ℕ) (e : Placed) → e.0.0 ≡ pid → e.0.1 < end → nat_le (behind_last e) first ≡ not (overlaps pid first end e)
+free_says : (pid first end : ℕ) (e : PlacedArea) → e.0.0 ≡ pid → e.0.1 < end → nat_le (behind_last e) first ≡ not (overlaps pid first end e)
 free_says pid first end e of low =
     elim (nat_le (behind_last e) first) as (λ b. nat_le (behind_last e) first ≡ b → b ≡ not (overlaps pid first end e)) [
       | true ↦ λ b. ap not (sym (false_from_ne_true _ (λ k.
@@ -150,19 +150,19 @@ free_says pid first end e of low =
 
 module _ (areas : Map (ℕ × ℕ) Area) (apart : AreasAreApart areas) (some : AllByRecursion IsSomePages areas) where
   -- two areas over one page number are one
-  same_area : (pid v : ℕ) (a b : Placed) → Among a areas → Among b areas → covers a pid v ≡ true → covers b pid v ≡ true → a ≡ b
+  same_area : (pid v : ℕ) (a b : PlacedArea) → Among a areas → Among b areas → covers a pid v ≡ true → covers b pid v ≡ true → a ≡ b
   same_area pid v a b m n c k = some_is (sym (over_among areas pid v a apart m c) ∙ over_among areas pid v b apart n k)
 
   -- an area that begins no later, and ends after the first page of another, is that one
-  alone : (a e : Placed) → Among a areas → Among e areas → a.0.0 ≡ e.0.0 → a.0.1 ≤ e.0.1 → e.0.1 < behind_last a → a ≡ e
+  alone : (a e : PlacedArea) → Among a areas → Among e areas → a.0.0 ≡ e.0.0 → a.0.1 ≤ e.0.1 → e.0.1 < behind_last a → a ≡ e
   alone a e m n same low high =
       let has : 0 < e.1.pages = All-among IsSomePages areas e some n in
       same_area e.0.0 e.0.1 a e m n (covers_from a e.0.0 e.0.1 same low high) (covers_from e e.0.0 e.0.1 refl (omega arith) (omega (arith, has)))
 
   -- the last area at a spot or before it covers it, or none does
-  over_last : (pid v : ℕ) (e : Placed) → Among e areas → is_gt (spot_cmp e.0 (pid, v)) ≡ false
+  over_last : (pid v : ℕ) (e : PlacedArea) → Among e areas → is_gt (spot_cmp e.0 (pid, v)) ≡ false
       → ((q : ℕ × ℕ) → is_gt (spot_cmp q (pid, v)) ≡ false → IsSome (get spot_cmp areas q) → is_lt (spot_cmp e.0 q) ≡ false)
-      → (a : Placed) → Among a areas → covers a pid v ≡ true → a ≡ e
+      → (a : PlacedArea) → Among a areas → covers a pid v ≡ true → a ≡ e
   over_last pid v e n at last a m c =
       let parts = covers_parts a pid v c in
       let order : UpTo a.0 e.0 = not_before e.0 a.0 (last a.0 (from_up_to a.0 (pid, v) parts.0 parts.1) (among_get areas a m)) in
@@ -179,9 +179,9 @@ module _ (areas : Map (ℕ × ℕ) Area) (apart : AreasAreApart areas) (some : A
       ]
 
   -- the last area before the end of a range overlaps it, or none does
-  free_last : (pid first end : ℕ) (e : Placed) → Among e areas → spot_cmp e.0 (pid, end) ≡ Less
+  free_last : (pid first end : ℕ) (e : PlacedArea) → Among e areas → spot_cmp e.0 (pid, end) ≡ Less
       → ((q : ℕ × ℕ) → spot_cmp q (pid, end) ≡ Less → IsSome (get spot_cmp areas q) → is_lt (spot_cmp e.0 q) ≡ false)
-      → overlaps pid first end e ≡ false → (a : Placed) → Among a areas → overlaps pid first end a ≡ true → ⊥
+      → overlaps pid first end e ≡ false → (a : PlacedArea) → Among a areas → overlaps pid first end a ≡ true → ⊥
   free_last pid first end e n at last h a m c =
       let parts = overlaps_parts pid first end a c in
       let order : UpTo a.0 e.0 = not_before e.0 a.0 (last a.0 (from_below a.0 (pid, end) parts.0 parts.1) (among_get areas a m)) in
@@ -207,7 +207,7 @@ module _ (m : BTreeMap (ℕ × ℕ) Area) (areas : Map (ℕ × ℕ) Area) (is : 
   some_here : AllByRecursion IsSomePages m.entries
   some_here = subst (AllByRecursion IsSomePages) (sym is) some
 
-  over_found : (pid v : ℕ) (r t : List Placed) (e : Placed) → IsRangeOf spot_cmp Unbounded (Included (pid, v)) m r → r ≡ t ++ e ∷ []
+  over_found : (pid v : ℕ) (r t : List PlacedArea) (e : PlacedArea) → IsRangeOf spot_cmp Unbounded (Included (pid, v)) m r → r ≡ t ++ e ∷ []
       → area_over areas pid v ≡ cond (covers e pid v) (Some e) None
   over_found pid v r t e range last =
       let here = range.3 e t last in
@@ -224,16 +224,16 @@ module _ (m : BTreeMap (ℕ × ℕ) Area) (areas : Map (ℕ × ℕ) Area) (is : 
         ] refl
       ] refl
 
-  pub over_it : (pid v : ℕ) (r t : List Placed) (e : Placed) → IsRangeOf spot_cmp Unbounded (Included (pid, v)) m r → r ≡ t ++ e ∷ [] → true ≡ (e.0.0 == pid) → e.0.1 ≤ v → v < behind_last e
+  pub over_it : (pid v : ℕ) (r t : List PlacedArea) (e : PlacedArea) → IsRangeOf spot_cmp Unbounded (Included (pid, v)) m r → r ≡ t ++ e ∷ [] → true ≡ (e.0.0 == pid) → e.0.1 ≤ v → v < behind_last e
       → Some ((pid, e.0.1), e.1) ≡ area_over areas pid v
   over_it pid v r t e range last own low high =
       let of : e.0.0 ≡ pid = eqb-true e.0.0 pid (sym own) in
       ap (λ p. Some ((p, e.0.1), e.1)) (sym of) ∙ sym (over_found pid v r t e range last ∙ ap (λ b. cond b (Some e) None) (covers_from e pid v of low high))
 
-  pub over_not : (pid v : ℕ) (r t : List Placed) (e : Placed) → IsRangeOf spot_cmp Unbounded (Included (pid, v)) m r → r ≡ t ++ e ∷ [] → (covers e pid v ≡ true → ⊥) → area_over areas pid v ≡ None
+  pub over_not : (pid v : ℕ) (r t : List PlacedArea) (e : PlacedArea) → IsRangeOf spot_cmp Unbounded (Included (pid, v)) m r → r ≡ t ++ e ∷ [] → (covers e pid v ≡ true → ⊥) → area_over areas pid v ≡ None
   over_not pid v r t e range last h = over_found pid v r t e range last ∙ ap (λ b. cond b (Some e) None) (false_from_ne_true _ h)
 
-  pub over_none : (pid v : ℕ) (r : List Placed) → IsRangeOf spot_cmp Unbounded (Included (pid, v)) m r → r ≡ [] → area_over areas pid v ≡ None
+  pub over_none : (pid v : ℕ) (r : List PlacedArea) → IsRangeOf spot_cmp Unbounded (Included (pid, v)) m r → r ≡ [] → area_over areas pid v ≡ None
   over_none pid v r range empty =
       ap (λ es. area_over es pid v) (sym is)
       ∙ elim (area_over m.entries pid v) as (λ o. area_over m.entries pid v ≡ o → o ≡ None) [
@@ -244,7 +244,7 @@ module _ (m : BTreeMap (ℕ × ℕ) Area) (areas : Map (ℕ × ℕ) Area) (is : 
             absurd (get_not_none m.entries a found.0 (range.5 empty a.0 (tt, from_up_to a.0 (pid, v) parts.0 parts.1)))
       ] refl
 
-  free_found : (pid first end : ℕ) (r t : List Placed) (e : Placed) → IsRangeOf spot_cmp Unbounded (Excluded (pid, end)) m r → r ≡ t ++ e ∷ []
+  free_found : (pid first end : ℕ) (r t : List PlacedArea) (e : PlacedArea) → IsRangeOf spot_cmp Unbounded (Excluded (pid, end)) m r → r ≡ t ++ e ∷ []
       → list_any (overlaps pid first end) areas ≡ overlaps pid first end e
   free_found pid first end r t e range last =
       let here = range.3 e t last in
@@ -256,14 +256,14 @@ module _ (m : BTreeMap (ℕ × ℕ) Area) (areas : Map (ℕ × ℕ) Area) (is : 
       ] refl
 
   -- the last area is another process's
-  pub free_other : (pid first end last : ℕ) (r t : List Placed) (e : Placed) → IsRangeOf spot_cmp Unbounded (Excluded (pid, end)) m r → r ≡ t ++ e ∷ [] → end ≡ last → (e.0.0 == pid) ≡ false
+  pub free_other : (pid first end last : ℕ) (r t : List PlacedArea) (e : PlacedArea) → IsRangeOf spot_cmp Unbounded (Excluded (pid, end)) m r → r ≡ t ++ e ∷ [] → end ≡ last → (e.0.0 == pid) ≡ false
       → true ≡ not (list_any (overlaps pid first last) areas)
   free_other pid first end last r t e range is_last same other =
       subst (λ n. true ≡ not (list_any (overlaps pid first n) areas)) same
       (sym (ap not (free_found pid first end r t e range is_last) ∙ ap (λ b. not ((b && nat_lt e.0.1 end) && nat_lt first (behind_last e))) other))
 
   -- it is the process's own
-  pub free_own : (pid first end last : ℕ) (r t : List Placed) (e : Placed) → IsRangeOf spot_cmp Unbounded (Excluded (pid, end)) m r → r ≡ t ++ e ∷ [] → end ≡ last → (e.0.0 == pid) ≡ true
+  pub free_own : (pid first end last : ℕ) (r t : List PlacedArea) (e : PlacedArea) → IsRangeOf spot_cmp Unbounded (Excluded (pid, end)) m r → r ≡ t ++ e ∷ [] → end ≡ last → (e.0.0 == pid) ≡ true
       → nat_le (behind_last e) first ≡ not (list_any (overlaps pid first last) areas)
   free_own pid first end last r t e range is_last same own =
       let of : e.0.0 ≡ pid = eqb-true e.0.0 pid own in
@@ -272,7 +272,7 @@ module _ (m : BTreeMap (ℕ × ℕ) Area) (areas : Map (ℕ × ℕ) Area) (is : 
       (free_says pid first end e of (below e.0 (pid, end) here.0.1 of) ∙ sym (ap not (free_found pid first end r t e range is_last)))
 
   -- there is none
-  pub free_none : (pid first end last : ℕ) (r : List Placed) → IsRangeOf spot_cmp Unbounded (Excluded (pid, end)) m r → r ≡ [] → end ≡ last → true ≡ not (list_any (overlaps pid first last) areas)
+  pub free_none : (pid first end last : ℕ) (r : List PlacedArea) → IsRangeOf spot_cmp Unbounded (Excluded (pid, end)) m r → r ≡ [] → end ≡ last → true ≡ not (list_any (overlaps pid first last) areas)
   free_none pid first end last r range empty same =
       subst (λ n. true ≡ not (list_any (overlaps pid first n) areas)) same
       (sym (ap (λ es. not (list_any (overlaps pid first end) es)) (sym is)
@@ -281,7 +281,7 @@ module _ (m : BTreeMap (ℕ × ℕ) Area) (areas : Map (ℕ × ℕ) Area) (is : 
       get_not_none m.entries a n (range.5 empty a.0 (tt, from_below a.0 (pid, end) parts.0 parts.1))))))
 
   -- what holds of all areas holds of the last one before a spot
-  pub last_has : (P : Placed → Type 0) (pid end : ℕ) (r t : List Placed) (e : Placed) → IsRangeOf spot_cmp Unbounded (Excluded (pid, end)) m r → r ≡ t ++ e ∷ [] → AllByRecursion P areas → P e
+  pub last_has : (P : PlacedArea → Type 0) (pid end : ℕ) (r t : List PlacedArea) (e : PlacedArea) → IsRangeOf spot_cmp Unbounded (Excluded (pid, end)) m r → r ≡ t ++ e ∷ [] → AllByRecursion P areas → P e
   last_has P pid end r t e range last h =
       let here = range.3 e t last in
       All-among P areas e h (subst (Among e) is (get_among m.entries e.0 e.1 here.1))

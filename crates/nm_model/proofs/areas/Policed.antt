@@ -10,7 +10,7 @@ use Rattle.nm_types.specs.declared.area.Policy.{Policy}
 use Rattle.nm_types.specs.declared.area.Area.{Area}
 use Rattle.nm_types.specs.declared.area.Segment.{Segment}
 use Rattle.nm_types.specs.Map.{Map, with_values, spot_cmp}
-use Rattle.nm_types.specs.State.{Placed, covers}
+use Rattle.nm_types.specs.State.{PlacedArea, covers}
 use Rattle.nm_model.specs.views.Table.{Table, with_areas}
 use Rattle.nm_model.specs.definitions.Areas.{mapping_of, AreasAreApart, IsSomePages, EndsLow, HasIndices, shows_segment, AllShown, PrivateIsOnce, IsWellFormed}
 use Rattle.nm_model.specs.definitions.Areas.{parts_outside, parts_with_policy, split_at, with_policy_in}
@@ -63,10 +63,10 @@ module _ (pid first end : ℕ) (policy : Policy) where
   pub any_policy : (P : Area → Type 0) (k : ℕ × ℕ) (x : Area) → P x → P (record x { policy = policy }) → P (paint k x)
   any_policy P k x p r = elim ((k.0 == pid) && (nat_le first k.1 && nat_lt k.1 end)) as (λ b. P (cond b (record x { policy = policy }) x)) [ true ↦ r | false ↦ p ]
 
-  covers_painted : (e : Placed) (q w : ℕ) → covers (e.0, paint e.0 e.1) q w ≡ covers e q w
+  covers_painted : (e : PlacedArea) (q w : ℕ) → covers (e.0, paint e.0 e.1) q w ≡ covers e q w
   covers_painted e q w = any_policy (λ x. covers (e.0, x) q w ≡ covers e q w) e.0 e.1 refl refl
 
-  pub all_painted : (P Q : Placed → Type 0) → ((e : Placed) → P e → Q (e.0, paint e.0 e.1)) → (areas : Map (ℕ × ℕ) Area) → AllByRecursion P areas → AllByRecursion Q (with_values paint areas)
+  pub all_painted : (P Q : PlacedArea → Type 0) → ((e : PlacedArea) → P e → Q (e.0, paint e.0 e.1)) → (areas : Map (ℕ × ℕ) Area) → AllByRecursion P areas → AllByRecursion Q (with_values paint areas)
   all_painted P Q f [] h = tt
   all_painted P Q f (e ∷ areas) h = (f e h.0, all_painted P Q f areas h.1)
 
@@ -95,12 +95,12 @@ module _ (pid first end : ℕ) (policy : Policy) where
 
   below_repoliced : (next : ℕ) → first < end → (areas : Map (ℕ × ℕ) Area) → AllByRecursion IsSomePages areas → AllByRecursion (λ a. a.1.page.segment < next) areas → AllByRecursion (λ a. a.1.page.segment < next) (flat_map (parts_with_policy pid first end policy) areas)
   below_repoliced next range areas some below =
-      let Low : Placed → Type 0 = λ a. a.1.page.segment < next in
+      let Low : PlacedArea → Type 0 = λ a. a.1.page.segment < next in
       subst (AllByRecursion Low) (all_repoliced pid first end policy range areas some)
       (all_painted Low Low (λ e under. any_policy (λ x. x.page.segment < next) e.0 e.1 under under) (split_at pid end (split_at pid first areas))
       (below_split pid end next (split_at pid first areas) (split_some pid first areas some) (below_split pid first next areas some below)))
 
-  any_painted : (test : Placed → Bool) → ((e : Placed) → test (e.0, paint e.0 e.1) ≡ test e) → (areas : Map (ℕ × ℕ) Area) → list_any test (with_values paint areas) ≡ list_any test areas
+  any_painted : (test : PlacedArea → Bool) → ((e : PlacedArea) → test (e.0, paint e.0 e.1) ≡ test e) → (areas : Map (ℕ × ℕ) Area) → list_any test (with_values paint areas) ≡ list_any test areas
   any_painted test h [] = refl
   any_painted test h (e ∷ areas) = ap (λ b. b || list_any test (with_values paint areas)) (h e) ∙ ap (λ b. test e || b) (any_painted test h areas)
 

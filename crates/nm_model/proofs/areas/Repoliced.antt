@@ -10,7 +10,7 @@ use Rattle.nm_types.specs.declared.page.Page.{Page}
 use Rattle.nm_types.specs.declared.area.Policy.{Policy}
 use Rattle.nm_types.specs.declared.area.Area.{Area}
 use Rattle.nm_types.specs.Map.{Map, with_values, spot_cmp}
-use Rattle.nm_types.specs.State.{Placed, area_over}
+use Rattle.nm_types.specs.State.{PlacedArea, area_over}
 use Rattle.nm_model.specs.definitions.Areas.{before, behind, parts_outside, AreasAreApart, IsSomePages, HasIndices}
 use Rattle.nm_model.specs.definitions.Areas.{inside, parts_with_policy, is_well_formed, split_at, with_policy_in}
 use Rattle.nm_model.proofs.areas.Apart.{behind_last, covers_from}
@@ -21,7 +21,7 @@ use Rattle.nm_model.proofs.areas.Cut.{front_of, rest_of, shorter, later, same_pl
 -- ---- what holds of all areas holds when one is split
 
 module _ (pid at : ℕ) (areas : Map (ℕ × ℕ) Area) (some : AllByRecursion IsSomePages areas) where
-  pub all_parts : (P : Placed → Type 0) → ((a b : Placed) → Among a areas → IsPart pid at at a b → P b) → AllByRecursion P (split_at pid at areas)
+  pub all_parts : (P : PlacedArea → Type 0) → ((a b : PlacedArea) → Among a areas → IsPart pid at at a b → P b) → AllByRecursion P (split_at pid at areas)
   all_parts P h = all_from_among P (split_at pid at areas) (λ b m.
       let from = among_flat (parts_outside pid at at) areas b m in
       h from.0 b from.1 (part_of pid at at from.0 (All-among IsSomePages areas from.0 some from.1) b from.2))
@@ -58,7 +58,7 @@ mapped_step areas pid (suc n) r at h =
 mapped_on : (areas : Map (ℕ × ℕ) Area) (pid at end start to : ℕ) (area : Area) → AreasAreApart areas → Some ((pid, start), area) ≡ area_over areas pid at → to ≡ start + area.pages → at < end
     → is_well_formed areas pid at (end - at) ≡ is_well_formed areas pid to (end - to)
 mapped_on areas pid at end start to area apart over is more =
-    let a : Placed = ((pid, start), area) in
+    let a : PlacedArea = ((pid, start), area) in
     let facts = over_facts pid at areas start area over in
     let there : (v : ℕ) → at ≤ v → v < start + area.pages → is_some (area_over areas pid v) ≡ true = λ v low high.
     ap is_some (over_among areas pid v a apart facts.0 (covers_from a pid v refl (omega (arith, facts.1, low)) high)) in
@@ -84,7 +84,7 @@ mapped_next areas pid at end start n area apart over is more = mapped_on areas p
 -- an area that covers all of them
 pub mapped_whole : (areas : Map (ℕ × ℕ) Area) (pid at count start : ℕ) (area : Area) → AreasAreApart areas → Some ((pid, start), area) ≡ area_over areas pid at → at + count ≤ start + area.pages → is_well_formed areas pid at count ≡ true
 mapped_whole areas pid at count start area apart over long =
-    let a : Placed = ((pid, start), area) in
+    let a : PlacedArea = ((pid, start), area) in
     let facts = over_facts pid at areas start area over in
     let sum : count ≡ count + 0 = omega arith in
     ap (is_well_formed areas pid at) sum
@@ -92,7 +92,7 @@ mapped_whole areas pid at count start area apart over long =
 
 -- ---- what is inside has the policy
 
-joined : (xs ys zs : List Placed) → (xs ++ ys) ++ zs ≡ xs ++ (ys ++ zs)
+joined : (xs ys zs : List PlacedArea) → (xs ++ ys) ++ zs ≡ xs ++ (ys ++ zs)
 joined [] ys zs = refl
 joined (x ∷ xs) ys zs = ap (λ l. x ∷ l) (joined xs ys zs)
 
@@ -111,57 +111,57 @@ module _ (pid first end : ℕ) (policy : Policy) (range : first < end) where
       let ends = and_parts (nat_le first k.1) (nat_lt k.1 end) both.1 in
       out (eqb-true k.0 pid both.0) (leb-true first k.1 ends.0) (ltb-true k.1 end ends.1)))
 
-  abbrev part_in : Placed → Placed
+  abbrev part_in : PlacedArea → PlacedArea
   part_in a =
       let from = max first a.0.1 in
       let page : Page = record { segment = a.1.page.segment; index = a.1.page.index + (from - a.0.1) } in
       let area : Area = record { pages = min end (a.0.1 + a.1.pages) - from; policy = policy; page = page } in
       ((a.0.0, from), area)
 
-  inside_none : (a : Placed) → min end (behind_last a) ≤ max first a.0.1 → inside first end policy a ≡ []
+  inside_none : (a : PlacedArea) → min end (behind_last a) ≤ max first a.0.1 → inside first end policy a ≡ []
   inside_none a h =
       ap (λ b. cond b (part_in a ∷ []) []) (false_from_ne_true (nat_lt (max first a.0.1) (min end (behind_last a))) (λ k.
       let less : max first a.0.1 < min end (behind_last a) = ltb-true (max first a.0.1) (min end (behind_last a)) k in
       absurd (omega (arith, h, less))))
 
-  inside_some : (a : Placed) → max first a.0.1 < min end (behind_last a) → inside first end policy a ≡ part_in a ∷ []
+  inside_some : (a : PlacedArea) → max first a.0.1 < min end (behind_last a) → inside first end policy a ≡ part_in a ∷ []
   inside_some a h = ap (λ b. cond b (part_in a ∷ []) []) (lt-ltb (max first a.0.1) (min end (behind_last a)) h)
 
-  three : (a : Placed) (xs ys zs : List Placed) → a.0.0 ≡ pid → before first a ≡ xs → inside first end policy a ≡ ys → behind end a ≡ zs → xs ++ ys ++ zs ≡ parts_with_policy pid first end policy a
+  three : (a : PlacedArea) (xs ys zs : List PlacedArea) → a.0.0 ≡ pid → before first a ≡ xs → inside first end policy a ≡ ys → behind end a ≡ zs → xs ++ ys ++ zs ≡ parts_with_policy pid first end policy a
   three a xs ys zs own x y z =
       sym (ap (λ b. cond b (before first a ++ inside first end policy a ++ behind end a) (a ∷ [])) (eq-eqb a.0.0 pid own)
       ∙ ap (λ l. l ++ inside first end policy a ++ behind end a) x ∙ ap (λ l. xs ++ l ++ behind end a) y ∙ ap (λ l. xs ++ ys ++ l) z)
 
-  abbrev both : Placed → List Placed
+  abbrev both : PlacedArea → List PlacedArea
   both a = with_values paint (flat_map (parts_outside pid end end) (parts_outside pid first first a))
 
   -- cut into nothing
-  whole : (a : Placed) → parts_outside pid first first a ≡ a ∷ [] → parts_outside pid end end a ≡ a ∷ [] → both a ≡ (a.0, paint a.0 a.1) ∷ []
+  whole : (a : PlacedArea) → parts_outside pid first first a ≡ a ∷ [] → parts_outside pid end end a ≡ a ∷ [] → both a ≡ (a.0, paint a.0 a.1) ∷ []
   whole a e f = ap (λ l. with_values paint (flat_map (parts_outside pid end end) l)) e ∙ ap (λ l. with_values paint (l ++ [])) f
 
   -- before the range
-  in_front : (a : Placed) → 0 < a.1.pages → a.0.0 ≡ pid → behind_last a ≤ first → both a ≡ parts_with_policy pid first end policy a
+  in_front : (a : PlacedArea) → 0 < a.1.pages → a.0.0 ≡ pid → behind_last a ≤ first → both a ≡ parts_with_policy pid first end policy a
   in_front a some own low =
       whole a (cut_low pid first a some low) (cut_low pid end a some (omega (arith, low, range)))
       ∙ one (ap (λ (x : Area). (a.0, x)) (painted_out a.0 a.1 (λ p k l. absurd (omega (arith, k, low, some)))) ∙ same_placed a (front_of first a) refl refl (omega (arith, low)) refl refl refl)
       ∙ three a (front_of first a ∷ []) [] [] own (before_some first a (omega (arith, low, some))) (inside_none a (omega (arith, low))) (behind_none end a some (omega (arith, low, range)))
 
   -- after it
-  in_back : (a : Placed) → 0 < a.1.pages → a.0.0 ≡ pid → end ≤ a.0.1 → both a ≡ parts_with_policy pid first end policy a
+  in_back : (a : PlacedArea) → 0 < a.1.pages → a.0.0 ≡ pid → end ≤ a.0.1 → both a ≡ parts_with_policy pid first end policy a
   in_back a some own high =
       whole a (cut_high pid first a some (omega (arith, high, range))) (cut_high pid end a some high)
       ∙ one (ap (λ (x : Area). (a.0, x)) (painted_out a.0 a.1 (λ p k l. absurd (omega (arith, l, high)))) ∙ same_placed a (rest_of end a) refl (omega (arith, high)) (omega (arith, high)) refl refl (omega (arith, high)))
       ∙ three a [] [] (rest_of end a ∷ []) own (before_none first a (omega (arith, high, range))) (inside_none a (omega (arith, high))) (behind_some end a some (omega (arith, high, some)))
 
   -- whole inside
-  in_range : (a : Placed) → 0 < a.1.pages → a.0.0 ≡ pid → first ≤ a.0.1 → behind_last a ≤ end → both a ≡ parts_with_policy pid first end policy a
+  in_range : (a : PlacedArea) → 0 < a.1.pages → a.0.0 ≡ pid → first ≤ a.0.1 → behind_last a ≤ end → both a ≡ parts_with_policy pid first end policy a
   in_range a some own low high =
       whole a (cut_high pid first a some low) (cut_low pid end a some high)
       ∙ one (ap (λ (x : Area). (a.0, x)) (painted_in a.0 a.1 own low (omega (arith, high, some))) ∙ same_placed (a.0, record (a.1) { policy = policy }) (part_in a) refl (omega (arith, low)) (omega (arith, low, high)) refl refl (omega (arith, low)))
       ∙ three a [] (part_in a ∷ []) [] own (before_none first a low) (inside_some a (omega (arith, low, high, some))) (behind_none end a some high)
 
   -- over the end
-  over_end : (a : Placed) → 0 < a.1.pages → a.0.0 ≡ pid → first ≤ a.0.1 → a.0.1 < end → end < behind_last a → both a ≡ parts_with_policy pid first end policy a
+  over_end : (a : PlacedArea) → 0 < a.1.pages → a.0.0 ≡ pid → first ≤ a.0.1 → a.0.1 < end → end < behind_last a → both a ≡ parts_with_policy pid first end policy a
   over_end a some own low mid high =
       ap (λ l. with_values paint (flat_map (parts_outside pid end end) l)) (cut_high pid first a some low)
       ∙ ap (λ l. with_values paint (l ++ [])) (cut_mid pid end a own mid high)
@@ -170,10 +170,10 @@ module _ (pid first end : ℕ) (policy : Policy) (range : first < end) where
       ∙ three a [] (part_in a ∷ []) (rest_of end a ∷ []) own (before_none first a low) (inside_some a (omega (arith, low, mid, high))) (behind_some end a some high)
 
   -- over the start
-  over_start : (a : Placed) → 0 < a.1.pages → a.0.0 ≡ pid → a.0.1 < first → first < behind_last a → behind_last a ≤ end → both a ≡ parts_with_policy pid first end policy a
+  over_start : (a : PlacedArea) → 0 < a.1.pages → a.0.0 ≡ pid → a.0.1 < first → first < behind_last a → behind_last a ≤ end → both a ≡ parts_with_policy pid first end policy a
   over_start a some own low mid high =
-      let front : Placed = (a.0, shorter first a) in
-      let rest : Placed = ((a.0.0, first), later first a) in
+      let front : PlacedArea = (a.0, shorter first a) in
+      let rest : PlacedArea = ((a.0.0, first), later first a) in
       ap (λ l. with_values paint (flat_map (parts_outside pid end end) l)) (cut_mid pid first a own low mid)
       ∙ ap (λ l. with_values paint (l ++ (parts_outside pid end end rest ++ []))) (cut_low pid end front (omega (arith, low)) (omega (arith, low, range)))
       ∙ ap (λ l. with_values paint (front ∷ (l ++ []))) (cut_low pid end rest (omega (arith, low, mid)) (omega (arith, low, mid, high)))
@@ -182,10 +182,10 @@ module _ (pid first end : ℕ) (policy : Policy) (range : first < end) where
       ∙ three a (front_of first a ∷ []) (part_in a ∷ []) [] own (before_some first a low) (inside_some a (omega (arith, low, mid, range))) (behind_none end a some high)
 
   -- over both
-  over_both : (a : Placed) → 0 < a.1.pages → a.0.0 ≡ pid → a.0.1 < first → end < behind_last a → both a ≡ parts_with_policy pid first end policy a
+  over_both : (a : PlacedArea) → 0 < a.1.pages → a.0.0 ≡ pid → a.0.1 < first → end < behind_last a → both a ≡ parts_with_policy pid first end policy a
   over_both a some own low high =
-      let front : Placed = (a.0, shorter first a) in
-      let rest : Placed = ((a.0.0, first), later first a) in
+      let front : PlacedArea = (a.0, shorter first a) in
+      let rest : PlacedArea = ((a.0.0, first), later first a) in
       ap (λ l. with_values paint (flat_map (parts_outside pid end end) l)) (cut_mid pid first a own low (omega (arith, high, range)))
       ∙ ap (λ l. with_values paint (l ++ (parts_outside pid end end rest ++ []))) (cut_low pid end front (omega (arith, low)) (omega (arith, low, range)))
       ∙ ap (λ l. with_values paint (front ∷ (l ++ []))) (cut_mid pid end rest own range (omega (arith, low, high)))
@@ -194,7 +194,7 @@ module _ (pid first end : ℕ) (policy : Policy) (range : first < end) where
       ∙ ap (λ x. front_of first a ∷ part_in a ∷ x ∷ []) (ap (λ (x : Area). ((a.0.0, end), x)) (painted_out (a.0.0, end) (later end rest) (λ p k l. absurd (omega (arith, l)))) ∙ same_placed ((a.0.0, end), later end rest) (rest_of end a) refl (omega (arith, low, range)) (omega (arith, low, range, high)) refl refl (omega (arith, low, range)))
       ∙ three a (front_of first a ∷ []) (part_in a ∷ []) (rest_of end a ∷ []) own (before_some first a low) (inside_some a (omega (arith, low, high, range))) (behind_some end a some high)
 
-  own_repoliced : (a : Placed) → 0 < a.1.pages → a.0.0 ≡ pid → both a ≡ parts_with_policy pid first end policy a
+  own_repoliced : (a : PlacedArea) → 0 < a.1.pages → a.0.0 ≡ pid → both a ≡ parts_with_policy pid first end policy a
   own_repoliced a some own =
       elim (nat_lt a.0.1 first) as (λ b. nat_lt a.0.1 first ≡ b → both a ≡ parts_with_policy pid first end policy a) [
         | true ↦ λ b.
@@ -221,7 +221,7 @@ module _ (pid first end : ℕ) (policy : Policy) (range : first < end) where
             ] refl
       ] refl
 
-  pub one_repoliced : (a : Placed) → 0 < a.1.pages → both a ≡ parts_with_policy pid first end policy a
+  pub one_repoliced : (a : PlacedArea) → 0 < a.1.pages → both a ≡ parts_with_policy pid first end policy a
   one_repoliced a some =
       elim (a.0.0 == pid) as (λ b. (a.0.0 == pid) ≡ b → both a ≡ cond b (before first a ++ inside first end policy a ++ behind end a) (a ∷ [])) [
         | false ↦ λ b.
@@ -236,7 +236,7 @@ module _ (pid first end : ℕ) (policy : Policy) (range : first < end) where
   values_append [] ys = refl
   values_append (x ∷ xs) ys = ap (λ l. (x.0, paint x.0 x.1) ∷ l) (values_append xs ys)
 
-  flat_append : (f : Placed → List Placed) (xs ys : List Placed) → flat_map f (xs ++ ys) ≡ flat_map f xs ++ flat_map f ys
+  flat_append : (f : PlacedArea → List PlacedArea) (xs ys : List PlacedArea) → flat_map f (xs ++ ys) ≡ flat_map f xs ++ flat_map f ys
   flat_append f [] ys = refl
   flat_append f (x ∷ xs) ys = ap (λ l. f x ++ l) (flat_append f xs ys) ∙ sym (joined (f x) (flat_map f xs) (flat_map f ys))
 

@@ -8,7 +8,7 @@ use Rattle.nm_types.specs.declared.area.Segment.{Segment}
 use Rattle.nm_types.specs.declared.errno.Errno.{Errno}
 use Rattle.nm_types.specs.declared.errno.Errno.TheVariants.{Enomem, Efault, Einval}
 use Rattle.nm_types.specs.Map.{Map, get}
-use Rattle.nm_types.specs.State.{Placed}
+use Rattle.nm_types.specs.State.{PlacedArea}
 use Rattle.nm_model.specs.definitions.Areas.{Mapping, page_count, is_well_formed}
 
 -- the first of these errors whose condition holds
@@ -21,7 +21,7 @@ abbrev pub is_range : ℕ → ℕ → Bool
 is_range address pages = (address % 4096 == 0) && nat_lt 0 pages && nat_le (address / 4096 + pages) (2 ^ 35)
 
 -- whether an area of the process covers one of these page numbers
-abbrev pub overlaps : ℕ → ℕ → ℕ → Placed → Bool
+abbrev pub overlaps : ℕ → ℕ → ℕ → PlacedArea → Bool
 overlaps pid first end a = (a.0.0 == pid) && nat_lt a.0.1 end && nat_lt first (a.0.1 + a.1.pages)
 
 -- whether an area may be made there

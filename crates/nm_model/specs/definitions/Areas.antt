@@ -4,7 +4,7 @@ use Rattle.std.specs.List.{list_any, AllByRecursion, list_all, flat_map, filter,
 use Rattle.nm_types.specs.declared.page.Page.{Page}
 use Rattle.nm_types.specs.declared.area.Area.{Area}
 use Rattle.nm_types.specs.Map.{Map, page_cmp, spot_cmp, set, replace, without, get}
-use Rattle.nm_types.specs.State.{Placed, covers, page_at, area_over}
+use Rattle.nm_types.specs.State.{PlacedArea, covers, page_at, area_over}
 use Rattle.std.specs.Prelude.{◌≡◌, ◌^◌, ◌≤◌, ◌<◌, true, false, Some, ◌/◌, Option, not, None}
 use Rattle.std.specs.List.Sorted.{IsStrictlySortedBy}
 use Rattle.std.specs.Map.{keys_of}
@@ -26,17 +26,17 @@ pages_from segment index zero = []
 pages_from segment index (suc n) = record { segment = segment; index = index } ∷ pages_from segment (index + 1) n
 
 -- the pages that an area shows from one page number up to another, in ascending order
-abbrev pub pages_between : ℕ → ℕ → Placed → List Page
+abbrev pub pages_between : ℕ → ℕ → PlacedArea → List Page
 pages_between first end a =
     let from = max first a.0.1 in
     pages_from a.1.page.segment (a.1.page.index + (from - a.0.1)) (min end (a.0.1 + a.1.pages) - from)
 
 -- the part of an area before a page number ...
-abbrev pub before : ℕ → Placed → List Placed
+abbrev pub before : ℕ → PlacedArea → List PlacedArea
 before first a = if nat_lt a.0.1 first then (a.0, record (a.1) { pages = min a.1.pages (first - a.0.1) }) ∷ [] else []
 
 -- ... and the part from a page number on
-abbrev pub behind : ℕ → Placed → List Placed
+abbrev pub behind : ℕ → PlacedArea → List PlacedArea
 behind end a =
     let from = max end a.0.1 in
     let page : Page = record { segment = a.1.page.segment; index = a.1.page.index + (from - a.0.1) } in
@@ -44,7 +44,7 @@ behind end a =
     if nat_lt from (a.0.1 + a.1.pages) then ((a.0.0, from), rest) ∷ [] else []
 
 -- the parts of an area that are left when a process unmaps a range
-abbrev pub parts_outside : ℕ → ℕ → ℕ → Placed → List Placed
+abbrev pub parts_outside : ℕ → ℕ → ℕ → PlacedArea → List PlacedArea
 parts_outside pid first end a = if a.0.0 == pid then before first a ++ behind end a else a ∷ []
 
 -- whether an area shows the page
@@ -54,7 +54,7 @@ shows_page p area =
     (first.segment == p.segment) && (nat_le first.index p.index && nat_lt p.index (first.index + area.pages))
 
 -- the same for an area with its pid and first page number
-abbrev pub covers_page : Page → Placed → Bool
+abbrev pub covers_page : Page → PlacedArea → Bool
 covers_page p a = shows_page p a.1
 
 -- whether any area shows the page
@@ -75,19 +75,19 @@ abbrev pub mapping_of : Table → Map Page ℕ → Mapping
 mapping_of t place = record { areas = t.areas; segments = t.segments; next = t.next; place = place }
 
 -- an area has at least one page
-abbrev pub IsSomePages : Placed → Type 0
+abbrev pub IsSomePages : PlacedArea → Type 0
 IsSomePages a = 0 < a.1.pages
 
 -- an area ends at 2^47 or before
-abbrev pub EndsLow : Placed → Type 0
+abbrev pub EndsLow : PlacedArea → Type 0
 EndsLow a = a.0.1 + a.1.pages ≤ 2 ^ 35
 
 -- the indices of an area's pages are below 2^64
-abbrev pub HasIndices : Placed → Type 0
+abbrev pub HasIndices : PlacedArea → Type 0
 HasIndices a = a.1.page.index + a.1.pages < 2 ^ 64
 
 -- whether an area shows pages of a segment
-abbrev pub shows_segment : ℕ → Placed → Bool
+abbrev pub shows_segment : ℕ → PlacedArea → Bool
 shows_segment number a = a.1.page.segment == number
 
 -- each segment is shown by some area
@@ -127,7 +127,7 @@ abbrev pub page_count : ℕ → ℕ
 page_count len = (len + 4095) / 4096
 
 -- the part of an area from one page number up to another, with this policy
-abbrev pub inside : ℕ → ℕ → Policy → Placed → List Placed
+abbrev pub inside : ℕ → ℕ → Policy → PlacedArea → List PlacedArea
 inside first end policy a =
     let from = max first a.0.1 in
     let last = min end (a.0.1 + a.1.pages) in
@@ -136,7 +136,7 @@ inside first end policy a =
     if nat_lt from last then ((a.0.0, from), part) ∷ [] else []
 
 -- the parts of an area before, inside and after the range
-abbrev pub parts_with_policy : ℕ → ℕ → ℕ → Policy → Placed → List Placed
+abbrev pub parts_with_policy : ℕ → ℕ → ℕ → Policy → PlacedArea → List PlacedArea
 parts_with_policy pid first end policy a =
     if a.0.0 == pid then before first a ++ inside first end policy a ++ behind end a else a ∷ []
 
@@ -168,7 +168,7 @@ with_area m pid address segment offset pages =
     record m { areas = set spot_cmp m.areas (pid, address / 4096) (new_area segment offset pages) }
 
 -- the area over a page number when another area is added
-abbrev pub over_with : Map (ℕ × ℕ) Area → Placed → ℕ → ℕ → Option Placed
+abbrev pub over_with : Map (ℕ × ℕ) Area → PlacedArea → ℕ → ℕ → Option PlacedArea
 over_with areas a q v = if covers a q v then Some a else area_over areas q v
 
 -- a new segment, and an area over all of it, are added
@@ -246,7 +246,7 @@ abbrev pub begins_in : ℕ → ℕ → ℕ → ℕ × ℕ → Bool
 begins_in pid at end spot = (spot.0 == pid) && (nat_le at spot.1 && nat_lt spot.1 end)
 
 -- whether this is an area of the process that begins in a range
-abbrev pub is_own : ℕ → ℕ → ℕ → Placed → Bool
+abbrev pub is_own : ℕ → ℕ → ℕ → PlacedArea → Bool
 is_own pid at end a = begins_in pid at end a.0
 
 -- the page shown at a page number, or none inside a range of a process

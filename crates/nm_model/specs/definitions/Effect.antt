@@ -5,7 +5,7 @@ use Rattle.std.specs.Ordering.{nat_cmp}
 use Rattle.nm_types.specs.Map.{set, without, get, replace, with_values, page_cmp, Map}
 use Rattle.nm_types.specs.declared.sight.Sight.{Sight}
 use Rattle.nm_types.specs.declared.sight.Sight.TheVariants.{ZeroPage, Sees}
-use Rattle.nm_types.specs.State.{Process, State, Placed}
+use Rattle.nm_types.specs.State.{Process, State, PlacedArea}
 use Rattle.nm_types.specs.declared.process.ProcessInfo.{ProcessInfo}
 use Rattle.std.specs.Prelude.{◌+◌, ◌-◌, ◌/◌, ◌^◌, ◌==◌, List, Option, Some, None, Result, Ok, Err, if◌then◌else◌, not, ◌&&◌, ◌∷◌, length}
 use Rattle.std.specs.BTreeSet.{insert_key}
@@ -169,7 +169,7 @@ attach_refusal s pid address segment offset pages =
 abbrev pub shows_pinned : Map (ℕ × ℕ) Area → Map Page ℕ → ℕ → ℕ → ℕ → Bool
 shows_pinned areas pins pid first end =
     let is_pinned = λ (p : Page). nat_lt 0 (unwrap_or (get page_cmp pins p) 0) in
-    let shown = λ (a : Placed). (a.0.0 == pid) && list_any is_pinned (pages_between first end a) in
+    let shown = λ (a : PlacedArea). (a.0.0 == pid) && list_any is_pinned (pages_between first end a) in
     list_any shown areas
 
 -- ESRCH: no such process; EINVAL: no range of whole pages; EBUSY: a page in the range has a pin

@@ -10,7 +10,7 @@ use Rattle.nm_types.specs.declared.area.Segment.{Segment}
 use Rattle.nm_types.specs.Map.{Map, get, page_cmp, spot_cmp}
 use Rattle.nm_types.specs.Layout.{Layout, node_count, frame_count, node_of}
 use Rattle.nm_types.specs.declared.sight.Sight.TheVariants.{ZeroPage, Sees}
-use Rattle.nm_types.specs.State.{Process, State, Placed, page_at}
+use Rattle.nm_types.specs.State.{Process, State, PlacedArea, page_at}
 use Rattle.nm_model.specs.definitions.Seen.{sight_at}
 -- re-exported: the areas of a process do not overlap, and a private page is shown at one page number only
 pub use Rattle.nm_model.specs.definitions.Areas.{AreasAreApart, PrivateIsOnce}
@@ -88,7 +88,7 @@ HasPages (Some segment) pages = pages ≤ segment.pages
 
 -- an area has a page and ends at 2^47 or before; its process exists, and so does its segment, with all pages that it
 -- shows
-abbrev pub IsWhole : State → Placed → Type 0
+abbrev pub IsWhole : State → PlacedArea → Type 0
 IsWhole s a =
     (0 < a.1.pages) × (a.0.1 + a.1.pages ≤ 2 ^ 35) × IsSome (get nat_cmp s.processes a.0.0)
     × HasPages (get nat_cmp s.segments a.1.page.segment) (a.1.page.index + a.1.pages)

@@ -11,7 +11,7 @@ use Rattle.nm_types.specs.declared.errno.Errno.TheVariants.{Esrch, Einval, Efaul
 use Rattle.nm_types.specs.Map.{page_cmp, get, set, replace, same_page}
 use Rattle.nm_types.specs.declared.sight.Sight.{Sight}
 use Rattle.nm_types.specs.declared.sight.Sight.TheVariants.{ZeroPage, Sees}
-use Rattle.nm_types.specs.State.{Process, State, Placed, area_over, page_of, free_list}
+use Rattle.nm_types.specs.State.{Process, State, PlacedArea, area_over, page_of, free_list}
 use Rattle.nm_model.specs.definitions.Order.{first_touch_order}
 use Rattle.nm_model.specs.definitions.Seen.{sight_at}
 use Rattle.nm_model.specs.definitions.Areas.{is_shared}
@@ -23,7 +23,7 @@ use Rattle.std.specs.List.{list_any}
 pub record AccessSite : Type 0 where
   pub pid : ℕ
   pub process : Process
-  pub area : Placed
+  pub area : PlacedArea
   pub vpn : ℕ
 
 -- the page that the area shows at the page number
@@ -31,7 +31,7 @@ abbrev pub shown_at : AccessSite → Page
 shown_at at = page_of at.area at.vpn
 
 -- this place, or EFAULT: no area covers the page number
-abbrev pub site_over : ℕ → Process → ℕ → Option Placed → Result AccessSite Errno
+abbrev pub site_over : ℕ → Process → ℕ → Option PlacedArea → Result AccessSite Errno
 site_over pid process v None = Err Efault
 site_over pid process v (Some area) = Ok (record { pid = pid; process = process; area = area; vpn = v })
 

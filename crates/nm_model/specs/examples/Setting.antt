@@ -4,7 +4,7 @@ use Rattle.nm_types.specs.declared.page.Page.{Page}
 use Rattle.nm_types.specs.declared.area.Policy.{Policy}
 use Rattle.nm_types.specs.declared.area.Policy.TheVariants.{Default, Bind}
 use Rattle.nm_types.specs.declared.errno.Errno.TheVariants.{Esrch, Efault, Einval}
-use Rattle.nm_types.specs.State.{State, Placed, page_at}
+use Rattle.nm_types.specs.State.{State, PlacedArea, page_at}
 use Rattle.nm_model.specs.definitions.Effect.{map_new, policy_refusal, set_policy}
 use Rattle.nm_model.specs.examples.{A, B, C, one_process, wrote, three_pages, six_pages, frame_shown_at}
 
@@ -13,7 +13,7 @@ abbrev pub second_bound : State → ℕ → State
 second_bound s len = set_policy s 1 B len (Bind (1 ∷ []))
 
 -- an area of process 1, of one page of the first segment
-abbrev pub one_page : ℕ → Policy → Placed
+abbrev pub one_page : ℕ → Policy → PlacedArea
 one_page index policy =
     let page : Page = record { segment = 0; index = index } in
     ((1, 16 + index), record { pages = 1; policy = policy; page = page })

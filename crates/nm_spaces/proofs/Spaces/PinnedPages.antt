@@ -12,7 +12,7 @@ use Rattle.nm_rmap.specs.Mappers.{Mappers}
 use Rattle.nm_rmap.specs.Mappers.{frame_pins as pins_of_frame}
 use Rattle.nm_model.specs.definitions.PageTables.{Task}
 use Rattle.nm_spaces.specs.views.AddressSpaces.{AddressSpacesView, spaces_view, pins_here}
-use Rattle.nm_types.specs.State.{Placed, area_over, page_of, page_shown, page_at}
+use Rattle.nm_types.specs.State.{PlacedArea, area_over, page_of, page_shown, page_at}
 use Rattle.nm_types.proofs.Cases.{none_some, some_is, true_false}
 use Rattle.nm_model.specs.definitions.Effect.{pages_from, pages_between}
 use Rattle.nm_model.specs.definitions.Effect.{shows_pinned}
@@ -41,7 +41,7 @@ none_in_row test segment (suc n) index h =
     ap (λ i. test (at i)) next ∙ h (suc j) (omega (arith, lt))) in
     ap (λ b. b || list_any test (pages_from segment (index + 1) n)) head ∙ rest
 
-none_among : (test : Placed → Bool) (areas : List Placed) → ((a : Placed) → Among a areas → test a ≡ false) → list_any test areas ≡ false
+none_among : (test : PlacedArea → Bool) (areas : List PlacedArea) → ((a : PlacedArea) → Among a areas → test a ≡ false) → list_any test areas ≡ false
 none_among test [] h = refl
 none_among test (a ∷ areas) h = ap (λ b. b || list_any test areas) (h a (inl refl)) ∙ none_among test areas (λ b m. h b (inr m))
 
@@ -62,14 +62,14 @@ module _ (areas : Map (ℕ × ℕ) Area) (pins : Map Page ℕ) (pid first end : 
             (omega (arith, low, parts.1)) (omega (arith, low, high, parts.1, parts.2)) in
             let one : list_any has_pins (pages_between first end a) ≡ true =
             any_listed has_pins (pages_between first end a) (page_of a v) listed (ap has_pins is ∙ pinned) in
-            among_any (λ (a : Placed). (a.0.0 == pid) && list_any has_pins (pages_between first end a)) areas a found.0
+            among_any (λ (a : PlacedArea). (a.0.0 == pid) && list_any has_pins (pages_between first end a)) areas a found.0
             (ap (λ b. b && list_any has_pins (pages_between first end a)) (eq-eqb a.0.0 pid parts.0) ∙ one)
       ] refl shown
 
   -- no page that is shown in the range is pinned
   pub none_busy : AreasAreApart areas → ((v : ℕ) (p : Page) → first ≤ v → v < end → page_at areas pid v ≡ Some p → has_pins p ≡ false) → shows_pinned areas pins pid first end ≡ false
   none_busy apart none =
-      none_among (λ (a : Placed). (a.0.0 == pid) && list_any has_pins (pages_between first end a)) areas (λ a m.
+      none_among (λ (a : PlacedArea). (a.0.0 == pid) && list_any has_pins (pages_between first end a)) areas (λ a m.
       elim (a.0.0 == pid) as (λ b. (a.0.0 == pid) ≡ b → (b && list_any has_pins (pages_between first end a)) ≡ false) [
         | false ↦ λ b. refl
         | true ↦ λ b.
@@ -131,7 +131,7 @@ module _ (y : AddressSpacesView) (tasks : Map ℕ Task) (m : Mapping) (r : Mappe
         | None ↦ λ e. unplaced_pins p e
         | Some f ↦ λ e. ap (nat_lt 0) (placed_pins p f e) ∙ unpinned_at r.pins f h
       ] refl in
-      none_among (λ (a : Placed). (a.0.0 == pid) && list_any (λ p. nat_lt 0 (pins_here y p)) (pages_between first end a)) y.areas (λ a m.
+      none_among (λ (a : PlacedArea). (a.0.0 == pid) && list_any (λ p. nat_lt 0 (pins_here y p)) (pages_between first end a)) y.areas (λ a m.
       elim (a.0.0 == pid) as (λ b. (b && list_any (λ p. nat_lt 0 (pins_here y p)) (pages_between first end a)) ≡ false) [
         | false ↦ refl
         | true ↦ none_listed (λ p. nat_lt 0 (pins_here y p)) (pages_between first end a) unpinned

@@ -17,7 +17,7 @@ use Rattle.nm_types.specs.declared.area.Area.{Area}
 use Rattle.nm_types.specs.declared.sight.Sight.{Sight}
 use Rattle.nm_types.specs.declared.sight.Sight.TheVariants.{Sees}
 use Rattle.nm_types.specs.Map.{Map, get, without, with_values, page_cmp}
-use Rattle.nm_types.specs.State.{Process, Placed, area_over, page_shown, page_at}
+use Rattle.nm_types.specs.State.{Process, PlacedArea, area_over, page_shown, page_at}
 use Rattle.nm_types.proofs.Cases.{true_false, none_some, some_is}
 use Rattle.nm_types.specs.declared.entry.Entry.{Entry}
 use Rattle.nm_types.specs.declared.entry.Entry.TheVariants.{Zero, Frame, Held}
@@ -135,12 +135,12 @@ listed_split [] ys p m = inr m
 listed_split (x ∷ xs) ys p (inl e) = inl (inl e)
 listed_split (x ∷ xs) ys p (inr m) = elim (listed_split xs ys p m) as (λ _. Listed p (x ∷ xs) ⊎ Listed p ys) [ inl l ↦ inl (inr l) | inr l ↦ inr l ]
 
-none_gone : (test : Page → Bool) (pid first end : ℕ) (areas : Map (ℕ × ℕ) Area) (p : Page) → list_any (λ (a : Placed). (a.0.0 == pid) && list_any test (pages_between first end a)) areas ≡ false
+none_gone : (test : Page → Bool) (pid first end : ℕ) (areas : Map (ℕ × ℕ) Area) (p : Page) → list_any (λ (a : PlacedArea). (a.0.0 == pid) && list_any test (pages_between first end a)) areas ≡ false
     → Listed p (pages_gone areas pid first end) → test p ≡ false
 none_gone test pid first end [] p h m = absurd m
 none_gone test pid first end (a ∷ areas) p h m =
     let here = pages_between first end a in
-    let own = filter (λ (a : Placed). a.0.0 == pid) areas in
+    let own = filter (λ (a : PlacedArea). a.0.0 == pid) areas in
     let parts = or_parts ((a.0.0 == pid) && list_any test here) _ h in
     elim (a.0.0 == pid) as (λ b. (b && list_any test here) ≡ false → Listed p (flat_map (pages_between first end) (cond b (a ∷ own) own)) → test p ≡ false) [
       | true ↦ λ k m. elim (listed_split here (flat_map (pages_between first end) own) p m) as (λ _. test p ≡ false) [ inl l ↦ listed_none test here p k l | inr l ↦ none_gone test pid first end areas p parts.1 l ]

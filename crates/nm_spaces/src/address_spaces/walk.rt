@@ -8,7 +8,7 @@ ghost use Rattle.nm_model.specs.definitions.Seen.{between, sights};
 ghost use Rattle.nm_model.specs.definitions.Seen.{users};
 ghost use Rattle.nm_types.specs.Layout.{frame_count, node_count};
 ghost use Rattle.nm_types.specs.Map.{get, page_cmp};
-ghost use Rattle.nm_types.specs.State.{Placed, area_over, page_at, page_of};
+ghost use Rattle.nm_types.specs.State.{PlacedArea, area_over, page_at, page_of};
 ghost use Rattle.nm_types.specs.declared.page.Page.{Page};
 
 use crate::address_spaces::AddressSpaces;
@@ -151,7 +151,7 @@ impl<A: Allocator + Copy> AddressSpaces<A> {
         requires { IfSome last.now (IsOver self.now.areas pid) }
 
         // In any case
-        ensures found { option_map {U = Placed} (λ found. ((pid, found.0), found.1)) result
+        ensures found { option_map {U = PlacedArea} (λ found. ((pid, found.0), found.1)) result
             ≡ area_over self.now.areas pid vpn }
 
         // If there is one

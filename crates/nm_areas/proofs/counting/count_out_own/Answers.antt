@@ -1,6 +1,6 @@
 use Rattle.std.proofs.Common.{ℕ, ◌+◌, ap, sym, arith, ◌∙◌}
 use Rattle.std.specs.List.{filter}
-use Rattle.nm_types.specs.State.{Placed}
+use Rattle.nm_types.specs.State.{PlacedArea}
 use Rattle.nm_areas.specs.Coverage.{total, ends_at, covers_at}
 use Rattle.nm_model.specs.definitions.Areas.{HasIndices}
 use Rattle.nm_model.specs.definitions.Areas.{others, is_own}
@@ -19,7 +19,7 @@ loop-start-init g c =
     let own = λ (n : ℕ). filter (is_own a.pid n a.end) areas in
     record {
       steps = masked_parts a.steps.now a.table.now.segments areas left (own c.number-at.result)
-          (λ (f : Placed → ℕ). sym (total_parts f (is_own a.pid a.first a.end) areas) ∙ ap (λ (n : ℕ). total f left + total f (own n)) (sym c.number-at.ensures)) c.requires.steps;
+          (λ (f : PlacedArea → ℕ). sym (total_parts f (is_own a.pid a.first a.end) areas) ∙ ap (λ (n : ℕ). total f left + total f (own n)) (sym c.number-at.ensures)) c.requires.steps;
       low = omega (arith, c.number-at.ensures);
       up = omega (arith, c.number-at.ensures, c.requires.range);
     }
@@ -41,7 +41,7 @@ loop-start-preserved g c =
     record {
       steps = c.count_out_one.ensures (λ p. ends_at left p + ends_at (own behind) p) (λ p. covers_at left p + covers_at (own behind) p)
           (masked_next c.loop-start.steps a.table.now.segments left (own c.loop-start.at) (own behind) (a.pid, _) _
-          (λ (f : Placed → ℕ). own_sum f left areas a.pid c.loop-start.at _ a.end c.number-at-in-Some.result _ next c.number-at-in-Some.ensures) now.steps);
+          (λ (f : PlacedArea → ℕ). own_sum f left areas a.pid c.loop-start.at _ a.end c.number-at-in-Some.result _ next c.number-at-in-Some.ensures) now.steps);
       low = omega (arith, now.low, some.0, c.new.ensures, c.number-at-in-Some.ensures);
       up = omega (arith, some.1, c.number-at-in-Some.ensures);
     }

@@ -1,7 +1,7 @@
 use Rattle.std.proofs.Common.{◌≡◌, ℕ, ◌+◌, ◌-◌, refl, ap, sym, arith, ◌∙◌}
 use Rattle.std.specs.Prelude.{if◌then◌else◌}
 use Rattle.nm_types.specs.Map.{same_page}
-use Rattle.nm_types.specs.State.{Placed}
+use Rattle.nm_types.specs.State.{PlacedArea}
 use Rattle.nm_types.proofs.Cases.{none_always}
 use Rattle.nm_areas.specs.Coverage.{split_of, splits_at}
 use Rattle.nm_model.specs.definitions.Areas.{is_shared}
@@ -26,7 +26,7 @@ overflow_sub-front g c =
 pub returns-then-front-eq0-clause-none : goal.returns-then-front-eq0-clause-none
 returns-then-front-eq0-clause-none g c p =
     let a = c.args in
-    let e : Placed = ((a.pid, c.in_ok-start.start), c.in_ok-start.area) in
+    let e : PlacedArea = ((a.pid, c.in_ok-start.start), c.in_ok-start.area) in
     zero_if (is_shared a.self.now.segments p.segment) _
     (total_over (split_of a.pid a.at p) a.pid a.at (not_over a.pid a.at p) a.self.now.areas c.requires.apart e (sym c.in_ok-start.ensures)
     ∙ begins_there a.pid a.at p e (omega (arith, c.if-front-eq0.true, c.number.ensures, c.number-2.ensures)))
@@ -34,7 +34,7 @@ returns-then-front-eq0-clause-none g c p =
 pub returns-then-not-is_shared-clause-none : goal.returns-then-not-is_shared-clause-none
 returns-then-not-is_shared-clause-none g c p =
     let a = c.args in
-    let e : Placed = ((a.pid, c.in_ok-start.start), c.in_ok-start.area) in
+    let e : PlacedArea = ((a.pid, c.in_ok-start.start), c.in_ok-start.area) in
     masked_gone a.self.now.segments e.1.page.segment (splits_at a.self.now.areas a.pid a.at)
     (λ q other. total_over (split_of a.pid a.at q) a.pid a.at (not_over a.pid a.at q) a.self.now.areas c.requires.apart e (sym c.in_ok-start.ensures) ∙ split_away a.pid a.at q e other)
     (sym c.is_shared.ensures ∙ c.if-not-is_shared.true) p
@@ -48,7 +48,7 @@ overflow_add-result g c =
 pub returns-clause-some : goal.returns-clause-some
 returns-clause-some g c p =
     let a = c.args in
-    let e : Placed = ((a.pid, c.in_ok-start.start), c.in_ok-start.area) in
+    let e : PlacedArea = ((a.pid, c.in_ok-start.start), c.in_ok-start.area) in
     let facts = over_facts a.pid a.at a.self.now.areas _ _ c.in_ok-start.ensures in
     let same : a.at - c.in_ok-start.start ≡ c.number.result - c.number-2.result = omega (arith, c.number.ensures, c.number-2.ensures) in
     masked_kept a.self.now.segments e.1.page.segment (splits_at a.self.now.areas a.pid a.at)

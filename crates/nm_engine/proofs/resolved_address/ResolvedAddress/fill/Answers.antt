@@ -3,7 +3,7 @@ use Rattle.std.specs.Prelude.{Option, IsSome, slice_get}
 use Rattle.std.specs.Result.{result_err}
 use Rattle.std.specs.Ordering.{nat_cmp}
 use Rattle.nm_types.specs.declared.errno.Errno.TheVariants.{Enomem}
-use Rattle.nm_types.specs.State.{Process, State, Placed, page_of, page_shown}
+use Rattle.nm_types.specs.State.{Process, State, PlacedArea, page_of, page_shown}
 use Rattle.nm_engine.specs.declared.resolved_address.ResolvedAddress.{ResolvedAddress}
 use Rattle.nm_model.specs.definitions.Seen.{frame_of, sight_in}
 use Rattle.nm_model.specs.definitions.Order.{first_touch_order}
@@ -52,7 +52,7 @@ allocate-requires-clause-known g c = subst (λ (o : Option Process). IsSome o) (
 pub allocate-requires-clause-shown : goal.allocate-requires-clause-shown
 allocate-requires-clause-shown g c =
     let touched = c.requires.touched.2 in
-    ap (λ (o : Option Placed). page_shown o c.args.self.vpn) touched.over ∙ ap Some touched.page
+    ap (λ (o : Option PlacedArea). page_shown o c.args.self.vpn) touched.over ∙ ap Some touched.page
 
 pub populate-requires : goal.populate-requires
 populate-requires g c =
@@ -174,7 +174,7 @@ returns-in_err-allocate-clause-memory g c m f p a touched =
     (ap result_err (filled_is y.processes (table_of y) (paged_frames y c.args.frames.now) c.args.online m f _ c.args.self p a (c.requires.kept m f) touched c.in-Some.node (sym c.first_node.ensures ∙ c.in-Some.is)))
 
 -- no node has a free frame
-none_free : (s : State) (t : ResolvedAddress) (p : Process) (a : Placed) → IsSiteOf s.processes s.areas t p a → first_free s.free (first_touch_order s.layout s.online t.info.home t.info.allowed t.policy t.page.index) ≡ None
+none_free : (s : State) (t : ResolvedAddress) (p : Process) (a : PlacedArea) → IsSiteOf s.processes s.areas t p a → first_free s.free (first_touch_order s.layout s.online t.info.home t.info.allowed t.policy t.page.index) ≡ None
     → fill_page s (access_site t p a) ≡ Err Enomem
 none_free s t p a h none =
     let order : first_touch_order s.layout s.online p.home p.allowed a.1.policy (page_of a t.vpn).index ≡ first_touch_order s.layout s.online t.info.home t.info.allowed t.policy t.page.index =

@@ -2,7 +2,7 @@ use Rattle.std.proofs.Common.{◌≡◌, ℕ, ◌+◌, ◌-◌, ◌<◌, ◌≤�
 use Rattle.std.specs.List.{AllByRecursion}
 use Rattle.nm_types.specs.declared.area.Area.{Area}
 use Rattle.nm_types.specs.Map.{Map}
-use Rattle.nm_types.specs.State.{Process, Placed, State, area_over}
+use Rattle.nm_types.specs.State.{Process, PlacedArea, State, area_over}
 use Rattle.nm_types.proofs.Cases.{some_is}
 use Rattle.nm_engine.specs.views.Parts.{IsSiteOf, access_site}
 use Rattle.nm_engine.specs.declared.resolved_address.ResolvedAddress.{ResolvedAddress}
@@ -34,15 +34,15 @@ pub returns-clause-ok : goal.returns-clause-ok
 returns-clause-ok g c =
     let y = c.args.spaces.now in
     let same = some_is (c.in-Some-over.ensures.found ∙ sym c.in-Some-over.ensures'.found) in
-    let of : Placed → ResolvedAddress = λ x. record {
+    let of : PlacedArea → ResolvedAddress = λ x. record {
       pid = c.args.pid;
       info = c.in-Some.info;
       vpn = c.of_address-vpn.result;
       page = record { segment = x.1.page.segment; index = x.1.page.index + (c.number.result - c.number-2.result) };
       policy = x.1.policy;
     } in
-    subst (λ x. (p : Process) × (a : Placed) × IsSiteOf y.processes y.areas (of x) p a × ((s : State) → s.processes ≡ y.processes → s.areas ≡ y.areas → site s c.args.pid c.args.addr c.args.len ≡ Ok (access_site (of x) p a))) (sym same)
+    subst (λ x. (p : Process) × (a : PlacedArea) × IsSiteOf y.processes y.areas (of x) p a × ((s : State) → s.processes ≡ y.processes → s.areas ≡ y.areas → site s c.args.pid c.args.addr c.args.len ≡ Ok (access_site (of x) p a))) (sym same)
     (touched_there y.processes y.areas c.args.pid c.args.addr c.args.len c.of_address-vpn.result c.in-Some-over.first _
     c.in-Some.info c.in-Some-over.area (sym c.info.ensures ∙ c.in-Some.is) c.if-len-eq0.false (omega (arith, c.if-len-offset.false, c.offset.ensures.value)) c.of_address-vpn.ensures
     (c.in-Some-over.ensures'.found ∙ ap (λ (m : Mapping). area_over m.areas c.args.pid c.of_address-vpn.result) c.areas.ensures.areas)
-    (ap (λ n. c.in-Some-over.area.page.index + (c.number.result - n)) (c.number-2.ensures ∙ ap (λ (x : Placed). x.0.1) same) ∙ ap (λ n. c.in-Some-over.area.page.index + (n - c.in-Some-over.first)) c.number.ensures))
+    (ap (λ n. c.in-Some-over.area.page.index + (c.number.result - n)) (c.number-2.ensures ∙ ap (λ (x : PlacedArea). x.0.1) same) ∙ ap (λ n. c.in-Some-over.area.page.index + (n - c.in-Some-over.first)) c.number.ensures))

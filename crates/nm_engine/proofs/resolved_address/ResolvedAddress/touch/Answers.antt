@@ -6,7 +6,7 @@ use Rattle.std.proofs.lemmas.Bool.{false≢true}
 use Rattle.nm_types.proofs.Cases.{none_some}
 use Rattle.nm_types.specs.declared.page.Page.{Page}
 use Rattle.nm_types.specs.declared.sight.Sight.{Sight}
-use Rattle.nm_types.specs.State.{State, Process, Placed}
+use Rattle.nm_types.specs.State.{State, Process, PlacedArea}
 use Rattle.nm_model.specs.definitions.Areas.{Mapping, is_shared}
 use Rattle.nm_engine.specs.declared.resolved_address.ResolvedAddress.{ResolvedAddress}
 use Rattle.nm_engine.specs.declared.touch.Touched.{Touched}
@@ -36,23 +36,23 @@ abbrev seen_sight : Option PlacedSight → Option Sight
 seen_sight o = option_map (λ (x : PlacedSight). x.sight) o
 
 -- what the process sees is what its entry says
-entry_is : (s : State) (t : ResolvedAddress) (p : Process) (a : Placed) → IsSiteOf s.processes s.areas t p a → {o : Option Sight} → sight_at s t.pid t.vpn ≡ o → get nat_cmp p.sees t.vpn ≡ o
+entry_is : (s : State) (t : ResolvedAddress) (p : Process) (a : PlacedArea) → IsSiteOf s.processes s.areas t p a → {o : Option Sight} → sight_at s t.pid t.vpn ≡ o → get nat_cmp p.sees t.vpn ≡ o
 entry_is s t p a h e = ap (λ q. sight_in q t.vpn) (sym h.known) ∙ e
 
 -- the touch of a page that the process sees already, or of the page of zeros
-entry_touched : (s : State) (t : ResolvedAddress) (p : Process) (a : Placed) (writes : Bool) (o : Option Sight) → IsSiteOf s.processes s.areas t p a → sight_at s t.pid t.vpn ≡ o
+entry_touched : (s : State) (t : ResolvedAddress) (p : Process) (a : PlacedArea) (writes : Bool) (o : Option Sight) → IsSiteOf s.processes s.areas t p a → sight_at s t.pid t.vpn ≡ o
     → touch_sight s (access_site t p a) writes (get nat_cmp p.sees t.vpn) ≡ touch_sight s (access_site t p a) writes o
 entry_touched s t p a writes o h e = ap (touch_sight s (access_site t p a) writes) (entry_is s t p a h e)
 
-zero_touched : (s : State) (t : ResolvedAddress) (p : Process) (a : Placed) (writes : Bool) → IsSiteOf s.processes s.areas t p a → sight_at s t.pid t.vpn ≡ Some ZeroPage → {b : Bool} → writes ≡ b
+zero_touched : (s : State) (t : ResolvedAddress) (p : Process) (a : PlacedArea) (writes : Bool) → IsSiteOf s.processes s.areas t p a → sight_at s t.pid t.vpn ≡ Some ZeroPage → {b : Bool} → writes ≡ b
     → touch_sight s (access_site t p a) writes (get nat_cmp p.sees t.vpn) ≡ (if b then fill_page s (access_site t p a) else Ok s)
 zero_touched s t p a writes h e w = entry_touched s t p a writes (Some ZeroPage) h e ∙ ap (λ b. if b then fill_page s (access_site t p a) else Ok s) w
 
 -- where it sees nothing, the page's segment decides
-shared_at : (s : State) (t : ResolvedAddress) (p : Process) (a : Placed) → IsSiteOf s.processes s.areas t p a → {b : Bool} → is_shared s.segments t.page.segment ≡ b → is_shared s.segments (shown_at (access_site t p a)).segment ≡ b
+shared_at : (s : State) (t : ResolvedAddress) (p : Process) (a : PlacedArea) → IsSiteOf s.processes s.areas t p a → {b : Bool} → is_shared s.segments t.page.segment ≡ b → is_shared s.segments (shown_at (access_site t p a)).segment ≡ b
 shared_at s t p a h e = ap (λ (q : Page). is_shared s.segments q.segment) h.page ∙ e
 
-shared_touched : (s : State) (t : ResolvedAddress) (p : Process) (a : Placed) (writes : Bool) → IsSiteOf s.processes s.areas t p a → sight_at s t.pid t.vpn ≡ None → is_shared s.segments t.page.segment ≡ true
+shared_touched : (s : State) (t : ResolvedAddress) (p : Process) (a : PlacedArea) (writes : Bool) → IsSiteOf s.processes s.areas t p a → sight_at s t.pid t.vpn ≡ None → is_shared s.segments t.page.segment ≡ true
     → touch_sight s (access_site t p a) writes (get nat_cmp p.sees t.vpn) ≡ share_page s (access_site t p a) (get page_cmp s.place t.page)
 shared_touched s t p a writes h e shared =
     let at = access_site t p a in
@@ -60,7 +60,7 @@ shared_touched s t p a writes h e shared =
     ∙ ap (λ b. if b then share_page s at (get page_cmp s.place (shown_at at)) else (if writes then fill_page s at else Ok (with_sight s at ZeroPage))) (shared_at s t p a h shared)
     ∙ ap (λ (q : Page). share_page s at (get page_cmp s.place q)) h.page
 
-private_touched : (s : State) (t : ResolvedAddress) (p : Process) (a : Placed) (writes : Bool) → IsSiteOf s.processes s.areas t p a → sight_at s t.pid t.vpn ≡ None → is_shared s.segments t.page.segment ≡ false → {b : Bool} → writes ≡ b
+private_touched : (s : State) (t : ResolvedAddress) (p : Process) (a : PlacedArea) (writes : Bool) → IsSiteOf s.processes s.areas t p a → sight_at s t.pid t.vpn ≡ None → is_shared s.segments t.page.segment ≡ false → {b : Bool} → writes ≡ b
     → touch_sight s (access_site t p a) writes (get nat_cmp p.sees t.vpn) ≡ (if b then fill_page s (access_site t p a) else Ok (with_sight s (access_site t p a) ZeroPage))
 private_touched s t p a writes h e private w =
     let at = access_site t p a in
