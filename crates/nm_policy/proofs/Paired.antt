@@ -11,7 +11,7 @@ use Rattle.std.proofs.lemmas.List.Sorted.{IsPermutation-refl, IsPermutation-cons
 use Rattle.std.proofs.lemmas.Map.Keys.{sorted_from_strictly_increasing, sorted_head, sorted_tail}
 use Rattle.nm_types.specs.Nodes.{is_in, without_node}
 use Rattle.nm_policy.specs.declared.pairing.Pair.{Pair}
-use Rattle.nm_policy.specs.Pairs.{dealt, stays, moving, next_pair, without_source, pairs_after, pairs, EmptiesFromTheEnd, EachSetIsPairedInOrder}
+use Rattle.nm_policy.specs.Pairs.{pairs_from_turn, stays, pairs_that_move, next_pair, without_source, pairs_after, pairs, EmptiesFromTheEnd, EachSetIsPairedInOrder}
 use Rattle.nm_policy.proofs.Sorted.{lower}
 use Rattle.nm_policy.proofs.Turned.{is_in_at}
 
@@ -264,45 +264,45 @@ distinct (p ∷ ps) h = (others p ps h.0, distinct ps h.1)
     others p (q ∷ ps) h = (ne_eqb p.from q.from h.0, others p ps h.1)
 
 -- each node of a set is dealt once
-dealt_above : (n k : ℕ) (old new : List ℕ) → AllByRecursion (λ m. nat_cmp n m ≡ Less) old → AllByRecursion (λ q. n ≢ q.from) (dealt k old new)
+dealt_above : (n k : ℕ) (old new : List ℕ) → AllByRecursion (λ m. nat_cmp n m ≡ Less) old → AllByRecursion (λ q. n ≢ q.from) (pairs_from_turn k old new)
 dealt_above n k [] new h = tt
 dealt_above n k (m ∷ old) new h = ((λ same. let less = lower n m h.0 in omega (arith, less, same)), dealt_above n (k + 1) old new h.1)
 
-fresh_dealt : (k : ℕ) (old new : List ℕ) → IsStrictlySortedBy nat_cmp old → AreFresh (dealt k old new)
+fresh_dealt : (k : ℕ) (old new : List ℕ) → IsStrictlySortedBy nat_cmp old → AreFresh (pairs_from_turn k old new)
 fresh_dealt k [] new h = tt
 fresh_dealt k (n ∷ old) new h = (dealt_above n (k + 1) old new (sorted_head nat_cmp n old h), fresh_dealt (k + 1) old new (sorted_tail nat_cmp n old h))
 
-fresh_moving : (old new : List ℕ) → IsStrictlyIncreasing old → AreFresh (moving old new)
+fresh_moving : (old new : List ℕ) → IsStrictlyIncreasing old → AreFresh (pairs_that_move old new)
 fresh_moving old new up =
-    elim (length new == 0) as (λ b. AreFresh (if b then [] else filter (λ p. not (stays old new p)) (dealt 0 old new))) [
+    elim (length new == 0) as (λ b. AreFresh (if b then [] else filter (λ p. not (stays old new p)) (pairs_from_turn 0 old new))) [
       | true ↦ tt
-      | false ↦ fresh_filtered (λ p. not (stays old new p)) (dealt 0 old new) (fresh_dealt 0 old new (sorted_from_strictly_increasing old up))
+      | false ↦ fresh_filtered (λ p. not (stays old new p)) (pairs_from_turn 0 old new) (fresh_dealt 0 old new (sorted_from_strictly_increasing old up))
     ]
 
-moves_away : (old new : List ℕ) → AllByRecursion (λ p. p.from ≢ p.to) (moving old new)
+moves_away : (old new : List ℕ) → AllByRecursion (λ p. p.from ≢ p.to) (pairs_that_move old new)
 moves_away old new =
-    elim (length new == 0) as (λ b. AllByRecursion (λ p. p.from ≢ p.to) (if b then [] else filter (λ p. not (stays old new p)) (dealt 0 old new))) [
+    elim (length new == 0) as (λ b. AllByRecursion (λ p. p.from ≢ p.to) (if b then [] else filter (λ p. not (stays old new p)) (pairs_from_turn 0 old new))) [
       | true ↦ tt
       | false ↦
-          all_map (λ p. not (stays old new p) ≡ true) (λ p. p.from ≢ p.to) (filter (λ p. not (stays old new p)) (dealt 0 old new)) (λ p h same. let stay : stays old new p ≡ true = or_left (p.from == p.to) (not (length old == length new) && is_in new p.from) (eq-eqb p.from p.to same) in let z : false ≡ true = ap not (sym stay) ∙ h in absurd (false≢true z))
-          (passes (λ p. not (stays old new p)) (dealt 0 old new))
+          all_map (λ p. not (stays old new p) ≡ true) (λ p. p.from ≢ p.to) (filter (λ p. not (stays old new p)) (pairs_from_turn 0 old new)) (λ p h same. let stay : stays old new p ≡ true = or_left (p.from == p.to) (not (length old == length new) && is_in new p.from) (eq-eqb p.from p.to same) in let z : false ≡ true = ap not (sym stay) ∙ h in absurd (false≢true z))
+          (passes (λ p. not (stays old new p)) (pairs_from_turn 0 old new))
     ]
 
 -- each node is dealt one of the set
-dealt_inside : (k : ℕ) (old new : List ℕ) → 0 < length new → AllByRecursion (λ p. is_in new p.to ≡ true) (dealt k old new)
+dealt_inside : (k : ℕ) (old new : List ℕ) → 0 < length new → AllByRecursion (λ p. is_in new p.to ≡ true) (pairs_from_turn k old new)
 dealt_inside k [] new some = tt
 dealt_inside k (n ∷ old) new some = (is_in_at new (k % length new) (omega (arith, some)), dealt_inside (k + 1) old new some)
 
-moves_inside : (old new : List ℕ) → AllByRecursion (λ p. is_in new p.to ≡ true) (moving old new)
+moves_inside : (old new : List ℕ) → AllByRecursion (λ p. is_in new p.to ≡ true) (pairs_that_move old new)
 moves_inside old [] = tt
 moves_inside old (n ∷ new) =
     let all : List ℕ = n ∷ new in
-    subst (λ b. AllByRecursion (λ p. is_in all p.to ≡ true) (if b then [] else filter (λ p. not (stays old all p)) (dealt 0 old all))) (sym (ne_eqb (length all) 0 (λ e. omega (arith, e))))
-    (all_filtered (λ p. is_in all p.to ≡ true) (λ p. not (stays old all p)) (dealt 0 old all) (dealt_inside 0 old all (omega arith)))
+    subst (λ b. AllByRecursion (λ p. is_in all p.to ≡ true) (if b then [] else filter (λ p. not (stays old all p)) (pairs_from_turn 0 old all))) (sym (ne_eqb (length all) 0 (λ e. omega (arith, e))))
+    (all_filtered (λ p. is_in all p.to ≡ true) (λ p. not (stays old all p)) (pairs_from_turn 0 old all) (dealt_inside 0 old all (omega arith)))
 
 pub each_set_is_paired_in_order : EachSetIsPairedInOrder
 each_set_is_paired_in_order old new up =
-    let left = moving old new in
+    let left = pairs_that_move old new in
     let n = length left in
     record {
       away = all_after (λ p. p.from ≢ p.to) n old left (moves_away old new);

@@ -8,17 +8,17 @@ use Rattle.nm_policy.specs.declared.pairing.Pair.{Pair}
 use Rattle.nm_model.specs.definitions.Order.{turn}
 
 -- each node of `old` with the node of `new` whose turn it is, from a given turn on
-abbrev pub dealt : ℕ → List ℕ → List ℕ → List Pair
-dealt k [] new = []
-dealt k (n ∷ old) new = record { from = n; to = turn new k } ∷ dealt (k + 1) old new
+abbrev pub pairs_from_turn : ℕ → List ℕ → List ℕ → List Pair
+pairs_from_turn k [] new = []
+pairs_from_turn k (n ∷ old) new = record { from = n; to = turn new k } ∷ pairs_from_turn (k + 1) old new
 
 -- a node keeps its pages if it is its own target, or if the sets differ in size and it is in `new`
 abbrev pub stays : List ℕ → List ℕ → Pair → Bool
 stays old new pair = (pair.from == pair.to) || (not (length old == length new) && is_in new pair.from)
 
 -- the pairs whose pages move, by the node that they leave; none if `new` is empty
-abbrev pub moving : List ℕ → List ℕ → List Pair
-moving old new = if length new == 0 then [] else filter (λ p. not (stays old new p)) (dealt 0 old new)
+abbrev pub pairs_that_move : List ℕ → List ℕ → List Pair
+pairs_that_move old new = if length new == 0 then [] else filter (λ p. not (stays old new p)) (pairs_from_turn 0 old new)
 
 -- the first pair whose target is not still to be emptied, or else the last pair
 abbrev pub next_pair : List ℕ → List Pair → Option Pair
@@ -40,7 +40,7 @@ pairs_after (suc n) remaining left =
 -- which node's pages go where, in order; at first every node of `old` is still to be emptied, even one that keeps its
 -- pages
 abbrev pub pairs : List ℕ → List ℕ → List Pair
-pairs old new = pairs_after (length (moving old new)) old (moving old new)
+pairs old new = pairs_after (length (pairs_that_move old new)) old (pairs_that_move old new)
 
 -- if the target of a pair is still to be emptied, so is that of every pair after it: a chain of nodes is emptied from
 -- its end
@@ -56,7 +56,7 @@ pub record PairsAreInOrder (old new : List ℕ) : Type 0 where
   pub away : AllByRecursion (λ p. p.from ≢ p.to) (pairs old new)
   pub inside : AllByRecursion (λ p. is_in new p.to ≡ true) (pairs old new)
   pub once : IsDistinct nat_eq (map (λ p. p.from) (pairs old new))
-  pub all : IsPermutation (moving old new) (pairs old new)
+  pub all : IsPermutation (pairs_that_move old new) (pairs old new)
   pub from_the_end : EmptiesFromTheEnd old (pairs old new)
 
 abbrev pub EachSetIsPairedInOrder : Type 0

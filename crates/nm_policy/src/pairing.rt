@@ -1,7 +1,7 @@
 //! Which nodes' pages go to which nodes.
 
 ghost use Rattle.std.specs.Prelude.{◌≡◌, ◌<◌, length, IfOk, OnOk, OnErr};
-ghost use Rattle.nm_policy.specs.Pairs.{stays, moving, next_pair, pairs, PairsAreInOrder};
+ghost use Rattle.nm_policy.specs.Pairs.{stays, pairs_that_move, next_pair, pairs, PairsAreInOrder};
 
 use crate::first_touch::turn;
 use nm_types::{NodeId, NodeMask};
@@ -29,7 +29,7 @@ fn moving<A: Allocator + Copy>(
     old: NodeMask,
     new: NodeMask,
 ) -> Result<Vec<Pair, A>, AllocError>
-    ensures value { IfOk result (λ found. found.items ≡ moving old new) }
+    ensures value { IfOk result (λ found. found.items ≡ pairs_that_move old new) }
     ensures asked { OnErr result (0 < length old) }
 {
     let mut pairs = Vec::with_capacity(alloc, old.len())?;

@@ -1,7 +1,7 @@
 //! Where the pages of one pass of mbind(2) go.
 
 ghost use Rattle.std.specs.Prelude.{◌≡◌, ◌<◌, ◌==◌, ◌++◌, map, length, IfOk, OnOk, OnErr};
-ghost use Rattle.nm_policy.specs.Turns.{sent, sent_to, by_turns};
+ghost use Rattle.nm_policy.specs.Turns.{with_turn, sent_to, by_turns};
 
 use nm_types::{Located, NodeId, NodeMask, Vpn};
 use std::alloc::{AllocError, Allocator};
@@ -36,7 +36,7 @@ fn dealt<A: Allocator + Copy>(
     pages: &[Located],
 ) -> Result<Vec<Sent, A>, AllocError>
     requires { 0 < length nodes.now }
-    ensures dealt { IfOk result (λ dealt. dealt.items ≡ map (sent nodes.now) pages.now) }
+    ensures dealt { IfOk result (λ dealt. dealt.items ≡ map (with_turn nodes.now) pages.now) }
     ensures asked { OnErr result (0 < length pages.now) }
 {
     let count = nodes.len() as u64;

@@ -10,7 +10,7 @@ use Rattle.nm_types.specs.State.{State}
 use Rattle.nm_model.specs.definitions.Areas.{Mapping}
 use Rattle.nm_policy.specs.declared.targets.Sent.{Sent}
 use Rattle.nm_model.specs.definitions.Order.{zonelist}
-use Rattle.nm_policy.specs.Turns.{sent, sent_to, by_turns}
+use Rattle.nm_policy.specs.Turns.{with_turn, sent_to, by_turns}
 use Rattle.nm_model.specs.definitions.Cut.{wanted_of}
 use Rattle.nm_types.specs.declared.located.Located.{Located}
 use Rattle.nm_model.specs.definitions.Effect.{with_areas_of}
@@ -44,7 +44,7 @@ module _ (P : ℕ → Type 0) where
 
   -- pages that take turns go to nodes of the set ..
   pub turns_go : (nodes : List ℕ) (pages : List Located) → AllByRecursion P nodes → AllByRecursion (λ t. P t.to) (by_turns nodes pages)
-  turns_go nodes pages h = sent_all (map (sent nodes) pages) nodes h
+  turns_go nodes pages h = sent_all (map (with_turn nodes) pages) nodes h
 
   kept_all : (ns ks : List ℕ) → AllByRecursion P ns → AllByRecursion P (filter (is_in ns) ks)
   kept_all ns [] h = tt

@@ -4,7 +4,7 @@ use Rattle.std.proofs.lemmas.Fn.{filter_same}
 use Rattle.std.proofs.lemmas.List.{length-append}
 use Rattle.nm_types.specs.Nodes.{without_node}
 use Rattle.nm_policy.specs.declared.pairing.Pair.{Pair}
-use Rattle.nm_policy.specs.Pairs.{moving, next_pair, without_source, pairs_after}
+use Rattle.nm_policy.specs.Pairs.{pairs_that_move, next_pair, without_source, pairs_after}
 use Rattle.nm_policy.proofs.Paired.{pairs_none, pairs_some, fewer_left, each_set_is_paired_in_order}
 use Rattle.nm_policy.proofs.pairing.pairs.Given as given
 use Rattle.nm_policy.proofs.pairing.pairs.Goals as goal
@@ -28,7 +28,7 @@ loop-pair-preserved g c =
     let pair = c.in-Some.pair in
     let less = fewer_left c.loop-pair.remaining old pair (found g c) in
     let made = c.loop-pair.pairs.items in
-    let n = length (moving c.args.old c.args.new) in
+    let n = length (pairs_that_move c.args.old c.args.new) in
     let longer : length c.push.new.self.items ≡ length made + 1 = ap length c.in_ok-push.ensures.items ∙ length-append made (pair ∷ []) in
     let few = c.loop-pair.invariant.few in
     let fewer = ap length (left g c) in
@@ -50,5 +50,5 @@ returns-clause-order g c = each_set_is_paired_in_order c.args.old c.args.new c.l
 pub returns-clause-value : goal.returns-clause-value
 returns-clause-value g c =
     let none : next_pair c.loop-pair.remaining c.loop-pair.left.items ≡ None = ap (next_pair c.loop-pair.remaining) (sym c.as_slice.ensures.value) ∙ sym c.next_pair.ensures ∙ c.in_default.is in
-    let n = length (moving c.args.old c.args.new) - length c.loop-pair.pairs.items in
+    let n = length (pairs_that_move c.args.old c.args.new) - length c.loop-pair.pairs.items in
     sym (append-nil c.loop-pair.pairs.items) ∙ sym (ap (λ l. c.loop-pair.pairs.items ++ l) (pairs_none n c.loop-pair.remaining c.loop-pair.left.items none)) ∙ c.loop-pair.invariant.made

@@ -4,14 +4,14 @@ use Rattle.std.proofs.lemmas.Result.{IfOk-from_err}
 use Rattle.nm_policy.specs.declared.targets.Sent.{Sent}
 use Rattle.nm_types.specs.declared.located.Located.{Located}
 use Rattle.nm_model.specs.definitions.Order.{turn}
-use Rattle.nm_policy.specs.Turns.{sent}
+use Rattle.nm_policy.specs.Turns.{with_turn}
 use Rattle.nm_policy.proofs.targets.dealt.Goals as goal
 
-one_more : (nodes : List ℕ) (pages : List Located) (i t : ℕ) (e : Located) (ds ns : List Sent) → i < length pages → e ≡ get_or pages i e → t ≡ turn nodes e.page.index → ds ≡ map (sent nodes) (take i pages)
-    → ns ≡ ds ++ record { vpn = e.vpn; to = t } ∷ [] → ns ≡ map (sent nodes) (take (i + 1) pages)
+one_more : (nodes : List ℕ) (pages : List Located) (i t : ℕ) (e : Located) (ds ns : List Sent) → i < length pages → e ≡ get_or pages i e → t ≡ turn nodes e.page.index → ds ≡ map (with_turn nodes) (take i pages)
+    → ns ≡ ds ++ record { vpn = e.vpn; to = t } ∷ [] → ns ≡ map (with_turn nodes) (take (i + 1) pages)
 one_more nodes pages i t e ds ns lt at is had now =
-    now ∙ (ap (λ l. l ++ record { vpn = e.vpn; to = t } ∷ []) had ∙ (ap (λ (z : ℕ). map (sent nodes) (take i pages) ++ record { vpn = e.vpn; to = z } ∷ []) is
-    ∙ (ap (λ (z : Located). map (sent nodes) (take i pages) ++ sent nodes z ∷ []) at ∙ sym (map_more (sent nodes) pages i e lt))))
+    now ∙ (ap (λ l. l ++ record { vpn = e.vpn; to = t } ∷ []) had ∙ (ap (λ (z : ℕ). map (with_turn nodes) (take i pages) ++ record { vpn = e.vpn; to = z } ∷ []) is
+    ∙ (ap (λ (z : Located). map (with_turn nodes) (take i pages) ++ with_turn nodes z ∷ []) at ∙ sym (map_more (with_turn nodes) pages i e lt))))
 
 pub returns-in_err-dealt-clause-dealt : goal.returns-in_err-dealt-clause-dealt
 returns-in_err-dealt-clause-dealt g c = IfOk-from_err _ _ c.from_residual.ensures.0
@@ -40,4 +40,4 @@ loop-found-preserved g c =
     (get_or_read c.args.nodes.now _ _ (omega (arith, c.requires)) c.index-nodes-turn.is 0) c.loop-found.invariant c.in_ok-push.ensures.items
 
 pub returns-clause-dealt : goal.returns-clause-dealt
-returns-clause-dealt g c = c.loop-found.invariant ∙ ap (map (sent c.args.nodes.now)) (take_all c.loop-found.found-index c.args.pages.now c.loop-found-test.false)
+returns-clause-dealt g c = c.loop-found.invariant ∙ ap (map (with_turn c.args.nodes.now)) (take_all c.loop-found.found-index c.args.pages.now c.loop-found-test.false)

@@ -5,7 +5,7 @@ use Rattle.std.proofs.lemmas.List.{take_all, take_more, flat_map_more}
 use Rattle.std.proofs.lemmas.Result.{IfOk-from_err}
 use Rattle.nm_policy.specs.declared.targets.Sent.{Sent}
 use Rattle.nm_types.specs.declared.located.Located.{Located}
-use Rattle.nm_policy.specs.Turns.{sent, sent_to, by_turns}
+use Rattle.nm_policy.specs.Turns.{with_turn, sent_to, by_turns}
 use Rattle.nm_policy.proofs.targets.mbind_targets.Goals.{then-is_empty-via-then-is_empty, then-is_empty-via-else-is_empty+then-is_empty-2}
 use Rattle.nm_policy.proofs.targets.mbind_targets.Goals as goal
 
@@ -17,9 +17,9 @@ one_more : (f : ℕ → List Sent) (xs : List ℕ) (i x : ℕ) (ts ns : List Sen
 one_more f xs i x ts ns lt at had now =
     now ∙ (ap (λ l. l ++ f x) had ∙ (flat_map_more f [] (take i xs) x ∙ ap (flat_map f) (ap (λ z. take i xs ++ z ∷ []) at ∙ sym (take_more xs i x lt))))
 
-by_all : (pages : List Located) (nodes order xs : List ℕ) (ds ts : List Sent) (i : ℕ) → ts ≡ flat_map (sent_to ds) (take i xs) → length xs ≤ i → xs ≡ nodes → ds ≡ map (sent order) pages → order ≡ nodes → ts ≡ by_turns nodes pages
+by_all : (pages : List Located) (nodes order xs : List ℕ) (ds ts : List Sent) (i : ℕ) → ts ≡ flat_map (sent_to ds) (take i xs) → length xs ≤ i → xs ≡ nodes → ds ≡ map (with_turn order) pages → order ≡ nodes → ts ≡ by_turns nodes pages
 by_all pages nodes order xs ds ts i h le ex ed ea =
-    h ∙ (ap (flat_map (sent_to ds)) (take_all i xs le ∙ ex) ∙ ap (λ l. flat_map (sent_to l) nodes) (ed ∙ ap (λ n. map (sent n) pages) ea))
+    h ∙ (ap (flat_map (sent_to ds)) (take_all i xs le ∙ ex) ∙ ap (λ l. flat_map (sent_to l) nodes) (ed ∙ ap (λ n. map (with_turn n) pages) ea))
 
 pub returns-in_err-targets-clause-targets : goal.returns-in_err-targets-clause-targets
 returns-in_err-targets-clause-targets g c = IfOk-from_err _ _ c.from_residual.ensures.0
