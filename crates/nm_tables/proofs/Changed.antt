@@ -12,7 +12,7 @@ use Rattle.nm_types.specs.Map.{Map, get, set, replace, without}
 use Rattle.nm_types.proofs.Cases.{none_some, some_is}
 use Rattle.nm_types.proofs.Maps.{get-set, get-replace, replace_is_set}
 use Rattle.nm_types.proofs.Keys.{sorted-set, sorted-without, keys-replace}
-use Rattle.nm_tables.specs.Tree.{joined, IsPart, AreParts}
+use Rattle.nm_tables.specs.Tree.{flatten, IsPart, AreParts}
 use Rattle.nm_tables.specs.Orders.{sorted-joined}
 use Rattle.nm_tables.proofs.Joined.{less_equal, greater_equal, same_number, is_same, one_or_other, alike, get-without, at_once, at_other, get-joined, get-joined_none}
 
@@ -90,9 +90,9 @@ module _ {V : Type 0} where
 
 module _ {V : Type 0} (number : ℕ → ℕ) (upwards : (a b : ℕ) → a ≤ b → number a ≤ number b) where
   -- where the part is the same, it is joined the same
-  joined-same : (parts after : Map ℕ (Map ℕ V)) (q : ℕ) → AreParts number parts → AreParts number after → get nat_cmp after (number q) ≡ get nat_cmp parts (number q) → get nat_cmp (joined after) q ≡ get nat_cmp (joined parts) q
+  joined-same : (parts after : Map ℕ (Map ℕ V)) (q : ℕ) → AreParts number parts → AreParts number after → get nat_cmp after (number q) ≡ get nat_cmp parts (number q) → get nat_cmp (flatten after) q ≡ get nat_cmp (flatten parts) q
   joined-same parts after q are then same =
-      elim (get nat_cmp parts (number q)) as (λ o. get nat_cmp parts (number q) ≡ o → get nat_cmp (joined after) q ≡ get nat_cmp (joined parts) q) [
+      elim (get nat_cmp parts (number q)) as (λ o. get nat_cmp parts (number q) ≡ o → get nat_cmp (flatten after) q ≡ get nat_cmp (flatten parts) q) [
         | None ↦ λ o. get-joined_none number upwards after q then.1 (same ∙ o) ∙ sym (get-joined_none number upwards parts q are.1 o)
         | Some p ↦ λ o. get-joined number upwards after q p then (same ∙ o) ∙ sym (get-joined number upwards parts q p are o)
       ] refl
@@ -100,24 +100,24 @@ module _ {V : Type 0} (number : ℕ → ℕ) (upwards : (a b : ℕ) → a ≤ b 
   -- other parts, of which one is changed or new, are joined to a map that has its keys changed
   joined-changed : (parts after : Map ℕ (Map ℕ V)) (i : ℕ) (part new : Map ℕ V) → AreParts number parts → AreParts number after → get nat_cmp after i ≡ Some part
       → ((j : ℕ) → (j ≡ i → ⊥) → get nat_cmp after j ≡ get nat_cmp parts j) → IsStrictlySortedBy nat_cmp (keys_of new)
-      → ((q : ℕ) → number q ≡ i → get nat_cmp new q ≡ get nat_cmp part q) → ((q : ℕ) → (number q ≡ i → ⊥) → get nat_cmp new q ≡ get nat_cmp (joined parts) q) → joined after ≡ new
+      → ((q : ℕ) → number q ≡ i → get nat_cmp new q ≡ get nat_cmp part q) → ((q : ℕ) → (number q ≡ i → ⊥) → get nat_cmp new q ≡ get nat_cmp (flatten parts) q) → flatten after ≡ new
   joined-changed parts after i part new are then found others sorted here there =
       let elsewhere = λ (q : ℕ) (apart : number q ≡ i → ⊥). joined-same parts after q are then (others (number q) apart) in
-      alike (joined after) new (sorted-joined number upwards after then) sorted (λ q.
-      elim (nat_cmp (number q) i) as (λ r. nat_cmp (number q) i ≡ r → get nat_cmp (joined after) q ≡ get nat_cmp new q) [
+      alike (flatten after) new (sorted-joined number upwards after then) sorted (λ q.
+      elim (nat_cmp (number q) i) as (λ r. nat_cmp (number q) i ≡ r → get nat_cmp (flatten after) q ≡ get nat_cmp new q) [
         | Less ↦ λ r. let apart : number q ≡ i → ⊥ = λ z. less_equal (sym r ∙ same_number (number q) i z) in elsewhere q apart ∙ sym (there q apart)
         | Equal ↦ λ r. let z = is_same (number q) i r in
             get-joined number upwards after q part then (subst (λ n. get nat_cmp after n ≡ Some part) (sym z) found) ∙ sym (here q z)
         | Greater ↦ λ r. let apart : number q ≡ i → ⊥ = λ z. greater_equal (sym r ∙ same_number (number q) i z) in elsewhere q apart ∙ sym (there q apart)
       ] refl)
 
-  at_part : (parts : Map ℕ (Map ℕ V)) (i : ℕ) (part : Map ℕ V) (q : ℕ) → AreParts number parts → get nat_cmp parts i ≡ Some part → number q ≡ i → get nat_cmp (joined parts) q ≡ get nat_cmp part q
+  at_part : (parts : Map ℕ (Map ℕ V)) (i : ℕ) (part : Map ℕ V) (q : ℕ) → AreParts number parts → get nat_cmp parts i ≡ Some part → number q ≡ i → get nat_cmp (flatten parts) q ≡ get nat_cmp part q
   at_part parts i part q are found z = get-joined number upwards parts q part are (subst (λ n. get nat_cmp parts n ≡ Some part) (sym z) found)
 
   module _ (parts : Map ℕ (Map ℕ V)) (are : AreParts number parts) (v : ℕ) where
     -- a part that is there is changed
     changed : (part new : Map ℕ V) → IsSome (get nat_cmp parts (number v)) → IsPart number (number v) part → IsStrictlySortedBy nat_cmp (keys_of new)
-        → ((q : ℕ) → number q ≡ number v → get nat_cmp new q ≡ get nat_cmp part q) → ((q : ℕ) → (q ≡ v → ⊥) → get nat_cmp new q ≡ get nat_cmp (joined parts) q) → joined (replace nat_cmp parts (number v) part) ≡ new
+        → ((q : ℕ) → number q ≡ number v → get nat_cmp new q ≡ get nat_cmp part q) → ((q : ℕ) → (q ≡ v → ⊥) → get nat_cmp new q ≡ get nat_cmp (flatten parts) q) → flatten (replace nat_cmp parts (number v) part) ≡ new
     changed part new there is sorted here others =
         joined-changed parts (replace nat_cmp parts (number v) part) (number v) part new are
         (subst (IsStrictlySortedBy nat_cmp) (sym (keys-replace nat_cmp parts (number v) part)) are.0, all-replaced (IsPart number) parts (number v) part are.1 is)
@@ -125,69 +125,69 @@ module _ {V : Type 0} (number : ℕ → ℕ) (upwards : (a b : ℕ) → a ≤ b 
         (λ j apart. get-replace nat_cmp_total exact_unsigned parts (number v) part j there ∙ at_other (number v) j (Some part) (get nat_cmp parts j) (λ z. apart (sym z)))
         sorted here (λ q apart. others q (λ z. apart (ap number z)))
 
-    pub joined-set : (x : V) (part : Map ℕ V) → get nat_cmp parts (number v) ≡ Some part → joined (replace nat_cmp parts (number v) (set nat_cmp part v x)) ≡ set nat_cmp (joined parts) v x
+    pub joined-set : (x : V) (part : Map ℕ V) → get nat_cmp parts (number v) ≡ Some part → flatten (replace nat_cmp parts (number v) (set nat_cmp part v x)) ≡ set nat_cmp (flatten parts) v x
     joined-set x part found =
-        changed (set nat_cmp part v x) (set nat_cmp (joined parts) v x) (subst IsSome (sym found) refl)
+        changed (set nat_cmp part v x) (set nat_cmp (flatten parts) v x) (subst IsSome (sym found) refl)
         (part-set number (number v) part v x (all-found (IsPart number) parts (number v) part are.1 found) refl)
-        (sorted-set nat_cmp nat_cmp_total (joined parts) v x (sorted-joined number upwards parts are))
-        (λ q z. get-set nat_cmp_total (joined parts) v x q ∙ ap (cond (is_eq (nat_cmp q v)) (Some x)) (at_part parts (number v) part q are found z) ∙ sym (get-set nat_cmp_total part v x q))
-        (λ q apart. get-put_other (joined parts) v x q apart)
+        (sorted-set nat_cmp nat_cmp_total (flatten parts) v x (sorted-joined number upwards parts are))
+        (λ q z. get-set nat_cmp_total (flatten parts) v x q ∙ ap (cond (is_eq (nat_cmp q v)) (Some x)) (at_part parts (number v) part q are found z) ∙ sym (get-set nat_cmp_total part v x q))
+        (λ q apart. get-put_other (flatten parts) v x q apart)
 
-    pub joined-replace : (x : V) (part : Map ℕ V) → get nat_cmp parts (number v) ≡ Some part → IsSome (get nat_cmp (joined parts) v) → joined (replace nat_cmp parts (number v) (replace nat_cmp part v x)) ≡ replace nat_cmp (joined parts) v x
+    pub joined-replace : (x : V) (part : Map ℕ V) → get nat_cmp parts (number v) ≡ Some part → IsSome (get nat_cmp (flatten parts) v) → flatten (replace nat_cmp parts (number v) (replace nat_cmp part v x)) ≡ replace nat_cmp (flatten parts) v x
     joined-replace x part found there =
         let is = all-found (IsPart number) parts (number v) part are.1 found in
-        ap (λ p. joined (replace nat_cmp parts (number v) p)) (replace_is_set nat_cmp_total exact_unsigned part v x is.0 (subst IsSome (at_part parts (number v) part v are found refl) there))
-        ∙ joined-set x part found ∙ sym (replace_is_set nat_cmp_total exact_unsigned (joined parts) v x (sorted-joined number upwards parts are) there)
+        ap (λ p. flatten (replace nat_cmp parts (number v) p)) (replace_is_set nat_cmp_total exact_unsigned part v x is.0 (subst IsSome (at_part parts (number v) part v are found refl) there))
+        ∙ joined-set x part found ∙ sym (replace_is_set nat_cmp_total exact_unsigned (flatten parts) v x (sorted-joined number upwards parts are) there)
 
-    pub joined-without : (part : Map ℕ V) → get nat_cmp parts (number v) ≡ Some part → joined (replace nat_cmp parts (number v) (without nat_cmp part v)) ≡ without nat_cmp (joined parts) v
+    pub joined-without : (part : Map ℕ V) → get nat_cmp parts (number v) ≡ Some part → flatten (replace nat_cmp parts (number v) (without nat_cmp part v)) ≡ without nat_cmp (flatten parts) v
     joined-without part found =
         let is = all-found (IsPart number) parts (number v) part are.1 found in
         let sorted = sorted-joined number upwards parts are in
-        changed (without nat_cmp part v) (without nat_cmp (joined parts) v) (subst IsSome (sym found) refl)
+        changed (without nat_cmp part v) (without nat_cmp (flatten parts) v) (subst IsSome (sym found) refl)
         (part-without number (number v) part v is)
-        (sorted-without nat_cmp (joined parts) v sorted)
-        (λ q z. get-without (joined parts) v q sorted ∙ ap (cond (is_eq (nat_cmp v q)) None) (at_part parts (number v) part q are found z) ∙ sym (get-without part v q is.0))
-        (λ q apart. get-without (joined parts) v q sorted ∙ at_other v q None (get nat_cmp (joined parts) q) (λ z. apart (sym z)))
+        (sorted-without nat_cmp (flatten parts) v sorted)
+        (λ q z. get-without (flatten parts) v q sorted ∙ ap (cond (is_eq (nat_cmp v q)) None) (at_part parts (number v) part q are found z) ∙ sym (get-without part v q is.0))
+        (λ q apart. get-without (flatten parts) v q sorted ∙ at_other v q None (get nat_cmp (flatten parts) q) (λ z. apart (sym z)))
 
     -- if the part is not there, nothing is removed
-    pub without-nothing : get nat_cmp parts (number v) ≡ None → without nat_cmp (joined parts) v ≡ joined parts
+    pub without-nothing : get nat_cmp parts (number v) ≡ None → without nat_cmp (flatten parts) v ≡ flatten parts
     without-nothing none =
         let sorted = sorted-joined number upwards parts are in
-        alike (without nat_cmp (joined parts) v) (joined parts) (sorted-without nat_cmp (joined parts) v sorted) sorted (λ q.
-        elim (nat_cmp v q) as (λ r. nat_cmp v q ≡ r → get nat_cmp (without nat_cmp (joined parts) v) q ≡ get nat_cmp (joined parts) q) [
-          | Less ↦ λ r. get-without (joined parts) v q sorted ∙ ap (λ r. cond (is_eq r) None (get nat_cmp (joined parts) q)) r
-          | Equal ↦ λ r. get-without (joined parts) v q sorted ∙ ap (λ r. cond (is_eq r) None (get nat_cmp (joined parts) q)) r
-              ∙ sym (subst (λ q. get nat_cmp (joined parts) q ≡ None) (is_same v q r) (get-joined_none number upwards parts v are.1 none))
-          | Greater ↦ λ r. get-without (joined parts) v q sorted ∙ ap (λ r. cond (is_eq r) None (get nat_cmp (joined parts) q)) r
+        alike (without nat_cmp (flatten parts) v) (flatten parts) (sorted-without nat_cmp (flatten parts) v sorted) sorted (λ q.
+        elim (nat_cmp v q) as (λ r. nat_cmp v q ≡ r → get nat_cmp (without nat_cmp (flatten parts) v) q ≡ get nat_cmp (flatten parts) q) [
+          | Less ↦ λ r. get-without (flatten parts) v q sorted ∙ ap (λ r. cond (is_eq r) None (get nat_cmp (flatten parts) q)) r
+          | Equal ↦ λ r. get-without (flatten parts) v q sorted ∙ ap (λ r. cond (is_eq r) None (get nat_cmp (flatten parts) q)) r
+              ∙ sym (subst (λ q. get nat_cmp (flatten parts) q ≡ None) (is_same v q r) (get-joined_none number upwards parts v are.1 none))
+          | Greater ↦ λ r. get-without (flatten parts) v q sorted ∙ ap (λ r. cond (is_eq r) None (get nat_cmp (flatten parts) q)) r
         ] refl)
 
     -- a part that has nothing else is removed
-    pub joined-gone : (part : Map ℕ V) → get nat_cmp parts (number v) ≡ Some part → without nat_cmp part v ≡ [] → joined (without nat_cmp parts (number v)) ≡ without nat_cmp (joined parts) v
+    pub joined-gone : (part : Map ℕ V) → get nat_cmp parts (number v) ≡ Some part → without nat_cmp part v ≡ [] → flatten (without nat_cmp parts (number v)) ≡ without nat_cmp (flatten parts) v
     joined-gone part found only =
         let i = number v in
         let is = all-found (IsPart number) parts i part are.1 found in
         let sorted = sorted-joined number upwards parts are in
         let then : AreParts number (without nat_cmp parts i) = (sorted-without nat_cmp parts i are.0, all-taken (IsPart number) parts i are.1) in
-        alike (joined (without nat_cmp parts i)) (without nat_cmp (joined parts) v) (sorted-joined number upwards (without nat_cmp parts i) then) (sorted-without nat_cmp (joined parts) v sorted) (λ q.
-        elim (one_or_other (number q) i) as (λ _. get nat_cmp (joined (without nat_cmp parts i)) q ≡ get nat_cmp (without nat_cmp (joined parts) v) q) [
+        alike (flatten (without nat_cmp parts i)) (without nat_cmp (flatten parts) v) (sorted-joined number upwards (without nat_cmp parts i) then) (sorted-without nat_cmp (flatten parts) v sorted) (λ q.
+        elim (one_or_other (number q) i) as (λ _. get nat_cmp (flatten (without nat_cmp parts i)) q ≡ get nat_cmp (without nat_cmp (flatten parts) v) q) [
           | yes z ↦
               get-joined_none number upwards (without nat_cmp parts i) q then.1 (get-without parts i (number q) are.0 ∙ at_once i (number q) None (get nat_cmp parts (number q)) (sym z))
-              ∙ sym (get-without (joined parts) v q sorted ∙ ap (cond (is_eq (nat_cmp v q)) None) (at_part parts i part q are found z) ∙ sym (get-without part v q is.0) ∙ ap (λ m. get nat_cmp m q) only)
+              ∙ sym (get-without (flatten parts) v q sorted ∙ ap (cond (is_eq (nat_cmp v q)) None) (at_part parts i part q are found z) ∙ sym (get-without part v q is.0) ∙ ap (λ m. get nat_cmp m q) only)
           | no n ↦
               joined-same parts (without nat_cmp parts i) q are then (get-without parts i (number q) are.0 ∙ at_other i (number q) None (get nat_cmp parts (number q)) (λ z. n (sym z)))
-              ∙ sym (get-without (joined parts) v q sorted ∙ at_other v q None (get nat_cmp (joined parts) q) (λ z. n (ap number (sym z))))
+              ∙ sym (get-without (flatten parts) v q sorted ∙ at_other v q None (get nat_cmp (flatten parts) q) (λ z. n (ap number (sym z))))
         ])
 
     -- a new part with one entry
-    pub joined-new : (x : V) → get nat_cmp parts (number v) ≡ None → joined (set nat_cmp parts (number v) ((v, x) ∷ [])) ≡ set nat_cmp (joined parts) v x
+    pub joined-new : (x : V) → get nat_cmp parts (number v) ≡ None → flatten (set nat_cmp parts (number v) ((v, x) ∷ [])) ≡ set nat_cmp (flatten parts) v x
     unfolding IsStrictlySortedBy
     joined-new x none =
         let one : IsPart number (number v) ((v, x) ∷ []) = ((tt, tt), (refl, tt)) in
-        joined-changed parts (set nat_cmp parts (number v) ((v, x) ∷ [])) (number v) ((v, x) ∷ []) (set nat_cmp (joined parts) v x) are
+        joined-changed parts (set nat_cmp parts (number v) ((v, x) ∷ [])) (number v) ((v, x) ∷ []) (set nat_cmp (flatten parts) v x) are
         (sorted-set nat_cmp nat_cmp_total parts (number v) ((v, x) ∷ []) are.0, all-put (IsPart number) parts (number v) ((v, x) ∷ []) are.1 one)
         (get-put parts (number v) ((v, x) ∷ []))
         (λ j apart. get-put_other parts (number v) ((v, x) ∷ []) j apart)
-        (sorted-set nat_cmp nat_cmp_total (joined parts) v x (sorted-joined number upwards parts are))
-        (λ q z. get-set nat_cmp_total (joined parts) v x q
+        (sorted-set nat_cmp nat_cmp_total (flatten parts) v x (sorted-joined number upwards parts are))
+        (λ q z. get-set nat_cmp_total (flatten parts) v x q
         ∙ ap (cond (is_eq (nat_cmp q v)) (Some x)) (get-joined_none number upwards parts q are.1 (subst (λ n. get nat_cmp parts n ≡ None) (sym z) none)))
-        (λ q apart. get-put_other (joined parts) v x q (λ z. apart (ap number z)))
+        (λ q apart. get-put_other (flatten parts) v x q (λ z. apart (ap number z)))

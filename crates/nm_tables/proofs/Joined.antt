@@ -13,7 +13,7 @@ use Rattle.nm_types.proofs.Maps.{equal}
 use Rattle.std.proofs.lemmas.Map.{lookup-remove_entry}
 use Rattle.std.proofs.lemmas.Map.Keys.{IsDistinct-from_sorted}
 use Rattle.std.specs.BTreeMap.{is_at}
-use Rattle.nm_tables.specs.Tree.{joined, IsPart, AreParts}
+use Rattle.nm_tables.specs.Tree.{flatten, IsPart, AreParts}
 
 pub less_equal : Less ≡ Equal → ⊥
 less_equal e = cc
@@ -139,32 +139,32 @@ module _ {V : Type 0} (number : ℕ → ℕ) (upwards : (a b : ℕ) → a ≤ b 
   pub none_elsewhere : (i : ℕ) (part : Map ℕ V) (q : ℕ) → IsPart number i part → (number q ≡ i → ⊥) → get nat_cmp part q ≡ None
   none_elsewhere i part q is apart = get-absent (λ k. number k ≡ i) part q is.1 apart
 
-  pub get-joined_none : (parts : Map ℕ (Map ℕ V)) (q : ℕ) → AllByRecursion (λ e. IsPart number e.0 e.1) parts → get nat_cmp parts (number q) ≡ None → get nat_cmp (joined parts) q ≡ None
+  pub get-joined_none : (parts : Map ℕ (Map ℕ V)) (q : ℕ) → AllByRecursion (λ e. IsPart number e.0 e.1) parts → get nat_cmp parts (number q) ≡ None → get nat_cmp (flatten parts) q ≡ None
   get-joined_none [] q all h = refl
   get-joined_none (c ∷ parts) q all h =
-      elim (nat_cmp (number q) c.0) as (λ r. nat_cmp (number q) c.0 ≡ r → cond (is_eq r) (Some c.1) (get nat_cmp parts (number q)) ≡ None → get nat_cmp (c.1 ++ joined parts) q ≡ None) [
+      elim (nat_cmp (number q) c.0) as (λ r. nat_cmp (number q) c.0 ≡ r → cond (is_eq r) (Some c.1) (get nat_cmp parts (number q)) ≡ None → get nat_cmp (c.1 ++ flatten parts) q ≡ None) [
         | Less ↦ λ r h.
-            get-append_none c.1 (joined parts) q (none_elsewhere c.0 c.1 q all.0 (λ z. less_equal (sym r ∙ same_number (number q) c.0 z))) ∙ get-joined_none parts q all.1 h
+            get-append_none c.1 (flatten parts) q (none_elsewhere c.0 c.1 q all.0 (λ z. less_equal (sym r ∙ same_number (number q) c.0 z))) ∙ get-joined_none parts q all.1 h
         | Equal ↦ λ r h. absurd (some_none h)
         | Greater ↦ λ r h.
-            get-append_none c.1 (joined parts) q (none_elsewhere c.0 c.1 q all.0 (λ z. greater_equal (sym r ∙ same_number (number q) c.0 z))) ∙ get-joined_none parts q all.1 h
+            get-append_none c.1 (flatten parts) q (none_elsewhere c.0 c.1 q all.0 (λ z. greater_equal (sym r ∙ same_number (number q) c.0 z))) ∙ get-joined_none parts q all.1 h
       ] refl h
 
   -- what the part has that has the number of the key
-  pub get-joined : (parts : Map ℕ (Map ℕ V)) (q : ℕ) (part : Map ℕ V) → AreParts number parts → get nat_cmp parts (number q) ≡ Some part → get nat_cmp (joined parts) q ≡ get nat_cmp part q
+  pub get-joined : (parts : Map ℕ (Map ℕ V)) (q : ℕ) (part : Map ℕ V) → AreParts number parts → get nat_cmp parts (number q) ≡ Some part → get nat_cmp (flatten parts) q ≡ get nat_cmp part q
   unfolding IsStrictlySortedBy
   get-joined [] q part are h = absurd (none_some h)
   get-joined (c ∷ parts) q part are h =
-      elim (nat_cmp (number q) c.0) as (λ r. nat_cmp (number q) c.0 ≡ r → cond (is_eq r) (Some c.1) (get nat_cmp parts (number q)) ≡ Some part → get nat_cmp (c.1 ++ joined parts) q ≡ get nat_cmp part q) [
+      elim (nat_cmp (number q) c.0) as (λ r. nat_cmp (number q) c.0 ≡ r → cond (is_eq r) (Some c.1) (get nat_cmp parts (number q)) ≡ Some part → get nat_cmp (c.1 ++ flatten parts) q ≡ get nat_cmp part q) [
         | Less ↦ λ r h.
-            get-append_none c.1 (joined parts) q (none_elsewhere c.0 c.1 q are.1.0 (λ z. less_equal (sym r ∙ same_number (number q) c.0 z))) ∙ get-joined parts q part (are.0.1, are.1.1) h
+            get-append_none c.1 (flatten parts) q (none_elsewhere c.0 c.1 q are.1.0 (λ z. less_equal (sym r ∙ same_number (number q) c.0 z))) ∙ get-joined parts q part (are.0.1, are.1.1) h
         | Equal ↦ λ r h.
             let gone : get nat_cmp parts (number q) ≡ None = subst (λ n. get nat_cmp parts n ≡ None) (sym (is_same (number q) c.0 r)) (none_behind c parts are.0) in
-            let found : (o : Option V) → get nat_cmp c.1 q ≡ o → get nat_cmp (c.1 ++ joined parts) q ≡ get nat_cmp c.1 q = λ o. elim o as (λ o. get nat_cmp c.1 q ≡ o → get nat_cmp (c.1 ++ joined parts) q ≡ get nat_cmp c.1 q) [
-              | None ↦ λ o. get-append_none c.1 (joined parts) q o ∙ get-joined_none parts q are.1.1 gone ∙ sym o
-              | Some x ↦ λ o. get-append_some c.1 (joined parts) q x o ∙ sym o
+            let found : (o : Option V) → get nat_cmp c.1 q ≡ o → get nat_cmp (c.1 ++ flatten parts) q ≡ get nat_cmp c.1 q = λ o. elim o as (λ o. get nat_cmp c.1 q ≡ o → get nat_cmp (c.1 ++ flatten parts) q ≡ get nat_cmp c.1 q) [
+              | None ↦ λ o. get-append_none c.1 (flatten parts) q o ∙ get-joined_none parts q are.1.1 gone ∙ sym o
+              | Some x ↦ λ o. get-append_some c.1 (flatten parts) q x o ∙ sym o
             ] in
             found (get nat_cmp c.1 q) refl ∙ ap (λ p. get nat_cmp p q) (some_is h)
         | Greater ↦ λ r h.
-            get-append_none c.1 (joined parts) q (none_elsewhere c.0 c.1 q are.1.0 (λ z. greater_equal (sym r ∙ same_number (number q) c.0 z))) ∙ get-joined parts q part (are.0.1, are.1.1) h
+            get-append_none c.1 (flatten parts) q (none_elsewhere c.0 c.1 q are.1.0 (λ z. greater_equal (sym r ∙ same_number (number q) c.0 z))) ∙ get-joined parts q part (are.0.1, are.1.1) h
       ] refl h

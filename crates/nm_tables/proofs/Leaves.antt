@@ -7,7 +7,7 @@ use Rattle.std.specs.Cmp.{nat_cmp_total}
 use Rattle.nm_types.specs.Map.{get, set, without}
 use Rattle.nm_types.proofs.Maps.{get-set}
 use Rattle.nm_types.proofs.Keys.{sorted-set, sorted-without}
-use Rattle.nm_tables.specs.Tree.{listed, and_then}
+use Rattle.nm_tables.specs.Tree.{entries_from, and_then}
 use Rattle.nm_tables.proofs.Joined.{one_or_other, get-here, get-later, get-absent, alike, get-without, at_once, at_other}
 use Rattle.nm_tables.specs.Leaves.{leaf_entries, leaf_ordered, stands_at, keys_from}
 use Rattle.nm_tables.specs.declared.places.Places.{Places}
@@ -16,26 +16,26 @@ use Rattle.nm_tables.proofs.Changed.{get-put_other}
 
 -- what is listed at a number
 module _ {V : Type 0} (f : ℕ → Option V) where
-  pub get-listed_outside : (s n q : ℕ) → ((s ≤ q) × (q < s + n) → ⊥) → get nat_cmp (listed f s n) q ≡ None
-  get-listed_outside s n q out = get-absent (λ k. (s ≤ k) × (k < s + n)) (listed f s n) q (keys_from f (λ k. (s ≤ k) × (k < s + n)) s n (λ k l u. (l, u))) out
+  pub get-listed_outside : (s n q : ℕ) → ((s ≤ q) × (q < s + n) → ⊥) → get nat_cmp (entries_from f s n) q ≡ None
+  get-listed_outside s n q out = get-absent (λ k. (s ≤ k) × (k < s + n)) (entries_from f s n) q (keys_from f (λ k. (s ≤ k) × (k < s + n)) s n (λ k l u. (l, u))) out
 
-  get-listed_at : (s n q d : ℕ) → q ≡ s + d → d < n → get nat_cmp (listed f s n) q ≡ f q
+  get-listed_at : (s n q d : ℕ) → q ≡ s + d → d < n → get nat_cmp (entries_from f s n) q ≡ f q
   get-listed_at s zero q d e l = absurd (omega (arith, l))
   get-listed_at s (suc n) q zero e l =
       let z : q ≡ s = omega (arith, e) in
-      elim (f s) as (λ o. f s ≡ o → get nat_cmp (and_then o s (listed f (suc s) n)) q ≡ f q) [
+      elim (f s) as (λ o. f s ≡ o → get nat_cmp (and_then o s (entries_from f (suc s) n)) q ≡ f q) [
         | None ↦ λ o. get-listed_outside (suc s) n q (λ h. let low = h.0 in absurd (omega (arith, low, z))) ∙ sym o ∙ ap f (sym z)
-        | Some x ↦ λ o. get-here (s, x) (listed f (suc s) n) q z ∙ sym o ∙ ap f (sym z)
+        | Some x ↦ λ o. get-here (s, x) (entries_from f (suc s) n) q z ∙ sym o ∙ ap f (sym z)
       ] refl
   get-listed_at s (suc n) q (suc d) e l =
       let later = get-listed_at (suc s) n q d (omega (arith, e)) (omega (arith, l)) in
-      elim (f s) as (λ o. get nat_cmp (and_then o s (listed f (suc s) n)) q ≡ f q) [
+      elim (f s) as (λ o. get nat_cmp (and_then o s (entries_from f (suc s) n)) q ≡ f q) [
         | None ↦ later
-        | Some x ↦ get-later (s, x) (listed f (suc s) n) q (λ z. absurd (omega (arith, e, z))) ∙ later
+        | Some x ↦ get-later (s, x) (entries_from f (suc s) n) q (λ z. absurd (omega (arith, e, z))) ∙ later
       ]
 
   -- what is listed is what the function gives
-  pub get-listed : (s n q : ℕ) → s ≤ q → q < s + n → get nat_cmp (listed f s n) q ≡ f q
+  pub get-listed : (s n q : ℕ) → s ≤ q → q < s + n → get nat_cmp (entries_from f s n) q ≡ f q
   get-listed s n q l u = get-listed_at s n q (q - s) (omega (arith, l)) (omega (arith, l, u))
 
 pub leaf-get : (p : Places) (v : ℕ) → p.block ≡ v / 512 → get nat_cmp (leaf_entries p) v ≡ stands_at p (v % 512)

@@ -13,9 +13,9 @@ use Rattle.std.proofs.Math.Decide.{dec_lt}
 use Rattle.std.proofs.lemmas.List.{length-append, take-append-drop}
 use Rattle.std.proofs.lemmas.List.Elements.{filter-append}
 use Rattle.nm_types.specs.Map.{Map, get}
-use Rattle.nm_tables.specs.Tree.{joined, IsPart}
+use Rattle.nm_tables.specs.Tree.{flatten, IsPart}
 use Rattle.nm_tables.specs.Orders.{all-append}
-use Rattle.nm_tables.specs.Nodes.{shown, IsNode}
+use Rattle.nm_tables.specs.Nodes.{slots_shown, IsNode}
 use Rattle.nm_tables.specs.Parts.{BeginsAt}
 use Rattle.nm_tables.specs.Leaves.{leaf_entries, leaf_ordered, stands_at}
 use Rattle.nm_tables.specs.Lists.{Extends, IsCutShort}
@@ -119,9 +119,9 @@ module _ {P : Type 0} where
 
 module _ {P V : Type 0} (entries : P → Map ℕ V) where
   -- the entries of some parts, and of others after them
-  pub joined-append : (a b : Map ℕ P) → joined (shown entries (a ++ b)) ≡ joined (shown entries a) ++ joined (shown entries b)
+  pub joined-append : (a b : Map ℕ P) → flatten (slots_shown entries (a ++ b)) ≡ flatten (slots_shown entries a) ++ flatten (slots_shown entries b)
   joined-append [] b = refl
-  joined-append (e ∷ a) b = ap (λ m. entries e.1 ++ m) (joined-append a b) ∙ sym (append_assoc (entries e.1) (joined (shown entries a)) (joined (shown entries b)))
+  joined-append (e ∷ a) b = ap (λ m. entries e.1 ++ m) (joined-append a b) ∙ sym (append_assoc (entries e.1) (flatten (slots_shown entries a)) (flatten (slots_shown entries b)))
 
   module _ (number : ℕ → ℕ) (whole : P → Type 0) (is_in : P → ℕ → Type 0)
       (part : (x : P) (i : ℕ) → whole x → is_in x i → IsPart number i (entries x)) (Q : ℕ → Type 0) where
@@ -131,10 +131,10 @@ module _ {P V : Type 0} (entries : P → Map ℕ V) where
 
     -- what holds of the parts' numbers holds of those of their keys
     of_keys : (parts : Map ℕ P) → AllByRecursion (λ e. whole e.1 × is_in e.1 e.0) parts → AllByRecursion Q (keys_of parts)
-        → AllByRecursion (λ k. Q (number k)) (keys_of (joined (shown entries parts)))
+        → AllByRecursion (λ k. Q (number k)) (keys_of (flatten (slots_shown entries parts)))
     of_keys [] h q = tt
     of_keys (e ∷ parts) h q =
-        all-append (λ k. Q (number k)) (entries e.1) (joined (shown entries parts))
+        all-append (λ k. Q (number k)) (entries e.1) (flatten (slots_shown entries parts))
         (of_part e.0 (keys_of (entries e.1)) (part e.1 e.0 h.0.0 h.0.1).1 q.0) (of_keys parts h.1 q.1)
 
 module _ (first last : ℕ) where
@@ -147,14 +147,14 @@ module _ {P : Type 0} (slots : P → Map ℕ Slot) (number : ℕ → ℕ) (whole
     (leaves : List Places) (first last : ℕ) where
   -- what these parts have there
   abbrev pub there : Map ℕ P → Map ℕ Entry
-  there parts = within first last (entries_by leaves (joined (shown slots parts)))
+  there parts = within first last (entries_by leaves (flatten (slots_shown slots parts)))
 
   none_there : (Q : ℕ → Type 0) → ((v : ℕ) → Q (number (v / 512)) → range_contains nat_cmp (Included first) (Included last) v ≡ false)
-      → (parts : Map ℕ P) → IsNode whole is_in parts → AreBlocks leaves (joined (shown slots parts)) → AllByRecursion Q (keys_of parts) → there parts ≡ []
+      → (parts : Map ℕ P) → IsNode whole is_in parts → AreBlocks leaves (flatten (slots_shown slots parts)) → AllByRecursion Q (keys_of parts) → there parts ≡ []
   none_there Q out parts is named all =
-      nothing first last (entries_by leaves (joined (shown slots parts)))
-      (all_weaker (λ v. Q (number (v / 512))) (λ v. range_contains nat_cmp (Included first) (Included last) v ≡ false) out (keys_of (entries_by leaves (joined (shown slots parts))))
-      (of_keys (slot_entries leaves) block_number IsSlot (IsSlotOf leaves) (slot_part leaves) (λ b. Q (number b)) (joined (shown slots parts)) named.1
+      nothing first last (entries_by leaves (flatten (slots_shown slots parts)))
+      (all_weaker (λ v. Q (number (v / 512))) (λ v. range_contains nat_cmp (Included first) (Included last) v ≡ false) out (keys_of (entries_by leaves (flatten (slots_shown slots parts))))
+      (of_keys (slot_entries leaves) block_number IsSlot (IsSlotOf leaves) (slot_part leaves) (λ b. Q (number b)) (flatten (slots_shown slots parts)) named.1
       (of_keys slots number whole is_in part Q parts is.1 all)))
 
   too_low : (v : ℕ) → number (v / 512) < number (first / 512) → Dec (v < first) → range_contains nat_cmp (Included first) (Included last) v ≡ false
@@ -168,46 +168,46 @@ module _ {P : Type 0} (slots : P → Map ℕ Slot) (number : ℕ → ℕ) (whole
   there-append : (a b : Map ℕ P) → there (a ++ b) ≡ there a ++ there b
   there-append a b =
       ap (λ m. within first last (entries_by leaves m)) (joined-append slots a b)
-      ∙ ap (within first last) (joined-append (slot_entries leaves) (joined (shown slots a)) (joined (shown slots b)))
-      ∙ filter-append (λ e. range_contains nat_cmp (Included first) (Included last) e.0) (entries_by leaves (joined (shown slots a))) (entries_by leaves (joined (shown slots b)))
+      ∙ ap (within first last) (joined-append (slot_entries leaves) (flatten (slots_shown slots a)) (flatten (slots_shown slots b)))
+      ∙ filter-append (λ e. range_contains nat_cmp (Included first) (Included last) e.0) (entries_by leaves (flatten (slots_shown slots a))) (entries_by leaves (flatten (slots_shown slots b)))
 
   -- the parts from the first on that may have a page number there
-  module _ (parts : Map ℕ P) (i : ℕ) (is : IsNode whole is_in parts) (named : AreBlocks leaves (joined (shown slots parts))) where
+  module _ (parts : Map ℕ P) (i : ℕ) (is : IsNode whole is_in parts) (named : AreBlocks leaves (flatten (slots_shown slots parts))) where
     apart : IsNode whole is_in (take i parts ++ drop i parts)
     apart = subst (IsNode whole is_in) (sym (take-append-drop i parts)) is
 
-    named_apart : AreBlocks leaves (joined (shown slots (take i parts)) ++ joined (shown slots (drop i parts)))
-    named_apart = subst (AreBlocks leaves) (ap (λ ps. joined (shown slots ps)) (sym (take-append-drop i parts)) ∙ joined-append slots (take i parts) (drop i parts)) named
+    named_apart : AreBlocks leaves (flatten (slots_shown slots (take i parts)) ++ flatten (slots_shown slots (drop i parts)))
+    named_apart = subst (AreBlocks leaves) (ap (λ ps. flatten (slots_shown slots ps)) (sym (take-append-drop i parts)) ∙ joined-append slots (take i parts) (drop i parts)) named
 
     pub rest_kept : IsNode whole is_in (drop i parts)
     rest_kept = node_second whole is_in (take i parts) (drop i parts) apart
 
-    pub rest_named : AreBlocks leaves (joined (shown slots (drop i parts)))
-    rest_named = node_second IsSlot (IsSlotOf leaves) (joined (shown slots (take i parts))) (joined (shown slots (drop i parts))) named_apart
+    pub rest_named : AreBlocks leaves (flatten (slots_shown slots (drop i parts)))
+    rest_named = node_second IsSlot (IsSlotOf leaves) (flatten (slots_shown slots (take i parts))) (flatten (slots_shown slots (drop i parts))) named_apart
 
     pub rest_there : BeginsAt parts (number (first / 512)) i → there (drop i parts) ≡ there parts
     rest_there begins =
         ap (λ m. m ++ there (drop i parts))
         (sym (none_there (λ k. k < number (first / 512)) (λ v l. too_low v l (dec_lt v first)) (take i parts)
         (node_first whole is_in (take i parts) (drop i parts) apart)
-        (node_first IsSlot (IsSlotOf leaves) (joined (shown slots (take i parts))) (joined (shown slots (drop i parts))) named_apart) begins.1))
+        (node_first IsSlot (IsSlotOf leaves) (flatten (slots_shown slots (take i parts))) (flatten (slots_shown slots (drop i parts))) named_apart) begins.1))
         ∙ sym (there-append (take i parts) (drop i parts)) ∙ ap there (take-append-drop i parts)
 
-  module _ (e : ℕ × P) (ps : Map ℕ P) (is : IsNode whole is_in (e ∷ ps)) (named : AreBlocks leaves (joined (shown slots (e ∷ ps)))) where
+  module _ (e : ℕ × P) (ps : Map ℕ P) (is : IsNode whole is_in (e ∷ ps)) (named : AreBlocks leaves (flatten (slots_shown slots (e ∷ ps)))) where
     -- the slots of a part name leaves, and those of the parts after it
     pub part_named : AreBlocks leaves (slots e.1)
-    part_named = node_first IsSlot (IsSlotOf leaves) (slots e.1) (joined (shown slots ps)) named
+    part_named = node_first IsSlot (IsSlotOf leaves) (slots e.1) (flatten (slots_shown slots ps)) named
 
-    pub later_named : AreBlocks leaves (joined (shown slots ps))
-    later_named = node_second IsSlot (IsSlotOf leaves) (slots e.1) (joined (shown slots ps)) named
+    pub later_named : AreBlocks leaves (flatten (slots_shown slots ps))
+    later_named = node_second IsSlot (IsSlotOf leaves) (slots e.1) (flatten (slots_shown slots ps)) named
 
     module _ (list to : Map ℕ Entry) (before : list ++ there (e ∷ ps) ≡ to) where
       -- what the part has is appended
       pub list-step : (list ++ within first last (entries_by leaves (slots e.1))) ++ there ps ≡ to
       list-step =
           append_assoc list (within first last (entries_by leaves (slots e.1))) (there ps)
-          ∙ ap (λ m. list ++ m) (sym (ap (within first last) (joined-append (slot_entries leaves) (slots e.1) (joined (shown slots ps)))
-          ∙ filter-append (λ e. range_contains nat_cmp (Included first) (Included last) e.0) (entries_by leaves (slots e.1)) (entries_by leaves (joined (shown slots ps)))))
+          ∙ ap (λ m. list ++ m) (sym (ap (within first last) (joined-append (slot_entries leaves) (slots e.1) (flatten (slots_shown slots ps)))
+          ∙ filter-append (λ e. range_contains nat_cmp (Included first) (Included last) e.0) (entries_by leaves (slots e.1)) (entries_by leaves (flatten (slots_shown slots ps)))))
           ∙ before
 
       -- the part and those after it have too high numbers

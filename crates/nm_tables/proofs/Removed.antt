@@ -12,8 +12,8 @@ use Rattle.nm_types.specs.Map.{Map, get, replace, without}
 use Rattle.nm_types.proofs.Cases.{none_some, some_is}
 use Rattle.nm_types.proofs.Keys.{sorted-without, keys-replace}
 use Rattle.nm_types.proofs.Maps.{get-values, keys-values, all_from_get}
-use Rattle.nm_tables.specs.Tree.{joined}
-use Rattle.nm_tables.specs.Nodes.{shown}
+use Rattle.nm_tables.specs.Tree.{flatten}
+use Rattle.nm_tables.specs.Nodes.{slots_shown}
 use Rattle.nm_tables.specs.Blocks.{entries_there, slot_entries, IsLeafOf, IsSlotOf, IsSlot, entries_by, AreBlocks, EachLeafIsNamed, EachHasEntries}
 use Rattle.nm_tables.specs.declared.places.Places.{Places}
 use Rattle.nm_tables.specs.declared.slot.Slot.{Slot}
@@ -84,12 +84,12 @@ module _ (leaves after : List Places) where
   -- blocks that match one by one
   module _ (new old : Map ℕ Slot) (sorted_new : IsStrictlySortedBy nat_cmp (keys_of new)) (sorted_old : IsStrictlySortedBy nat_cmp (keys_of old))
       (match : (k : ℕ) → Matches leaves after k (get nat_cmp new k) (get nat_cmp old k)) where
-    in_order : {V : Type 0} (f : Slot → Map ℕ V) (m : Map ℕ Slot) → IsStrictlySortedBy nat_cmp (keys_of m) → IsStrictlySortedBy nat_cmp (keys_of (shown f m))
+    in_order : {V : Type 0} (f : Slot → Map ℕ V) (m : Map ℕ Slot) → IsStrictlySortedBy nat_cmp (keys_of m) → IsStrictlySortedBy nat_cmp (keys_of (slots_shown f m))
     in_order f m s = subst (IsStrictlySortedBy nat_cmp) (sym (keys-values (λ i x. f x) m)) s
 
     match-entries : entries_by after new ≡ entries_by leaves old
     match-entries =
-        ap joined (alike (shown (slot_entries after) new) (shown (slot_entries leaves) old) (in_order (slot_entries after) new sorted_new) (in_order (slot_entries leaves) old sorted_old)
+        ap flatten (alike (slots_shown (slot_entries after) new) (slots_shown (slot_entries leaves) old) (in_order (slot_entries after) new sorted_new) (in_order (slot_entries leaves) old sorted_old)
         (λ k. get-values exact_unsigned (λ i x. slot_entries after x) new k ∙ entries_alike k (get nat_cmp new k) (get nat_cmp old k) (match k) ∙ sym (get-values exact_unsigned (λ i x. slot_entries leaves x) old k)))
 
     match-kept : AreBlocks after new

@@ -11,8 +11,8 @@ use Rattle.nm_types.specs.Map.{Map, get, set, replace, without}
 use Rattle.nm_types.proofs.Cases.{none_some, some_none, some_is}
 use Rattle.nm_types.proofs.Maps.{get-values}
 use Rattle.std.specs.Option.{option_map}
-use Rattle.nm_tables.specs.Tree.{joined, IsPart}
-use Rattle.nm_tables.specs.Nodes.{shown, are_parts, node_ordered}
+use Rattle.nm_tables.specs.Tree.{flatten, IsPart}
+use Rattle.nm_tables.specs.Nodes.{slots_shown, are_parts, node_ordered}
 use Rattle.nm_tables.specs.Leaves.{leaf_entries, leaf_part, blocks_upwards}
 use Rattle.nm_tables.specs.Blocks.{entries_there, slot_entries, IsLeafOf, IsOf, IsSlotOf, IsSlot, lacks, without_leaf, entries_by, AreBlocks, block_entries, IsBlocks}
 use Rattle.nm_types.specs.declared.entry.Entry.{Entry}
@@ -76,33 +76,33 @@ get-before (leaf ∷ leaves) q (suc j) l = get-before leaves q j (omega (arith, 
 
 -- what is shown of each part by two functions that differ at one key at most
 module _ {P V : Type 0} (f g : P → Map ℕ V) (Is : P → ℕ → Type 0) where
-  pub shown-same : ((x : P) (k : ℕ) → Is x k → g x ≡ f x) → (parts : Map ℕ P) → AllByRecursion (λ e. Is e.1 e.0) parts → shown g parts ≡ shown f parts
+  pub shown-same : ((x : P) (k : ℕ) → Is x k → g x ≡ f x) → (parts : Map ℕ P) → AllByRecursion (λ e. Is e.1 e.0) parts → slots_shown g parts ≡ slots_shown f parts
   shown-same same [] all = refl
   shown-same same (e ∷ parts) all =
-      ap (λ m. (e.0, m) ∷ shown g parts) (same e.1 e.0 all.0) ∙ ap (λ rest. (e.0, f e.1) ∷ rest) (shown-same same parts all.1)
+      ap (λ m. (e.0, m) ∷ slots_shown g parts) (same e.1 e.0 all.0) ∙ ap (λ rest. (e.0, f e.1) ∷ rest) (shown-same same parts all.1)
 
   module _ (b : ℕ) (others : (x : P) (k : ℕ) → (k ≡ b → ⊥) → Is x k → g x ≡ f x) where
-    same_behind : (parts : Map ℕ P) → AllByRecursion (λ k. nat_cmp b k ≡ Less) (keys_of parts) → AllByRecursion (λ e. Is e.1 e.0) parts → shown g parts ≡ shown f parts
+    same_behind : (parts : Map ℕ P) → AllByRecursion (λ k. nat_cmp b k ≡ Less) (keys_of parts) → AllByRecursion (λ e. Is e.1 e.0) parts → slots_shown g parts ≡ slots_shown f parts
     same_behind [] above all = refl
     same_behind (e ∷ parts) above all =
-        ap (λ m. (e.0, m) ∷ shown g parts) (others e.1 e.0 (λ z. less_equal (sym above.0 ∙ same_number b e.0 (sym z))) all.0)
+        ap (λ m. (e.0, m) ∷ slots_shown g parts) (others e.1 e.0 (λ z. less_equal (sym above.0 ∙ same_number b e.0 (sym z))) all.0)
         ∙ ap (λ rest. (e.0, f e.1) ∷ rest) (same_behind parts above.1 all.1)
 
     pub shown-changed : (parts : Map ℕ P) (x : P) → IsStrictlySortedBy nat_cmp (keys_of parts) → AllByRecursion (λ e. Is e.1 e.0) parts → get nat_cmp parts b ≡ Some x
-        → shown g parts ≡ replace nat_cmp (shown f parts) b (g x)
+        → slots_shown g parts ≡ replace nat_cmp (slots_shown f parts) b (g x)
     unfolding IsStrictlySortedBy
     shown-changed [] x s all h = absurd (none_some h)
     shown-changed (e ∷ parts) x s all h =
         elim (nat_cmp b e.0) as (λ r. nat_cmp b e.0 ≡ r → cond (is_eq r) (Some e.1) (get nat_cmp parts b) ≡ Some x
-        → shown g (e ∷ parts) ≡ cond (is_eq r) ((e.0, g x) ∷ shown f parts) ((e.0, f e.1) ∷ replace nat_cmp (shown f parts) b (g x))) [
+        → slots_shown g (e ∷ parts) ≡ cond (is_eq r) ((e.0, g x) ∷ slots_shown f parts) ((e.0, f e.1) ∷ replace nat_cmp (slots_shown f parts) b (g x))) [
           | Less ↦ λ r h.
-              ap (λ m. (e.0, m) ∷ shown g parts) (others e.1 e.0 (λ z. less_equal (sym r ∙ same_number b e.0 (sym z))) all.0)
+              ap (λ m. (e.0, m) ∷ slots_shown g parts) (others e.1 e.0 (λ z. less_equal (sym r ∙ same_number b e.0 (sym z))) all.0)
               ∙ ap (λ rest. (e.0, f e.1) ∷ rest) (shown-changed parts x s.1 all.1 h)
           | Equal ↦ λ r h.
-              ap (λ m. (e.0, m) ∷ shown g parts) (ap g (some_is h))
+              ap (λ m. (e.0, m) ∷ slots_shown g parts) (ap g (some_is h))
               ∙ ap (λ rest. (e.0, g x) ∷ rest) (same_behind parts (subst (λ k. AllByRecursion (λ y. nat_cmp k y ≡ Less) (keys_of parts)) (sym (is_same b e.0 r)) s.0) all.1)
           | Greater ↦ λ r h.
-              ap (λ m. (e.0, m) ∷ shown g parts) (others e.1 e.0 (λ z. greater_equal (sym r ∙ same_number b e.0 (sym z))) all.0)
+              ap (λ m. (e.0, m) ∷ slots_shown g parts) (others e.1 e.0 (λ z. greater_equal (sym r ∙ same_number b e.0 (sym z))) all.0)
               ∙ ap (λ rest. (e.0, f e.1) ∷ rest) (shown-changed parts x s.1 all.1 h)
         ] refl h
 
@@ -182,7 +182,7 @@ module _ (leaves : List Places) (index : Map ℕ Slot) (is : AreBlocks leaves in
   pub blocks-without_nothing : (v : ℕ) → get nat_cmp index (v / 512) ≡ None → without nat_cmp (entries_by leaves index) v ≡ entries_by leaves index
   blocks-without_nothing v h = node.node-without_nothing (slot_entries leaves) block_number IsSlot (IsSlotOf leaves) (slot_part leaves) blocks_upwards index is v h
 
-  at_shown : (b : ℕ) (slot : Slot) → get nat_cmp index b ≡ Some slot → get nat_cmp (shown (slot_entries leaves) index) b ≡ Some (slot_entries leaves slot)
+  at_shown : (b : ℕ) (slot : Slot) → get nat_cmp index b ≡ Some slot → get nat_cmp (slots_shown (slot_entries leaves) index) b ≡ Some (slot_entries leaves slot)
   at_shown b slot h = get-values exact_unsigned (λ i x. slot_entries leaves x) index b ∙ ap (option_map (slot_entries leaves)) h
 
   -- the block of v has a leaf, which is written to
@@ -220,21 +220,21 @@ module _ (leaves : List Places) (index : Map ℕ Slot) (is : AreBlocks leaves in
     pub written-kept : AreBlocks (put leaves i q) index
     written-kept = (is.0, all_still index is.1)
 
-    written : (m : Map ℕ Entry) → leaf_entries q ≡ m → entries_by (put leaves i q) index ≡ joined (replace nat_cmp (shown (slot_entries leaves) index) (v / 512) m)
+    written : (m : Map ℕ Entry) → leaf_entries q ≡ m → entries_by (put leaves i q) index ≡ flatten (replace nat_cmp (slots_shown (slot_entries leaves) index) (v / 512) m)
     written m to =
-        ap joined (shown-changed (slot_entries leaves) (slot_entries (put leaves i q)) (λ slot k. IsSlot slot × IsSlotOf leaves slot k) (v / 512) other_slot index (Leaf i) is.0 is.1 h
-        ∙ ap (replace nat_cmp (shown (slot_entries leaves) index) (v / 512)) (ap entries_there (get-written leaves i q (within leaves i (v / 512) here)) ∙ to))
+        ap flatten (shown-changed (slot_entries leaves) (slot_entries (put leaves i q)) (λ slot k. IsSlot slot × IsSlotOf leaves slot k) (v / 512) other_slot index (Leaf i) is.0 is.1 h
+        ∙ ap (replace nat_cmp (slots_shown (slot_entries leaves) index) (v / 512)) (ap entries_there (get-written leaves i q (within leaves i (v / 512) here)) ∙ to))
 
     pub written-set : (p : Places) (e : Entry) → slice_get leaves i ≡ Some p → leaf_entries q ≡ set nat_cmp (leaf_entries p) v e → entries_by (put leaves i q) index ≡ set nat_cmp (entries_by leaves index) v e
     written-set p e at to =
         written (set nat_cmp (leaf_entries p) v e) to
-        ∙ joined-set block_number blocks_upwards (shown (slot_entries leaves) index) (are_parts (slot_entries leaves) block_number IsSlot (IsSlotOf leaves) (slot_part leaves) index is) v e (leaf_entries p)
+        ∙ joined-set block_number blocks_upwards (slots_shown (slot_entries leaves) index) (are_parts (slot_entries leaves) block_number IsSlot (IsSlotOf leaves) (slot_part leaves) index is) v e (leaf_entries p)
         (at_shown (v / 512) (Leaf i) h ∙ ap (λ o. Some (entries_there o)) at)
 
     pub written-without : (p : Places) → slice_get leaves i ≡ Some p → leaf_entries q ≡ without nat_cmp (leaf_entries p) v → entries_by (put leaves i q) index ≡ without nat_cmp (entries_by leaves index) v
     written-without p at to =
         written (without nat_cmp (leaf_entries p) v) to
-        ∙ joined-without block_number blocks_upwards (shown (slot_entries leaves) index) (are_parts (slot_entries leaves) block_number IsSlot (IsSlotOf leaves) (slot_part leaves) index is) v (leaf_entries p)
+        ∙ joined-without block_number blocks_upwards (slots_shown (slot_entries leaves) index) (are_parts (slot_entries leaves) block_number IsSlot (IsSlotOf leaves) (slot_part leaves) index is) v (leaf_entries p)
         (at_shown (v / 512) (Leaf i) h ∙ ap (λ o. Some (entries_there o)) at)
 
   -- a leaf is added after the others
@@ -258,7 +258,7 @@ module _ (leaves : List Places) (index : Map ℕ Slot) (is : AreBlocks leaves in
     behind-kept = (is.0, all_behind index is.1)
 
     pub behind-same : entries_by (leaves ++ q ∷ []) index ≡ entries_by leaves index
-    behind-same = ap joined (shown-same (slot_entries leaves) (slot_entries (leaves ++ q ∷ [])) (λ slot k. IsSlot slot × IsSlotOf leaves slot k) behind_slot index is.1)
+    behind-same = ap flatten (shown-same (slot_entries leaves) (slot_entries (leaves ++ q ∷ [])) (λ slot k. IsSlot slot × IsSlotOf leaves slot k) behind_slot index is.1)
 
 -- a block with one entry gets a leaf with a second one
 module _ (leaves : List Places) (index : Map ℕ Slot) (is : AreBlocks leaves index) (v own : ℕ) (first entry : Entry) (q : Places) (h : get nat_cmp index (v / 512) ≡ Some (Lone own first))

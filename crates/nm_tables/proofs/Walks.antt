@@ -12,10 +12,10 @@ use Rattle.std.specs.BTreeMap.Range.{entries_between, range_contains}
 use Rattle.nm_types.specs.Map.{Map, get}
 use Rattle.nm_types.proofs.Maps.{keys-values}
 use Rattle.nm_types.proofs.Cases.{none_some}
-use Rattle.nm_tables.specs.Tree.{joined, IsPart}
+use Rattle.nm_tables.specs.Tree.{flatten, IsPart}
 use Rattle.nm_tables.specs.Orders.{keys_above}
 use Rattle.nm_tables.proofs.Joined.{one_or_other, get-here, get-later, get-absent, get-append_some, get-append_none, none_elsewhere}
-use Rattle.nm_tables.specs.Nodes.{shown, IsNode, are_parts}
+use Rattle.nm_tables.specs.Nodes.{slots_shown, IsNode, are_parts}
 use Rattle.nm_tables.proofs.Nodes.{node-get, node-get_none}
 
 pub from_it : (a k : ℕ) → a ≤ k → is_le (nat_cmp a k) ≡ true
@@ -68,44 +68,44 @@ module _ {P V : Type 0} (entries : P → Map ℕ V) (number : ℕ → ℕ) (whol
   unfolding IsStrictlySortedBy
   node-tail e ps is = (is.0.1, is.1.1)
 
-  none_later : (e : ℕ × P) (ps : Map ℕ P) → IsNode whole is_in (e ∷ ps) → (v : ℕ) → number v ≤ e.0 → get nat_cmp (joined (shown entries ps)) v ≡ None
+  none_later : (e : ℕ × P) (ps : Map ℕ P) → IsNode whole is_in (e ∷ ps) → (v : ℕ) → number v ≤ e.0 → get nat_cmp (flatten (slots_shown entries ps)) v ≡ None
   unfolding IsStrictlySortedBy
   none_later e ps is v low =
-      get-absent (λ k. e.0 < number k) (joined (shown entries ps)) v
-      (keys_above number upwards e.0 (shown entries ps) (subst (AllByRecursion (λ j. nat_cmp e.0 j ≡ Less)) (sym (keys-values (λ i x. entries x) ps)) is.0.0)
+      get-absent (λ k. e.0 < number k) (flatten (slots_shown entries ps)) v
+      (keys_above number upwards e.0 (slots_shown entries ps) (subst (AllByRecursion (λ j. nat_cmp e.0 j ≡ Less)) (sym (keys-values (λ i x. entries x) ps)) is.0.0)
       (are_parts entries number whole is_in part ps (is.0.1, is.1.1)).1)
       (λ l. absurd (omega (arith, l, low)))
 
   -- the first entry of the first part that has one
-  pub walk-some : (e : ℕ × P) (ps : Map ℕ P) (k : ℕ) (x : V) → get nat_cmp (entries e.1) k ≡ Some x → get nat_cmp (joined (shown entries (e ∷ ps))) k ≡ Some x
-  walk-some e ps k x h = get-append_some (entries e.1) (joined (shown entries ps)) k x h
+  pub walk-some : (e : ℕ × P) (ps : Map ℕ P) (k : ℕ) (x : V) → get nat_cmp (entries e.1) k ≡ Some x → get nat_cmp (flatten (slots_shown entries (e ∷ ps))) k ≡ Some x
+  walk-some e ps k x h = get-append_some (entries e.1) (flatten (slots_shown entries ps)) k x h
 
   own : (e : ℕ × P) (ps : Map ℕ P) → IsNode whole is_in (e ∷ ps) → (k : ℕ) (x : V) → get nat_cmp (entries e.1) k ≡ Some x → Dec (number k ≡ e.0) → number k ≡ e.0
   own e ps is k x h (yes z) = z
   own e ps is k x h (no n) = absurd (none_some (sym (none_elsewhere number upwards e.0 (entries e.1) k (part e.1 e.0 is.1.0.0 is.1.0.1) n) ∙ h))
 
   pub walk-before : (e : ℕ × P) (ps : Map ℕ P) → IsNode whole is_in (e ∷ ps) → (k : ℕ) (x : V) → get nat_cmp (entries e.1) k ≡ Some x
-      → (v : ℕ) → v < k → get nat_cmp (entries e.1) v ≡ None → get nat_cmp (joined (shown entries (e ∷ ps))) v ≡ None
+      → (v : ℕ) → v < k → get nat_cmp (entries e.1) v ≡ None → get nat_cmp (flatten (slots_shown entries (e ∷ ps))) v ≡ None
   walk-before e ps is k x h v low none =
       let up = upwards v k (omega (arith, low)) in
       let at = own e ps is k x h (one_or_other (number k) e.0) in
-      get-append_none (entries e.1) (joined (shown entries ps)) v none ∙ none_later e ps is v (omega (arith, up, at))
+      get-append_none (entries e.1) (flatten (slots_shown entries ps)) v none ∙ none_later e ps is v (omega (arith, up, at))
 
-  pub walk-on : (e : ℕ × P) (ps : Map ℕ P) (v : ℕ) → get nat_cmp (entries e.1) v ≡ None → get nat_cmp (joined (shown entries (e ∷ ps))) v ≡ get nat_cmp (joined (shown entries ps)) v
-  walk-on e ps v none = get-append_none (entries e.1) (joined (shown entries ps)) v none
+  pub walk-on : (e : ℕ × P) (ps : Map ℕ P) (v : ℕ) → get nat_cmp (entries e.1) v ≡ None → get nat_cmp (flatten (slots_shown entries (e ∷ ps))) v ≡ get nat_cmp (flatten (slots_shown entries ps)) v
+  walk-on e ps v none = get-append_none (entries e.1) (flatten (slots_shown entries ps)) v none
 
   pub node-range : (a : ℕ) (ps : Map ℕ P) → IsNode whole is_in ps → IsNode whole is_in (entries_between nat_cmp (Included a) Unbounded ps)
   node-range a ps is =
       (sorted-filter (range_contains nat_cmp (Included a) Unbounded) ps is.0, all-filter (range_contains nat_cmp (Included a) Unbounded) (λ e. whole e.1 × is_in e.1 e.0) ps is.1)
 
   pub walk-start : (at : ℕ) (ps : Map ℕ P) → IsNode whole is_in ps → (v : ℕ) → at ≤ v
-      → get nat_cmp (joined (shown entries ps)) v ≡ get nat_cmp (joined (shown entries (entries_between nat_cmp (Included (number at)) Unbounded ps))) v
+      → get nat_cmp (flatten (slots_shown entries ps)) v ≡ get nat_cmp (flatten (slots_shown entries (entries_between nat_cmp (Included (number at)) Unbounded ps))) v
   walk-start at ps is v low =
       let rest = entries_between nat_cmp (Included (number at)) Unbounded ps in
       let node = node-range (number at) ps is in
       let same : get nat_cmp rest (number v) ≡ get nat_cmp ps (number v) =
       get-filter (range_contains nat_cmp (Included (number at)) Unbounded) ps (number v) (passes (number at) (number v) (upwards at v low)) in
-      elim (get nat_cmp ps (number v)) as (λ o. get nat_cmp ps (number v) ≡ o → get nat_cmp (joined (shown entries ps)) v ≡ get nat_cmp (joined (shown entries rest)) v) [
+      elim (get nat_cmp ps (number v)) as (λ o. get nat_cmp ps (number v) ≡ o → get nat_cmp (flatten (slots_shown entries ps)) v ≡ get nat_cmp (flatten (slots_shown entries rest)) v) [
         | None ↦ λ o. node-get_none entries number whole is_in part upwards ps is v o ∙ sym (node-get_none entries number whole is_in part upwards rest node v (same ∙ o))
         | Some x ↦ λ o. node-get entries number whole is_in part upwards ps is v x o ∙ sym (node-get entries number whole is_in part upwards rest node v x (same ∙ o))
       ] refl

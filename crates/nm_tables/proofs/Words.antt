@@ -5,7 +5,7 @@ use Rattle.std.specs.Int.{bit_at}
 use Rattle.std.proofs.lemmas.Nat.{div-add-mod', mod_below}
 use Rattle.std.proofs.lemmas.Nat.Bits.{bit_at_cat_high, bit_at_or}
 use Rattle.nm_tables.specs.Marks.{is_marked}
-use Rattle.nm_tables.specs.Leaves.{stands_at, entry_of}
+use Rattle.nm_tables.specs.Leaves.{stands_at, leaf_entry}
 use Rattle.nm_tables.specs.declared.places.Places.{Places}
 
 shifted : (w k j : ℕ) → 0 < 2 ^ k → bit_at (w / 2 ^ k) j ≡ bit_at w (k + j)
@@ -36,4 +36,4 @@ absent_by p place a b named marked i low high none =
     let no_b : bit_at b (i - place) ≡ 0 = omega (arith, both) in
     let first : is_marked p.named.words i ≡ false = ap (is_marked p.named.words) (sym back) ∙ named (i - place) fits ∙ ap (λ n. n == 1) no_a in
     let second : is_marked p.marked.words i ≡ false = ap (is_marked p.marked.words) (sym back) ∙ marked (i - place) fits ∙ ap (λ n. n == 1) no_b in
-    ap (λ m. entry_of m (is_marked p.marked.words i) (slice_index_or p.frames i 0)) first ∙ ap (λ m. entry_of false m (slice_index_or p.frames i 0)) second
+    ap (λ m. leaf_entry m (is_marked p.marked.words i) (slice_index_or p.frames i 0)) first ∙ ap (λ m. leaf_entry false m (slice_index_or p.frames i 0)) second

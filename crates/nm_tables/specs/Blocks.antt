@@ -3,8 +3,8 @@ use Rattle.std.specs.Prelude.{◌≡◌, ℕ, ◌+◌, ◌/◌, ◌<◌, ◌≤�
 use Rattle.std.specs.Vec.{vec_capacity}
 use Rattle.std.specs.Ordering.{nat_cmp}
 use Rattle.nm_types.specs.Map.{Map, get}
-use Rattle.nm_tables.specs.Tree.{joined}
-use Rattle.nm_tables.specs.Nodes.{shown, IsNode}
+use Rattle.nm_tables.specs.Tree.{flatten}
+use Rattle.nm_tables.specs.Nodes.{slots_shown, IsNode}
 use Rattle.nm_tables.specs.Leaves.{leaf_entries}
 use Rattle.nm_types.specs.declared.entry.Entry.{Entry}
 use Rattle.nm_tables.specs.declared.places.Places.{Places}
@@ -52,7 +52,7 @@ without_leaf (e ∷ index) = lacks e.1 + without_leaf index
 
 -- the entries of all blocks
 abbrev pub entries_by : List Places → Map ℕ Slot → Map ℕ Entry
-entries_by leaves index = joined (shown (slot_entries leaves) index)
+entries_by leaves index = flatten (slots_shown (slot_entries leaves) index)
 
 -- the blocks are in ascending order, each with a slot of its own
 abbrev pub AreBlocks : List Places → Map ℕ Slot → Type 0

@@ -3,8 +3,8 @@ use Rattle.std.specs.Prelude.{◌≡◌, ℕ, ◌/◌, [], ◌∷◌, Option, So
 use Rattle.std.specs.List.{AllByRecursion}
 use Rattle.std.specs.Map.{keys_of}
 use Rattle.nm_types.specs.Map.{Map}
-use Rattle.nm_tables.specs.Tree.{joined}
-use Rattle.nm_tables.specs.Nodes.{shown, IsFilledNode}
+use Rattle.nm_tables.specs.Tree.{flatten}
+use Rattle.nm_tables.specs.Nodes.{slots_shown, IsFilledNode}
 use Rattle.nm_tables.specs.declared.slot.Slot.{Slot}
 use Rattle.nm_tables.specs.declared.cell.Cell.{Cell}
 use Rattle.nm_tables.specs.Branches.{parts_of}
@@ -25,7 +25,7 @@ IsCellOf cell i = cell.block ≡ i
 module _ {A P : Type 0} where
   -- the slots of a node, from those of its parts
   abbrev pub slots_in : (P → Map ℕ Slot) → Branch P A → Map ℕ Slot
-  slots_in slots node = joined (shown slots (parts_of node))
+  slots_in slots node = flatten (slots_shown slots (parts_of node))
 
   -- the node has parts, in order, each valid and with its own number
   abbrev pub IsInner : (P → Type 0) → (P → ℕ → Type 0) → Branch P A → Type 0

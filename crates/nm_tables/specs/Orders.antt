@@ -8,7 +8,7 @@ use Rattle.std.specs.Cmp.{nat_cmp_is, ranked}
 use Rattle.std.specs.declared.cmp.Ordering.TheVariants.{Less}
 use Rattle.std.proofs.Math.Decide.{dec_lt}
 use Rattle.nm_types.specs.Map.{Map}
-use Rattle.nm_tables.specs.Tree.{joined, IsPart, AreParts}
+use Rattle.nm_tables.specs.Tree.{flatten, IsPart, AreParts}
 
 -- what holds of the keys of two maps holds of the keys of both together
 pub all-append : {V : Type 0} (P : ℕ → Type 0) (a b : Map ℕ V)
@@ -34,10 +34,10 @@ module _ (number : ℕ → ℕ) (upwards : (a b : ℕ) → a ≤ b → number a 
 module _ {V : Type 0} (number : ℕ → ℕ) (upwards : (a b : ℕ) → a ≤ b → number a ≤ number b) where
   -- the keys of later parts have greater numbers
   pub keys_above : (i : ℕ) (parts : Map ℕ (Map ℕ V)) → AllByRecursion (λ j. nat_cmp i j ≡ Less) (keys_of parts)
-      → AllByRecursion (λ e. IsPart number e.0 e.1) parts → AllByRecursion (λ k. i < number k) (keys_of (joined parts))
+      → AllByRecursion (λ e. IsPart number e.0 e.1) parts → AllByRecursion (λ k. i < number k) (keys_of (flatten parts))
   keys_above i [] above all = tt
   keys_above i (c ∷ parts) above all =
-      all-append (λ k. i < number k) c.1 (joined parts)
+      all-append (λ k. i < number k) c.1 (flatten parts)
       (keys_of_number number upwards i c.0 (keys_of c.1) (ranked i c.0 Less (sym above.0)) all.0.1)
       (keys_above i parts above.1 all.1)
 
@@ -53,8 +53,8 @@ module _ {V : Type 0} (number : ℕ → ℕ) (upwards : (a b : ℕ) → a ≤ b 
       )
 
   -- the entries of parts in order are in order
-  pub sorted-joined : (parts : Map ℕ (Map ℕ V)) → AreParts number parts → IsStrictlySortedBy nat_cmp (keys_of (joined parts))
+  pub sorted-joined : (parts : Map ℕ (Map ℕ V)) → AreParts number parts → IsStrictlySortedBy nat_cmp (keys_of (flatten parts))
   unfolding IsStrictlySortedBy
   sorted-joined [] are = tt
   sorted-joined (c ∷ parts) are =
-      sorted-append c.0 c.1 (joined parts) are.1.0 (sorted-joined parts (are.0.1, are.1.1)) (keys_above c.0 parts are.0.0 are.1.1)
+      sorted-append c.0 c.1 (flatten parts) are.1.0 (sorted-joined parts (are.0.1, are.1.1)) (keys_above c.0 parts are.0.0 are.1.1)

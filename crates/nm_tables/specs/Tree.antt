@@ -8,9 +8,9 @@ use Rattle.nm_types.specs.Map.{Map}
 
 module _ {V : Type 0} where
   -- the entries of all parts, one part after another
-  abbrev pub joined : Map ℕ (Map ℕ V) → Map ℕ V
-  joined [] = []
-  joined (part ∷ parts) = part.1 ++ joined parts
+  abbrev pub flatten : Map ℕ (Map ℕ V) → Map ℕ V
+  flatten [] = []
+  flatten (part ∷ parts) = part.1 ++ flatten parts
 
   -- this entry, if there is one, and then those after it
   abbrev pub and_then : Option V → ℕ → Map ℕ V → Map ℕ V
@@ -18,9 +18,9 @@ module _ {V : Type 0} where
   and_then (Some x) v rest = (v, x) ∷ rest
 
   -- the values of a function at this many numbers, from `v` on
-  abbrev pub listed : (ℕ → Option V) → ℕ → ℕ → Map ℕ V
-  listed f v zero = []
-  listed f v (suc more) = and_then (f v) v (listed f (suc v) more)
+  abbrev pub entries_from : (ℕ → Option V) → ℕ → ℕ → Map ℕ V
+  entries_from f v zero = []
+  entries_from f v (suc more) = and_then (f v) v (entries_from f (suc v) more)
 
   -- a map in key order whose keys all have this number
   abbrev pub IsPart : (ℕ → ℕ) → ℕ → Map ℕ V → Type 0

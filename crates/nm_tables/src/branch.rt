@@ -5,8 +5,8 @@ ghost use Rattle.std.specs.List.{AllByRecursion};
 ghost use Rattle.std.specs.Map.{keys_of};
 ghost use Rattle.std.specs.Ordering.{nat_cmp};
 ghost use Rattle.nm_types.specs.Map.{get, set};
-ghost use Rattle.nm_tables.specs.Tree.{joined};
-ghost use Rattle.nm_tables.specs.Nodes.{shown, IsFilledNode};
+ghost use Rattle.nm_tables.specs.Tree.{flatten};
+ghost use Rattle.nm_tables.specs.Nodes.{slots_shown, IsFilledNode};
 ghost use Rattle.nm_tables.specs.Branches.{parts_of, IsOne};
 
 use crate::Entry;
@@ -39,13 +39,13 @@ impl<T: Subtree<A>, A: Allocator + Copy> Branch<T, A> {
 
         // On success
         ensures ok { OnOk result
-            (joined (shown T.slots (parts_of self.new))
-            ≡ set nat_cmp (joined (shown T.slots (parts_of self.old))) block slot) }
+            (flatten (slots_shown T.slots (parts_of self.new))
+            ≡ set nat_cmp (flatten (slots_shown T.slots (parts_of self.old))) block slot) }
 
         // Without memory
         ensures err { OnErr result
-            (joined (shown T.slots (parts_of self.new))
-            ≡ joined (shown T.slots (parts_of self.old))) }
+            (flatten (slots_shown T.slots (parts_of self.new))
+            ≡ flatten (slots_shown T.slots (parts_of self.old))) }
 
         // In any case
         ensures kept { IsFilledNode T.whole T.is_in (parts_of self.new) }
@@ -76,11 +76,11 @@ impl<T: Subtree<A>, A: Allocator + Copy> Subtree<A> for Branch<T, A> {
     ghost use Rattle.std.specs.Prelude.{◌≡◌, ◌/◌};
     ghost use Rattle.std.specs.List.{AllByRecursion};
     ghost use Rattle.std.specs.Map.{keys_of};
-    ghost use Rattle.nm_tables.specs.Tree.{joined};
-    ghost use Rattle.nm_tables.specs.Nodes.{shown, IsFilledNode, node_ordered, node_filled, node_part, upwards_again};
+    ghost use Rattle.nm_tables.specs.Tree.{flatten};
+    ghost use Rattle.nm_tables.specs.Nodes.{slots_shown, IsFilledNode, node_ordered, node_filled, node_part, upwards_again};
     ghost use Rattle.nm_tables.specs.Branches.{parts_of};
 
-    ghost slots = { λ b. joined (shown T.slots (parts_of b)) };
+    ghost slots = { λ b. flatten (slots_shown T.slots (parts_of b)) };
 
     ghost number = { λ v. T.number v / 512 };
 

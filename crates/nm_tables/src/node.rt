@@ -70,10 +70,10 @@ impl<T: Subtree<A>, A: Allocator + Copy> Subtree<A> for Node<T, A> {
     ghost use Rattle.std.specs.Prelude.{◌≡◌, ◌/◌};
     ghost use Rattle.std.specs.List.{AllByRecursion};
     ghost use Rattle.std.specs.Map.{keys_of};
-    ghost use Rattle.nm_tables.specs.Tree.{joined};
-    ghost use Rattle.nm_tables.specs.Nodes.{shown, IsFilledNode, node_ordered, node_filled, node_part, upwards_again};
+    ghost use Rattle.nm_tables.specs.Tree.{flatten};
+    ghost use Rattle.nm_tables.specs.Nodes.{slots_shown, IsFilledNode, node_ordered, node_filled, node_part, upwards_again};
 
-    ghost slots = { λ n. joined (shown T.slots n.parts.items) };
+    ghost slots = { λ n. flatten (slots_shown T.slots n.parts.items) };
 
     ghost number = { λ v. T.number v / 512 };
 

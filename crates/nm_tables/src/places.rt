@@ -1,7 +1,7 @@
 //! The places of a leaf.
 
 ghost use Rattle.std.specs.Prelude.{◌≡◌, ◌≤◌, ◌<◌, ◌+◌, ℕ, true, false, None, Some, IfSome, IfNone};
-ghost use Rattle.nm_tables.specs.Leaves.{entry_of, stands_at};
+ghost use Rattle.nm_tables.specs.Leaves.{leaf_entry, stands_at};
 
 use crate::Entry;
 use crate::marks::Marks;
@@ -89,7 +89,7 @@ impl Places {
         requires { place < 512 }
 
         // At this place
-        ensures here { stands_at self.new place ≡ entry_of named marked frame }
+        ensures here { stands_at self.new place ≡ leaf_entry named marked frame }
 
         // Elsewhere
         ensures others { (i : ℕ) → (i ≡ place → ⊥) → stands_at self.new i ≡ stands_at self.old i }

@@ -1,8 +1,8 @@
 use Rattle.std.proofs.Common.{◌≡◌, ◌++◌, [], ◌∷◌, sym, ap, subst, ◌∙◌}
 use Rattle.std.specs.Ordering.{nat_cmp}
 use Rattle.nm_types.specs.Map.{set}
-use Rattle.nm_tables.specs.Tree.{joined}
-use Rattle.nm_tables.specs.Nodes.{shown, IsNode}
+use Rattle.nm_tables.specs.Tree.{flatten}
+use Rattle.nm_tables.specs.Nodes.{slots_shown, IsNode}
 use Rattle.nm_tables.specs.Branches.{parts_of}
 use Rattle.nm_tables.proofs.Changed.{set_some}
 use Rattle.nm_tables.proofs.Nodes as node
@@ -41,7 +41,7 @@ both g c =
 
 pub returns-clause-ok : goal.returns-clause-ok
 returns-clause-ok g c =
-    ap (λ ps. joined (shown g.T.Subtree.slots ps)) (both g c)
+    ap (λ ps. flatten (slots_shown g.T.Subtree.slots ps)) (both g c)
     ∙ node.node-new g.T.Subtree.slots g.T.Subtree.number g.T.Subtree.whole g.T.Subtree.is_in g.met.T.Subtree.parted g.met.T.Subtree.upwards (parts_of c.args.self.now) c.requires.kept.0 c.args.block c.in_ok-part.part c.args.slot c.requires.apart c.in_ok-part.ensures.one
 
 pub returns-clause-kept : goal.returns-clause-kept

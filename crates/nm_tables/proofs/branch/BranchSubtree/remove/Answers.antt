@@ -5,8 +5,8 @@ use Rattle.std.specs.Map.{keys_of}
 use Rattle.std.specs.Ordering.{nat_cmp}
 use Rattle.nm_types.specs.Map.{get}
 use Rattle.nm_types.proofs.Cases.{none_is_not}
-use Rattle.nm_tables.specs.Tree.{joined}
-use Rattle.nm_tables.specs.Nodes.{shown, IsNode}
+use Rattle.nm_tables.specs.Tree.{flatten}
+use Rattle.nm_tables.specs.Nodes.{slots_shown, IsNode}
 use Rattle.nm_tables.specs.Branches.{parts_of}
 use Rattle.nm_tables.specs.declared.slot.Slot.{Slot}
 use Rattle.nm_tables.proofs.Nodes as node
@@ -17,7 +17,7 @@ pub remove-requires-clause-inside : goal.remove-requires-clause-inside
 remove-requires-clause-inside g c =
     let parts = parts_of c.args.self.now in
     let one = ap parts_of c.in-One.is in
-    let own = its_number c.in-One.field-0 (g.T.Subtree.number c.args.block) (IsSome (get nat_cmp (joined (shown g.T.Subtree.slots parts)) c.args.block))
+    let own = its_number c.in-One.field-0 (g.T.Subtree.number c.args.block) (IsSome (get nat_cmp (flatten (slots_shown g.T.Subtree.slots parts)) c.args.block))
     (λ apart there. none_is_not Slot (subst IsSome (node.node-get_none g.T.Subtree.slots g.T.Subtree.number g.T.Subtree.whole g.T.Subtree.is_in g.met.T.Subtree.parted g.met.T.Subtree.upwards parts c.requires.kept.0 c.args.block (absent_beside parts c.in-One.field-0 (g.T.Subtree.number c.args.block) c.in-One.part one apart)) there))
     c.requires.there in
     g.met.T.Subtree.takes_own c.in-One.part c.args.block (subst (g.T.Subtree.is_in c.in-One.part) own (subst (IsNode g.T.Subtree.whole g.T.Subtree.is_in) one c.requires.kept.0).1.0.1)

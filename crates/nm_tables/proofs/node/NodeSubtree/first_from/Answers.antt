@@ -4,8 +4,8 @@ use Rattle.std.specs.Ordering.{nat_cmp}
 use Rattle.std.specs.declared.ops.Bound.TheVariants.{Included, Unbounded}
 use Rattle.std.specs.BTreeMap.Range.{entries_between}
 use Rattle.nm_types.specs.Map.{get}
-use Rattle.nm_tables.specs.Tree.{joined}
-use Rattle.nm_tables.specs.Nodes.{shown, IsNode}
+use Rattle.nm_tables.specs.Tree.{flatten}
+use Rattle.nm_tables.specs.Nodes.{slots_shown, IsNode}
 use Rattle.nm_tables.specs.Parts.{BeginsAt}
 use Rattle.nm_tables.proofs.Parts.{between_is}
 use Rattle.nm_tables.proofs.Walks as walk
@@ -26,7 +26,7 @@ loop-part-init g c =
           (walk.node-range g.T.Subtree.slots g.T.Subtree.number g.T.Subtree.whole g.T.Subtree.is_in g.met.T.Subtree.parted g.met.T.Subtree.upwards (g.T.Subtree.number c.args.at) parts c.requires.kept.0);
       same = λ v low.
           walk.walk-start g.T.Subtree.slots g.T.Subtree.number g.T.Subtree.whole g.T.Subtree.is_in g.met.T.Subtree.parted g.met.T.Subtree.upwards c.args.at parts c.requires.kept.0 v low
-          ∙ ap (λ ps. get nat_cmp (joined (shown g.T.Subtree.slots ps)) v) all;
+          ∙ ap (λ ps. get nat_cmp (flatten (slots_shown g.T.Subtree.slots ps)) v) all;
     }
 
 pub returns-in-Some-clause-some : goal.returns-in-Some-clause-some
@@ -38,7 +38,7 @@ returns-in-Some-clause-some g c =
     let some = c.in-Some.ensures.some in (
       some.0,
       l.invariant.same c.in-Some.found.0 some.0
-          ∙ ap (λ ps. get nat_cmp (joined (shown g.T.Subtree.slots ps)) c.in-Some.found.0) here
+          ∙ ap (λ ps. get nat_cmp (flatten (slots_shown g.T.Subtree.slots ps)) c.in-Some.found.0) here
           ∙ walk.walk-some g.T.Subtree.slots g.T.Subtree.number g.T.Subtree.whole g.T.Subtree.is_in g.met.T.Subtree.parted g.met.T.Subtree.upwards e (drop (l.part-index + 1) xs) c.in-Some.found.0 c.in-Some.found.1 some.1,
     )
 
@@ -49,7 +49,7 @@ returns-in-Some-clause-first g c v low high =
     let e = c.loop-part-item.result in
     let here : drop l.part-index xs ≡ e ∷ drop (l.part-index + 1) xs = drop_more xs l.part-index e (omega arith) ∙ ap (λ d. d ∷ drop (l.part-index + 1) xs) (sym c.loop-part-item.is) in
     l.invariant.same v low
-    ∙ ap (λ ps. get nat_cmp (joined (shown g.T.Subtree.slots ps)) v) here
+    ∙ ap (λ ps. get nat_cmp (flatten (slots_shown g.T.Subtree.slots ps)) v) here
     ∙ walk.walk-before g.T.Subtree.slots g.T.Subtree.number g.T.Subtree.whole g.T.Subtree.is_in g.met.T.Subtree.parted g.met.T.Subtree.upwards e (drop (l.part-index + 1) xs)
     (subst (IsNode g.T.Subtree.whole g.T.Subtree.is_in) here l.invariant.kept)
     c.in-Some.found.0 c.in-Some.found.1 c.in-Some.ensures.some.1 v high (c.in-Some.ensures.first v low high)
@@ -64,6 +64,6 @@ loop-part-preserved g c =
       kept = walk.node-tail g.T.Subtree.slots g.T.Subtree.number g.T.Subtree.whole g.T.Subtree.is_in g.met.T.Subtree.parted g.met.T.Subtree.upwards e (drop (l.part-index + 1) xs) (subst (IsNode g.T.Subtree.whole g.T.Subtree.is_in) here l.invariant.kept);
       same = λ v low.
           l.invariant.same v low
-          ∙ ap (λ ps. get nat_cmp (joined (shown g.T.Subtree.slots ps)) v) here
+          ∙ ap (λ ps. get nat_cmp (flatten (slots_shown g.T.Subtree.slots ps)) v) here
           ∙ walk.walk-on g.T.Subtree.slots g.T.Subtree.number g.T.Subtree.whole g.T.Subtree.is_in g.met.T.Subtree.parted g.met.T.Subtree.upwards e (drop (l.part-index + 1) xs) v (c.in_default.ensures.none v low);
     }

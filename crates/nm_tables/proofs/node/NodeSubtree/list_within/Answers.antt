@@ -1,7 +1,7 @@
 use Rattle.std.proofs.Common.{◌≡◌, ◌-◌, ◌+◌, ◌/◌, ◌<◌, ◌∷◌, ◌++◌, drop, take, length, sym, ap, subst, ◌∙◌, arith, take_all, length-drop}
 use Rattle.std.proofs.lemmas.List.{drop_more}
-use Rattle.nm_tables.specs.Tree.{joined}
-use Rattle.nm_tables.specs.Nodes.{shown, IsNode}
+use Rattle.nm_tables.specs.Tree.{flatten}
+use Rattle.nm_tables.specs.Nodes.{slots_shown, IsNode}
 use Rattle.nm_tables.specs.Parts.{BeginsAt}
 use Rattle.nm_tables.specs.Blocks.{entries_by, AreBlocks}
 use Rattle.nm_tables.proofs.Results.{where_err}
@@ -24,10 +24,10 @@ loop-number-init g c =
     record {
       kept = subst (IsNode t.whole t.is_in) left
           (listed.rest_kept t.slots t.number t.whole t.is_in g.met.T.Subtree.parted g.met.T.Subtree.upwards leaves c.args.first c.args.last parts from c.requires.kept.0 c.requires.named);
-      named = subst (λ ps. AreBlocks leaves (joined (shown t.slots ps))) left
+      named = subst (λ ps. AreBlocks leaves (flatten (slots_shown t.slots ps))) left
           (listed.rest_named t.slots t.number t.whole t.is_in g.met.T.Subtree.parted g.met.T.Subtree.upwards leaves c.args.first c.args.last parts from c.requires.kept.0 c.requires.named);
       left = ap (λ m. c.args.list.now.items ++ m)
-          (ap (λ ps. within c.args.first c.args.last (entries_by leaves (joined (shown t.slots ps)))) (sym left)
+          (ap (λ ps. within c.args.first c.args.last (entries_by leaves (flatten (slots_shown t.slots ps)))) (sym left)
           ∙ listed.rest_there t.slots t.number t.whole t.is_in g.met.T.Subtree.parted g.met.T.Subtree.upwards leaves c.args.first c.args.last parts from c.requires.kept.0 c.requires.named begins);
       before = listed.unextended c.args.list.now.items;
     }
@@ -43,8 +43,8 @@ returns-then-end-number-clause-ok g c =
     let here : drop l.number-index xs ≡ e ∷ rest = drop_more xs l.number-index e (omega arith) ∙ ap (λ d. d ∷ rest) (sym c.loop-number-item.is) in
     let number = c.number_of-end.ensures ∙ ap t.number c.block_of-2.ensures.number in
     listed.list-end t.slots t.number t.whole t.is_in g.met.T.Subtree.parted g.met.T.Subtree.upwards leaves c.args.first c.args.last e rest
-    (subst (IsNode t.whole t.is_in) here l.invariant.kept) (subst (λ ps. AreBlocks leaves (joined (shown t.slots ps))) here l.invariant.named)
-    l.list.items _ (ap (λ ps. l.list.items ++ within c.args.first c.args.last (entries_by leaves (joined (shown t.slots ps)))) (sym here) ∙ l.invariant.left)
+    (subst (IsNode t.whole t.is_in) here l.invariant.kept) (subst (λ ps. AreBlocks leaves (flatten (slots_shown t.slots ps))) here l.invariant.named)
+    l.list.items _ (ap (λ ps. l.list.items ++ within c.args.first c.args.last (entries_by leaves (flatten (slots_shown t.slots ps)))) (sym here) ∙ l.invariant.left)
     (subst (λ n. n < e.0) number c.if-end-number.true)
 
 pub list_within-requires-clause-named : goal.list_within-requires-clause-named
@@ -57,7 +57,7 @@ list_within-requires-clause-named g c =
     let rest = drop (l.number-index + 1) xs in
     let here : drop l.number-index xs ≡ e ∷ rest = drop_more xs l.number-index e (omega arith) ∙ ap (λ d. d ∷ rest) (sym c.loop-number-item.is) in
     listed.part_named t.slots t.number t.whole t.is_in g.met.T.Subtree.parted g.met.T.Subtree.upwards leaves c.args.first c.args.last e rest
-    (subst (IsNode t.whole t.is_in) here l.invariant.kept) (subst (λ ps. AreBlocks leaves (joined (shown t.slots ps))) here l.invariant.named)
+    (subst (IsNode t.whole t.is_in) here l.invariant.kept) (subst (λ ps. AreBlocks leaves (flatten (slots_shown t.slots ps))) here l.invariant.named)
 
 pub returns-in_err-list_within-clause-before : goal.returns-in_err-list_within-clause-before
 returns-in_err-list_within-clause-before g c =
@@ -75,8 +75,8 @@ returns-in_err-list_within-clause-short g c =
     where_err c.from_residual.result
     (listed.cut_shorter c.list_within.new.list.items _ _ _ c.in_err-list_within.ensures.short
     (listed.list-step t.slots t.number t.whole t.is_in g.met.T.Subtree.parted g.met.T.Subtree.upwards leaves c.args.first c.args.last e rest
-    (subst (IsNode t.whole t.is_in) here l.invariant.kept) (subst (λ ps. AreBlocks leaves (joined (shown t.slots ps))) here l.invariant.named)
-    l.list.items _ (ap (λ ps. l.list.items ++ within c.args.first c.args.last (entries_by leaves (joined (shown t.slots ps)))) (sym here) ∙ l.invariant.left)))
+    (subst (IsNode t.whole t.is_in) here l.invariant.kept) (subst (λ ps. AreBlocks leaves (flatten (slots_shown t.slots ps))) here l.invariant.named)
+    l.list.items _ (ap (λ ps. l.list.items ++ within c.args.first c.args.last (entries_by leaves (flatten (slots_shown t.slots ps)))) (sym here) ∙ l.invariant.left)))
 
 pub loop-number-preserved : goal.loop-number-preserved
 loop-number-preserved g c =
@@ -88,12 +88,12 @@ loop-number-preserved g c =
     let rest = drop (l.number-index + 1) xs in
     let here : drop l.number-index xs ≡ e ∷ rest = drop_more xs l.number-index e (omega arith) ∙ ap (λ d. d ∷ rest) (sym c.loop-number-item.is) in
     let kept = subst (IsNode t.whole t.is_in) here l.invariant.kept in
-    let named = subst (λ ps. AreBlocks leaves (joined (shown t.slots ps))) here l.invariant.named in
+    let named = subst (λ ps. AreBlocks leaves (flatten (slots_shown t.slots ps))) here l.invariant.named in
     record {
       kept = listed.later_kept t.whole t.is_in e rest kept;
       named = listed.later_named t.slots t.number t.whole t.is_in g.met.T.Subtree.parted g.met.T.Subtree.upwards leaves c.args.first c.args.last e rest kept named;
-      left = ap (λ ls. ls ++ within c.args.first c.args.last (entries_by leaves (joined (shown t.slots rest)))) c.in_ok-list_within.ensures.ok
+      left = ap (λ ls. ls ++ within c.args.first c.args.last (entries_by leaves (flatten (slots_shown t.slots rest)))) c.in_ok-list_within.ensures.ok
           ∙ listed.list-step t.slots t.number t.whole t.is_in g.met.T.Subtree.parted g.met.T.Subtree.upwards leaves c.args.first c.args.last e rest kept named
-          l.list.items _ (ap (λ ps. l.list.items ++ within c.args.first c.args.last (entries_by leaves (joined (shown t.slots ps)))) (sym here) ∙ l.invariant.left);
+          l.list.items _ (ap (λ ps. l.list.items ++ within c.args.first c.args.last (entries_by leaves (flatten (slots_shown t.slots ps)))) (sym here) ∙ l.invariant.left);
       before = listed.extended_by c.args.list.now.items l.list.items c.list_within.new.list.items l.invariant.before c.list_within.ensures.before;
     }

@@ -1,6 +1,6 @@
 use Rattle.std.proofs.Common.{◌≡◌, ◌++◌, drop}
-use Rattle.nm_tables.specs.Tree.{joined}
-use Rattle.nm_tables.specs.Nodes.{shown, IsNode}
+use Rattle.nm_tables.specs.Tree.{flatten}
+use Rattle.nm_tables.specs.Nodes.{slots_shown, IsNode}
 use Rattle.nm_tables.specs.Blocks.{entries_by, AreBlocks}
 use Rattle.nm_tables.specs.Lists.{Extends}
 use Rattle.nm_tables.proofs.Within.{within}
@@ -13,7 +13,7 @@ invariant-loop-number g l =
     let rest = drop l.number-index l.number-items in
     record {
       kept : IsNode g.T.Subtree.whole g.T.Subtree.is_in rest;
-      named : AreBlocks l.leaves (joined (shown slots rest));
-      left : l.list.items ++ within l.first l.last (entries_by l.leaves (joined (shown slots rest))) ≡ l.initial.list.items ++ within l.first l.last (entries_by l.leaves (joined (shown slots l.self.parts.items)));
+      named : AreBlocks l.leaves (flatten (slots_shown slots rest));
+      left : l.list.items ++ within l.first l.last (entries_by l.leaves (flatten (slots_shown slots rest))) ≡ l.initial.list.items ++ within l.first l.last (entries_by l.leaves (flatten (slots_shown slots l.self.parts.items)));
       before : Extends l.initial.list.items l.list.items;
     }

@@ -5,8 +5,8 @@ use Rattle.std.specs.Map.{keys_of}
 use Rattle.std.specs.Ordering.{nat_cmp}
 use Rattle.nm_types.proofs.Cases.{none_is_not, true_false}
 use Rattle.nm_types.proofs.Keys.{keys-replace}
-use Rattle.nm_tables.specs.Tree.{joined}
-use Rattle.nm_tables.specs.Nodes.{shown, IsNode}
+use Rattle.nm_tables.specs.Tree.{flatten}
+use Rattle.nm_tables.specs.Nodes.{slots_shown, IsNode}
 use Rattle.nm_tables.specs.declared.slot.Slot.{Slot}
 use Rattle.nm_tables.proofs.Changed.{all-without, replace_some}
 use Rattle.nm_tables.proofs.Nodes as node
@@ -31,7 +31,7 @@ returns-then-not-remove-clause-left g c = λ left.
     let y = c.remove.new.self in
     let at = found_at parts c.as_slice.result.now (g.T.Subtree.number c.args.block) c.number_of.result c.in-Ok.place c.as_slice.ensures.value c.number_of.ensures c.index_mut.result.now c.requires.kept.0.0 c.in-Ok.ensures.found c.index_mut.ensures.value in
     let held = written_at parts c.as_slice.result.now (g.T.Subtree.number c.args.block) c.number_of.result c.in-Ok.place c.as_slice.ensures.value c.number_of.ensures c.index_mut.result.now c.requires.kept.0.0 c.in-Ok.ensures.found c.index_mut.ensures.value y in
-    ap (λ ps. joined (shown g.T.Subtree.slots ps)) held
+    ap (λ ps. flatten (slots_shown g.T.Subtree.slots ps)) held
     ∙ node.node-without g.T.Subtree.slots g.T.Subtree.number g.T.Subtree.whole g.T.Subtree.is_in g.met.T.Subtree.parted g.met.T.Subtree.upwards parts c.requires.kept.0 c.args.block c.index_mut.result.now.1 y at (c.if-not-remove.ensures.left refl)
 
 pub returns-then-not-remove-clause-kept : goal.returns-then-not-remove-clause-kept
@@ -58,7 +58,7 @@ returns-clause-left g c = λ left.
     let parts = c.args.self.now.parts.items in
     let at = found_at parts c.as_slice.result.now (g.T.Subtree.number c.args.block) c.number_of.result c.in-Ok.place c.as_slice.ensures.value c.number_of.ensures c.index_mut.result.now c.requires.kept.0.0 c.in-Ok.ensures.found c.index_mut.ensures.value in
     let gone = c.remove-2.ensures.items ∙ removed_at parts c.as_slice.result.now (g.T.Subtree.number c.args.block) c.number_of.result c.in-Ok.place c.as_slice.ensures.value c.number_of.ensures c.index_mut.result.now c.requires.kept.0.0 c.in-Ok.ensures.found c.index_mut.ensures.value c.remove.new.self in
-    ap (λ ps. joined (shown g.T.Subtree.slots ps)) gone
+    ap (λ ps. flatten (slots_shown g.T.Subtree.slots ps)) gone
     ∙ node.node-gone g.T.Subtree.slots g.T.Subtree.number g.T.Subtree.whole g.T.Subtree.is_in g.met.T.Subtree.parted g.met.T.Subtree.upwards parts c.requires.kept.0 c.args.block c.index_mut.result.now.1 at (c.if-not-remove.ensures.last refl)
 
 pub returns-clause-kept : goal.returns-clause-kept

@@ -6,8 +6,8 @@ use Rattle.std.specs.Map.{keys_of}
 use Rattle.std.specs.Ordering.{nat_cmp}
 use Rattle.std.proofs.lemmas.Result.{IfOk-from_err}
 use Rattle.nm_types.proofs.Keys.{keys-replace}
-use Rattle.nm_tables.specs.Tree.{joined}
-use Rattle.nm_tables.specs.Nodes.{shown, IsNode}
+use Rattle.nm_tables.specs.Tree.{flatten}
+use Rattle.nm_tables.specs.Nodes.{slots_shown, IsNode}
 use Rattle.nm_tables.proofs.Results.{on_ok, on_err}
 use Rattle.nm_tables.proofs.Changed.{all-set, set_some, replace_some}
 use Rattle.nm_tables.proofs.Nodes as node
@@ -24,7 +24,7 @@ returns-in-Ok-clause-ok g c =
     let y = c.set.new.self in
     let at = found_at parts c.as_slice.result.now (g.T.Subtree.number c.args.block) c.number_of-number.result c.in-Ok.place c.as_slice.ensures.value c.number_of-number.ensures c.index_mut.result.now c.requires.kept.0.0 c.in-Ok.ensures.found c.index_mut.ensures.value in
     let held = written_at parts c.as_slice.result.now (g.T.Subtree.number c.args.block) c.number_of-number.result c.in-Ok.place c.as_slice.ensures.value c.number_of-number.ensures c.index_mut.result.now c.requires.kept.0.0 c.in-Ok.ensures.found c.index_mut.ensures.value y in
-    on_ok c.set.result (λ is. ap (λ ps. joined (shown g.T.Subtree.slots ps)) held ∙ node.node-set g.T.Subtree.slots g.T.Subtree.number g.T.Subtree.whole g.T.Subtree.is_in g.met.T.Subtree.parted g.met.T.Subtree.upwards parts c.requires.kept.0 c.args.block c.index_mut.result.now.1 y at c.args.slot is) c.set.ensures.ok
+    on_ok c.set.result (λ is. ap (λ ps. flatten (slots_shown g.T.Subtree.slots ps)) held ∙ node.node-set g.T.Subtree.slots g.T.Subtree.number g.T.Subtree.whole g.T.Subtree.is_in g.met.T.Subtree.parted g.met.T.Subtree.upwards parts c.requires.kept.0 c.args.block c.index_mut.result.now.1 y at c.args.slot is) c.set.ensures.ok
 
 pub returns-in-Ok-clause-err : goal.returns-in-Ok-clause-err
 returns-in-Ok-clause-err g c =
@@ -32,7 +32,7 @@ returns-in-Ok-clause-err g c =
     let y = c.set.new.self in
     let at = found_at parts c.as_slice.result.now (g.T.Subtree.number c.args.block) c.number_of-number.result c.in-Ok.place c.as_slice.ensures.value c.number_of-number.ensures c.index_mut.result.now c.requires.kept.0.0 c.in-Ok.ensures.found c.index_mut.ensures.value in
     let held = written_at parts c.as_slice.result.now (g.T.Subtree.number c.args.block) c.number_of-number.result c.in-Ok.place c.as_slice.ensures.value c.number_of-number.ensures c.index_mut.result.now c.requires.kept.0.0 c.in-Ok.ensures.found c.index_mut.ensures.value y in
-    on_err c.set.result (λ is. ap (λ ps. joined (shown g.T.Subtree.slots ps)) held ∙ node.node-same g.T.Subtree.slots g.T.Subtree.number g.T.Subtree.whole g.T.Subtree.is_in g.met.T.Subtree.parted g.met.T.Subtree.upwards parts c.requires.kept.0 c.args.block c.index_mut.result.now.1 y at is) c.set.ensures.err
+    on_err c.set.result (λ is. ap (λ ps. flatten (slots_shown g.T.Subtree.slots ps)) held ∙ node.node-same g.T.Subtree.slots g.T.Subtree.number g.T.Subtree.whole g.T.Subtree.is_in g.met.T.Subtree.parted g.met.T.Subtree.upwards parts c.requires.kept.0 c.args.block c.index_mut.result.now.1 y at is) c.set.ensures.err
 
 pub returns-in-Ok-clause-kept : goal.returns-in-Ok-clause-kept
 returns-in-Ok-clause-kept g c =
@@ -59,7 +59,7 @@ returns-in_ok-insert-in-Err-clause-ok g c =
     let part = c.in_ok-part-in-Err.part in
     let none = absent_at parts c.as_slice.result.now (g.T.Subtree.number c.args.block) c.number_of-number.result c.in-Err.place c.as_slice.ensures.value c.number_of-number.ensures c.in-Err.ensures.fits in
     let more = c.in_ok-insert-in-Err.ensures.items ∙ inserted_at parts c.as_slice.result.now (g.T.Subtree.number c.args.block) c.number_of-number.result c.in-Err.place c.as_slice.ensures.value c.number_of-number.ensures c.in-Err.ensures.fits part in
-    ap (λ ps. joined (shown g.T.Subtree.slots ps)) more ∙ node.node-new g.T.Subtree.slots g.T.Subtree.number g.T.Subtree.whole g.T.Subtree.is_in g.met.T.Subtree.parted g.met.T.Subtree.upwards parts c.requires.kept.0 c.args.block part c.args.slot none c.in_ok-part-in-Err.ensures.one
+    ap (λ ps. flatten (slots_shown g.T.Subtree.slots ps)) more ∙ node.node-new g.T.Subtree.slots g.T.Subtree.number g.T.Subtree.whole g.T.Subtree.is_in g.met.T.Subtree.parted g.met.T.Subtree.upwards parts c.requires.kept.0 c.args.block part c.args.slot none c.in_ok-part-in-Err.ensures.one
 
 pub returns-in_ok-insert-in-Err-clause-kept : goal.returns-in_ok-insert-in-Err-clause-kept
 returns-in_ok-insert-in-Err-clause-kept g c =
