@@ -11,7 +11,7 @@ use Rattle.nm_types.specs.declared.area.Policy.{Policy}
 use Rattle.nm_types.specs.Map.{Map, get, set, with_values, same_page, spot_cmp}
 use Rattle.nm_types.specs.State.{PlacedArea, covers, area_over, page_of}
 use Rattle.nm_types.proofs.Cases.{true_false, some_none, none_some, some_is}
-use Rattle.nm_areas.specs.Coverage.{total, end_of, ends_of, covers_of, ends_at, covers_at, IsFlat, split_of, splits_at}
+use Rattle.nm_areas.specs.Coverage.{sum_over_areas, end_of, ends_of, covers_of, ends_at, covers_at, IsFlat, split_of, splits_at}
 use Rattle.nm_model.specs.definitions.Areas.{AreasAreApart, IsSomePages}
 use Rattle.nm_model.specs.definitions.Areas.{parts_outside, shows_page, covers_page, is_covered}
 use Rattle.nm_model.specs.definitions.Areas.{split_at, with_policy_in}
@@ -27,36 +27,36 @@ use Rattle.nm_counts.proofs.Between.{between_parts, between_from}
 
 -- ---- sums
 
-pub total_among : (f g : PlacedArea → ℕ) (areas : List PlacedArea) → ((a : PlacedArea) → Among a areas → f a ≡ g a) → total f areas ≡ total g areas
+pub total_among : (f g : PlacedArea → ℕ) (areas : List PlacedArea) → ((a : PlacedArea) → Among a areas → f a ≡ g a) → sum_over_areas f areas ≡ sum_over_areas g areas
 total_among f g [] h = refl
 total_among f g (x ∷ areas) h =
     let first = h x (inl refl) in
     let rest = total_among f g areas (λ a m. h a (inr m)) in
     omega (arith, first, rest)
 
-pub total_zero : (f : PlacedArea → ℕ) (areas : List PlacedArea) → ((a : PlacedArea) → Among a areas → f a ≡ 0) → total f areas ≡ 0
+pub total_zero : (f : PlacedArea → ℕ) (areas : List PlacedArea) → ((a : PlacedArea) → Among a areas → f a ≡ 0) → sum_over_areas f areas ≡ 0
 total_zero f [] h = refl
 total_zero f (x ∷ areas) h =
     let first = h x (inl refl) in
     let rest = total_zero f areas (λ a m. h a (inr m)) in
     omega (arith, first, rest)
 
-pub total_append : (f : PlacedArea → ℕ) (xs ys : List PlacedArea) → total f (xs ++ ys) ≡ total f xs + total f ys
+pub total_append : (f : PlacedArea → ℕ) (xs ys : List PlacedArea) → sum_over_areas f (xs ++ ys) ≡ sum_over_areas f xs + sum_over_areas f ys
 total_append f [] ys = omega arith
 total_append f (x ∷ xs) ys = let rest = total_append f xs ys in omega (arith, rest)
 
-pub total_flat : (f : PlacedArea → ℕ) (g : PlacedArea → List PlacedArea) (areas : List PlacedArea) → total f (flat_map g areas) ≡ total (λ a. total f (g a)) areas
+pub total_flat : (f : PlacedArea → ℕ) (g : PlacedArea → List PlacedArea) (areas : List PlacedArea) → sum_over_areas f (flat_map g areas) ≡ sum_over_areas (λ a. sum_over_areas f (g a)) areas
 total_flat f g [] = refl
 total_flat f g (x ∷ areas) =
     let parts = total_append f (g x) (flat_map g areas) in
     let rest = total_flat f g areas in
     omega (arith, parts, rest)
 
-pub total_add : (f g : PlacedArea → ℕ) (areas : List PlacedArea) → total (λ a. f a + g a) areas ≡ total f areas + total g areas
+pub total_add : (f g : PlacedArea → ℕ) (areas : List PlacedArea) → sum_over_areas (λ a. f a + g a) areas ≡ sum_over_areas f areas + sum_over_areas g areas
 total_add f g [] = refl
 total_add f g (x ∷ areas) = let rest = total_add f g areas in omega (arith, rest)
 
-pub total_few : (f : PlacedArea → ℕ) (areas : List PlacedArea) → ((a : PlacedArea) → Among a areas → f a ≤ 1) → total f areas ≤ length areas
+pub total_few : (f : PlacedArea → ℕ) (areas : List PlacedArea) → ((a : PlacedArea) → Among a areas → f a ≤ 1) → sum_over_areas f areas ≤ length areas
 total_few f [] h = omega arith
 total_few f (x ∷ areas) h =
     let first = h x (inl refl) in
@@ -64,20 +64,20 @@ total_few f (x ∷ areas) h =
     omega (arith, first, rest)
 
 -- those that pass a test, and those that do not
-pub total_parts : (f : PlacedArea → ℕ) (test : PlacedArea → Bool) (areas : List PlacedArea) → total f (filter (λ a. not (test a)) areas) + total f (filter test areas) ≡ total f areas
+pub total_parts : (f : PlacedArea → ℕ) (test : PlacedArea → Bool) (areas : List PlacedArea) → sum_over_areas f (filter (λ a. not (test a)) areas) + sum_over_areas f (filter test areas) ≡ sum_over_areas f areas
 total_parts f test [] = refl
 total_parts f test (x ∷ areas) =
     let rest = total_parts f test areas in
-    elim (test x) as (λ b. total f (cond (not b) (x ∷ filter (λ a. not (test a)) areas) (filter (λ a. not (test a)) areas)) + total f (cond b (x ∷ filter test areas) (filter test areas)) ≡ f x + total f areas) [
+    elim (test x) as (λ b. sum_over_areas f (cond (not b) (x ∷ filter (λ a. not (test a)) areas) (filter (λ a. not (test a)) areas)) + sum_over_areas f (cond b (x ∷ filter test areas) (filter test areas)) ≡ f x + sum_over_areas f areas) [
       | true ↦ omega (arith, rest)
       | false ↦ omega (arith, rest)
     ]
 
 -- with another area
-pub total_set : (f : PlacedArea → ℕ) (areas : Map (ℕ × ℕ) Area) (s : ℕ × ℕ) (x : Area) → get spot_cmp areas s ≡ None → total f (set spot_cmp areas s x) ≡ total f areas + f (s, x)
+pub total_set : (f : PlacedArea → ℕ) (areas : Map (ℕ × ℕ) Area) (s : ℕ × ℕ) (x : Area) → get spot_cmp areas s ≡ None → sum_over_areas f (set spot_cmp areas s x) ≡ sum_over_areas f areas + f (s, x)
 total_set f [] s x h = omega arith
 total_set f (e ∷ areas) s x h =
-    elim (spot_cmp s e.0) as (λ r. cond (is_eq r) (Some e.1) (get spot_cmp areas s) ≡ None → total f (match_ordering r ((s, x) ∷ e ∷ areas) ((e.0, x) ∷ areas) (e ∷ set spot_cmp areas s x)) ≡ (f e + total f areas) + f (s, x)) [
+    elim (spot_cmp s e.0) as (λ r. cond (is_eq r) (Some e.1) (get spot_cmp areas s) ≡ None → sum_over_areas f (match_ordering r ((s, x) ∷ e ∷ areas) ((e.0, x) ∷ areas) (e ∷ set spot_cmp areas s x)) ≡ (f e + sum_over_areas f areas) + f (s, x)) [
       | Less ↦ λ k. omega arith
       | Equal ↦ λ k. absurd (some_none k)
       | Greater ↦ λ k. let rest = total_set f areas s x k in omega (arith, rest)
@@ -85,10 +85,10 @@ total_set f (e ∷ areas) s x h =
 
 -- of areas that do not overlap at most one covers a page number
 module _ (f : PlacedArea → ℕ) (pid at : ℕ) (not_over : (a : PlacedArea) → covers a pid at ≡ false → f a ≡ 0) where
-  pub total_over : (areas : Map (ℕ × ℕ) Area) → AreasAreApart areas → (a : PlacedArea) → area_over areas pid at ≡ Some a → total f areas ≡ f a
+  pub total_over : (areas : Map (ℕ × ℕ) Area) → AreasAreApart areas → (a : PlacedArea) → area_over areas pid at ≡ Some a → sum_over_areas f areas ≡ f a
   total_over [] apart a h = absurd (none_some h)
   total_over (x ∷ areas) apart a h =
-      elim (covers x pid at) as (λ b. covers x pid at ≡ b → cond b (Some x) (area_over areas pid at) ≡ Some a → f x + total f areas ≡ f a) [
+      elim (covers x pid at) as (λ b. covers x pid at ≡ b → cond b (Some x) (area_over areas pid at) ≡ Some a → f x + sum_over_areas f areas ≡ f a) [
         | true ↦ λ b k.
             let none = total_zero f areas (λ y m. not_over y (All-among (λ z. (q v : ℕ) → covers x q v ≡ true → covers z q v ≡ false) areas y apart.0 m pid at b)) in
             let same : f x ≡ f a = ap f (some_is k) in
@@ -96,10 +96,10 @@ module _ (f : PlacedArea → ℕ) (pid at : ℕ) (not_over : (a : PlacedArea) �
         | false ↦ λ b k. let none = not_over x b in let rest = total_over areas apart.1 a k in omega (arith, none, rest)
       ] refl h
 
-  pub total_over_none : (areas : Map (ℕ × ℕ) Area) → area_over areas pid at ≡ None → total f areas ≡ 0
+  pub total_over_none : (areas : Map (ℕ × ℕ) Area) → area_over areas pid at ≡ None → sum_over_areas f areas ≡ 0
   total_over_none [] h = refl
   total_over_none (x ∷ areas) h =
-      elim (covers x pid at) as (λ b. covers x pid at ≡ b → cond b (Some x) (area_over areas pid at) ≡ None → f x + total f areas ≡ 0) [
+      elim (covers x pid at) as (λ b. covers x pid at ≡ b → cond b (Some x) (area_over areas pid at) ≡ None → f x + sum_over_areas f areas ≡ 0) [
         | true ↦ λ b k. absurd (some_none k)
         | false ↦ λ b k. let none = not_over x b in let rest = total_over_none areas k in omega (arith, none, rest)
       ] refl h
@@ -299,21 +299,21 @@ module _ (pid at : ℕ) (p : Page) (a : PlacedArea) where
   abbrev whole : ℕ
   whole = ends_of p a.1
 
-  pub split_ends : 0 < a.1.pages → total (λ b. ends_of p b.1) (parts_outside pid at at a) ≡ ends_of p a.1 + split_of pid at p a
+  pub split_ends : 0 < a.1.pages → sum_over_areas (λ b. ends_of p b.1) (parts_outside pid at at a) ≡ ends_of p a.1 + split_of pid at p a
   split_ends some =
       crossing pid at a _
       (λ own low high.
       let k = at - a.0.1 in
       let back : (a.1.page.index + k) + (a.1.pages - k) ≡ a.1.page.index + a.1.pages = omega (arith, low, high) in
-      ap (total (λ b. ends_of p b.1)) (cut_mid pid at a own low high)
+      ap (sum_over_areas (λ b. ends_of p b.1)) (cut_mid pid at a own low high)
       ∙ twice (if same_page a.1.page p then 1 else 0) (if same_page (end_of a.1) p then 1 else 0) (if same_page (end_of (later at a)) p then 1 else 0) (same_page (page_of a at) p)
       (ap (λ n. if same_page (page_in a.1.page.segment n) p then 1 else 0) back)
       ∙ ap (λ n. whole + n) (sym (split_there pid at p a own low high)))
       (λ other.
       let none = split_nothing pid at p a other in
-      ap (total (λ b. ends_of p b.1)) (cut_not pid at a some other) ∙ ap (λ n. whole + n) (sym none))
+      ap (sum_over_areas (λ b. ends_of p b.1)) (cut_not pid at a some other) ∙ ap (λ n. whole + n) (sym none))
 
-  pub split_covers : 0 < a.1.pages → total (λ b. covers_of p b.1) (parts_outside pid at at a) ≡ covers_of p a.1
+  pub split_covers : 0 < a.1.pages → sum_over_areas (λ b. covers_of p b.1) (parts_outside pid at at a) ≡ covers_of p a.1
   split_covers some =
       crossing pid at a _
       (λ own low high.
@@ -321,15 +321,15 @@ module _ (pid at : ℕ) (p : Page) (a : PlacedArea) where
       let i = a.1.page.index in
       let back : (i + k) + (a.1.pages - k) ≡ i + a.1.pages = omega (arith, low, high) in
       let nothing : covers_of p (later at a) + 0 ≡ covers_of p (later at a) = omega arith in
-      ap (total (λ b. covers_of p b.1)) (cut_mid pid at a own low high)
+      ap (sum_over_areas (λ b. covers_of p b.1)) (cut_mid pid at a own low high)
       ∙ ap (λ n. covers_of p (shorter at a) + n) (nothing ∙ ap (λ n. if is_between a.1.page.segment (i + k) n p then 1 else 0) back)
       ∙ between_joined a.1.page.segment i (i + k) (i + a.1.pages) p (omega arith) (omega (arith, low, high)))
       (λ other.
       let nothing : covers_of p a.1 + 0 ≡ covers_of p a.1 = omega arith in
-      ap (total (λ b. covers_of p b.1)) (cut_not pid at a some other) ∙ nothing)
+      ap (sum_over_areas (λ b. covers_of p b.1)) (cut_not pid at a some other) ∙ nothing)
 
   -- a split before a page number changes nothing there
-  pub split_stays : (first : ℕ) → first < at → 0 < a.1.pages → total (split_of pid at p) (parts_outside pid first first a) ≡ split_of pid at p a
+  pub split_stays : (first : ℕ) → first < at → 0 < a.1.pages → sum_over_areas (split_of pid at p) (parts_outside pid first first a) ≡ split_of pid at p a
   split_stays first less some =
       crossing pid first a _
       (λ own low high.
@@ -338,10 +338,10 @@ module _ (pid at : ℕ) (p : Page) (a : PlacedArea) where
       let none : split_of pid at p front ≡ 0 = split_nothing pid at p front (λ o l h. omega (arith, low, less, h)) in
       let same : split_of pid at p back ≡ split_of pid at p a = split_back pid first at p a own low high less in
       let sum : split_of pid at p front + (split_of pid at p back + 0) ≡ split_of pid at p a = omega (arith, none, same) in
-      ap (total (split_of pid at p)) (cut_mid pid first a own low high) ∙ sum)
+      ap (sum_over_areas (split_of pid at p)) (cut_mid pid first a own low high) ∙ sum)
       (λ other.
       let nothing : split_of pid at p a + 0 ≡ split_of pid at p a = omega arith in
-      ap (total (split_of pid at p)) (cut_not pid first a some other) ∙ nothing)
+      ap (sum_over_areas (split_of pid at p)) (cut_not pid first a some other) ∙ nothing)
 
 -- ---- all areas of a process are split at two page numbers
 
@@ -376,7 +376,7 @@ module _ (pid first end : ℕ) (less : first < end) (areas : Map (ℕ × ℕ) Ar
 -- a policy changes no count
 module _ (pid first end : ℕ) (policy : Policy) (p : Page) where
   pub painted_total : (number : Area → ℕ) → ((x : Area) → number (record x { policy = policy }) ≡ number x) → (areas : Map (ℕ × ℕ) Area)
-      → total (λ a. number a.1) (with_values (with_policy_in pid first end policy) areas) ≡ total (λ a. number a.1) areas
+      → sum_over_areas (λ a. number a.1) (with_values (with_policy_in pid first end policy) areas) ≡ sum_over_areas (λ a. number a.1) areas
   painted_total number same [] = refl
   painted_total number same (e ∷ areas) =
       let here : number (with_policy_in pid first end policy e.0 e.1) ≡ number e.1 = elim (begins_in pid first end e.0) as (λ b. number (cond b (record (e.1) { policy = policy }) e.1) ≡ number e.1) [ true ↦ same e.1 | false ↦ refl ] in
@@ -390,8 +390,8 @@ err_always (Err e) p = p
 
 -- the first of the areas of a process, beside those after it
 pub own_sum : (f : PlacedArea → ℕ) (left areas : Map (ℕ × ℕ) Area) (pid at s end behind : ℕ) (x : Area) → filter (is_own pid at end) areas ≡ ((pid, s), x) ∷ filter (is_own pid (s + 1) end) areas → behind ≡ s
-    → total f left + total f (filter (is_own pid at end) areas) ≡ (total f left + total f (filter (is_own pid (behind + 1) end) areas)) + f ((pid, s), x)
+    → sum_over_areas f left + sum_over_areas f (filter (is_own pid at end) areas) ≡ (sum_over_areas f left + sum_over_areas f (filter (is_own pid (behind + 1) end) areas)) + f ((pid, s), x)
 own_sum f left areas pid at s end behind x next same =
-    let here = ap (total f) next in
-    let there = ap (λ (n : ℕ). total f (filter (is_own pid (n + 1) end) areas)) same in
+    let here = ap (sum_over_areas f) next in
+    let there = ap (λ (n : ℕ). sum_over_areas f (filter (is_own pid (n + 1) end) areas)) same in
     omega (arith, here, there)

@@ -4,7 +4,7 @@ use Rattle.nm_types.specs.declared.page.Page.{Page}
 use Rattle.nm_types.specs.declared.area.Area.{Area}
 use Rattle.nm_types.specs.Map.{Map, get, page_cmp}
 use Rattle.nm_counts.specs.declared.step.Step.{Step}
-use Rattle.nm_areas.specs.Coverage.{step_of, ends_at, covers_at}
+use Rattle.nm_areas.specs.Coverage.{step_at, ends_at, covers_at}
 use Rattle.nm_model.specs.definitions.Areas.{new_area}
 use Rattle.nm_model.specs.definitions.Areas.{page_in}
 
@@ -19,7 +19,7 @@ abbrev their_steps : Map Page Step
 their_steps = (page_in 7 0, step 1 1) ∷ (page_in 7 2, step 2 1) ∷ (page_in 7 3, step 1 1) ∷ (page_in 7 4, step 0 1) ∷ []
 
 abbrev Agrees : ℕ → Type 0
-Agrees i = get page_cmp their_steps (page_in 7 i) ≡ step_of (ends_at two (page_in 7 i)) (covers_at two (page_in 7 i))
+Agrees i = get page_cmp their_steps (page_in 7 i) ≡ step_at (ends_at two (page_in 7 i)) (covers_at two (page_in 7 i))
 
 pub they_agree : Agrees 0 × Agrees 1 × Agrees 2 × Agrees 3 × Agrees 4 × Agrees 5
 they_agree = (refl, refl, refl, refl, refl, refl)

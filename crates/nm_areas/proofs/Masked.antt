@@ -15,7 +15,7 @@ use Rattle.nm_types.specs.State.{PlacedArea, covers, page_of}
 use Rattle.nm_types.proofs.Cases.{true_false}
 use Rattle.nm_types.proofs.Maps.{equal, get-set}
 use Rattle.nm_counts.specs.declared.step.Step.{Step}
-use Rattle.nm_areas.specs.Coverage.{total, IsSteps, IsFlat, IsCoverage, IsWith, of_shared, ends_at, covers_at, ends_of, covers_of, end_of, split_of}
+use Rattle.nm_areas.specs.Coverage.{sum_over_areas, IsSteps, IsFlat, IsCoverage, IsWith, of_shared, ends_at, covers_at, ends_of, covers_of, end_of, split_of}
 use Rattle.nm_model.specs.definitions.Areas.{is_shared}
 use Rattle.nm_model.specs.definitions.Areas.{IsSomePages, shows_segment}
 use Rattle.nm_model.specs.definitions.Areas.{shows_page}
@@ -109,7 +109,7 @@ none_shows n (a ∷ areas) below =
 
 -- a number of areas, which one has at the pages of its own segment alone
 module _ (f : Page → Area → ℕ) (away : (p : Page) (x : Area) → (p.segment ≡ x.page.segment → ⊥) → f p x ≡ 0) where
-  pub none_at : (p : Page) (areas : Map (ℕ × ℕ) Area) → list_any (shows_segment p.segment) areas ≡ false → total (λ a. f p a.1) areas ≡ 0
+  pub none_at : (p : Page) (areas : Map (ℕ × ℕ) Area) → list_any (shows_segment p.segment) areas ≡ false → sum_over_areas (λ a. f p a.1) areas ≡ 0
   none_at p [] none = refl
   none_at p (a ∷ areas) none =
       let here = away p a.1 (λ e. true_false (sym (ap (λ b. b || list_any (shows_segment p.segment) areas) (eq-eqb a.1.page.segment p.segment (sym e))) ∙ none)) in
@@ -118,18 +118,18 @@ module _ (f : Page → Area → ℕ) (away : (p : Page) (x : Area) → (p.segmen
 
   -- one more area
   pub masked_set : (segments : Map ℕ Segment) (areas : Map (ℕ × ℕ) Area) (s : ℕ × ℕ) (y : Area) → get spot_cmp areas s ≡ None → (shared : Bool) → shared ≡ is_shared segments y.page.segment → (p : Page)
-      → of_shared segments (λ q. total (λ a. f q a.1) areas) p + (if shared then f p y else 0) ≡ of_shared segments (λ q. total (λ a. f q a.1) (set spot_cmp areas s y)) p
+      → of_shared segments (λ q. sum_over_areas (λ a. f q a.1) areas) p + (if shared then f p y else 0) ≡ of_shared segments (λ q. sum_over_areas (λ a. f q a.1) (set spot_cmp areas s y)) p
   masked_set segments areas s y free shared is p =
-      ap (λ n. of_shared segments (λ q. total (λ a. f q a.1) areas) p + n) (sym (masked_by segments y.page.segment (λ q. f q y) (λ q. away q y) shared is p))
-      ∙ sym (masked_add segments (λ q. total (λ a. f q a.1) areas) (λ q. f q y) p)
-      ∙ masked_same segments (λ q. total (λ a. f q a.1) areas + f q y) (λ q. total (λ a. f q a.1) (set spot_cmp areas s y)) p (λ k. sym (total_set (λ b. f p b.1) areas s y free))
+      ap (λ n. of_shared segments (λ q. sum_over_areas (λ a. f q a.1) areas) p + n) (sym (masked_by segments y.page.segment (λ q. f q y) (λ q. away q y) shared is p))
+      ∙ sym (masked_add segments (λ q. sum_over_areas (λ a. f q a.1) areas) (λ q. f q y) p)
+      ∙ masked_same segments (λ q. sum_over_areas (λ a. f q a.1) areas + f q y) (λ q. sum_over_areas (λ a. f q a.1) (set spot_cmp areas s y)) p (λ k. sym (total_set (λ b. f p b.1) areas s y free))
 
   -- the segments that no area shows may be others
   module _ (old now : Map ℕ Segment) (areas : Map (ℕ × ℕ) Area) (same : (n : ℕ) → list_any (shows_segment n) areas ≡ true → is_shared old n ≡ is_shared now n) where
-    pub masked_other : (p : Page) → of_shared old (λ q. total (λ a. f q a.1) areas) p ≡ of_shared now (λ q. total (λ a. f q a.1) areas) p
+    pub masked_other : (p : Page) → of_shared old (λ q. sum_over_areas (λ a. f q a.1) areas) p ≡ of_shared now (λ q. sum_over_areas (λ a. f q a.1) areas) p
     masked_other p =
-        elim (list_any (shows_segment p.segment) areas) as (λ b. list_any (shows_segment p.segment) areas ≡ b → of_shared old (λ q. total (λ a. f q a.1) areas) p ≡ of_shared now (λ q. total (λ a. f q a.1) areas) p) [
-          | true ↦ λ b. ap (λ c. if c then total (λ a. f p a.1) areas else 0) (same p.segment b)
+        elim (list_any (shows_segment p.segment) areas) as (λ b. list_any (shows_segment p.segment) areas ≡ b → of_shared old (λ q. sum_over_areas (λ a. f q a.1) areas) p ≡ of_shared now (λ q. sum_over_areas (λ a. f q a.1) areas) p) [
+          | true ↦ λ b. ap (λ c. if c then sum_over_areas (λ a. f p a.1) areas else 0) (same p.segment b)
           | false ↦ λ b. let none = none_at p areas b in zero_if (is_shared old p.segment) _ none ∙ sym (zero_if (is_shared now p.segment) _ none)
         ] refl
 
@@ -175,7 +175,7 @@ module _ (segments : Map ℕ Segment) (next : ℕ) (new : Segment) where
       sym (ap shown_segment (get-set nat_cmp_total segments next new n ∙ ap (λ b. cond b (Some new) (get nat_cmp segments n)) other))
 
 -- what areas have together, counted in two parts
-pub masked_parts : (m : Map Page Step) (segments : Map ℕ Segment) (areas left own : Map (ℕ × ℕ) Area) → ((f : PlacedArea → ℕ) → total f areas ≡ total f left + total f own) → IsCoverage m segments areas
+pub masked_parts : (m : Map Page Step) (segments : Map ℕ Segment) (areas left own : Map (ℕ × ℕ) Area) → ((f : PlacedArea → ℕ) → sum_over_areas f areas ≡ sum_over_areas f left + sum_over_areas f own) → IsCoverage m segments areas
     → IsSteps m (of_shared segments (λ p. ends_at left p + ends_at own p)) (of_shared segments (λ p. covers_at left p + covers_at own p))
 masked_parts m segments areas left own sum h =
     steps_same m _ _ _ _ h
@@ -183,7 +183,7 @@ masked_parts m segments areas left own sum h =
     (λ p. masked_same segments (covers_at areas) (λ q. covers_at left q + covers_at own q) p (λ k. sum (λ b. covers_of p b.1)))
 
 -- the first of the second part by itself
-pub masked_next : (m : Map Page Step) (segments : Map ℕ Segment) (left own rest : Map (ℕ × ℕ) Area) (s : ℕ × ℕ) (x : Area) → ((f : PlacedArea → ℕ) → total f left + total f own ≡ (total f left + total f rest) + f (s, x))
+pub masked_next : (m : Map Page Step) (segments : Map ℕ Segment) (left own rest : Map (ℕ × ℕ) Area) (s : ℕ × ℕ) (x : Area) → ((f : PlacedArea → ℕ) → sum_over_areas f left + sum_over_areas f own ≡ (sum_over_areas f left + sum_over_areas f rest) + f (s, x))
     → IsSteps m (of_shared segments (λ p. ends_at left p + ends_at own p)) (of_shared segments (λ p. covers_at left p + covers_at own p))
     → IsSteps m (of_shared segments (λ p. (ends_at left p + ends_at rest p) + ends_of p x)) (of_shared segments (λ p. (covers_at left p + covers_at rest p) + covers_of p x))
 masked_next m segments left own rest s x sum h =
@@ -195,7 +195,7 @@ masked_next m segments left own rest s x sum h =
 pub masked_end : (m : Map Page Step) (segments : Map ℕ Segment) (left own : Map (ℕ × ℕ) Area) → own ≡ []
     → IsSteps m (of_shared segments (λ p. ends_at left p + ends_at own p)) (of_shared segments (λ p. covers_at left p + covers_at own p)) → IsCoverage m segments left
 masked_end m segments left own none h =
-    let alone = λ (f : PlacedArea → ℕ). let zero = ap (total f) none in let sum : total f left + total f own ≡ total f left = omega (arith, zero) in sum in
+    let alone = λ (f : PlacedArea → ℕ). let zero = ap (sum_over_areas f) none in let sum : sum_over_areas f left + sum_over_areas f own ≡ sum_over_areas f left = omega (arith, zero) in sum in
     steps_same m _ _ _ _ h
     (λ p. masked_same segments (λ q. ends_at left q + ends_at own q) (ends_at left) p (λ k. alone (λ b. ends_of p b.1)))
     (λ p. masked_same segments (λ q. covers_at left q + covers_at own q) (covers_at left) p (λ k. alone (λ b. covers_of p b.1)))

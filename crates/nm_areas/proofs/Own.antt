@@ -15,7 +15,7 @@ use Rattle.nm_types.specs.Map.{Map, get, spot_cmp}
 use Rattle.nm_types.specs.State.{PlacedArea}
 use Rattle.nm_types.proofs.Cases.{true_false, some_none}
 use Rattle.nm_model.specs.definitions.Areas.{IsSomePages, EndsLow}
-use Rattle.nm_areas.specs.Lines.{line_of, lines_of}
+use Rattle.nm_areas.specs.Lines.{area_line, lines_of}
 use Rattle.nm_model.specs.definitions.Areas.{is_own}
 use Rattle.nm_areas.specs.declared.lines.Area.{Area as Listed}
 use Rattle.nm_types.proofs.Maps.{equal, spot_cmp_total}
@@ -147,16 +147,16 @@ own_all areas pid some low =
 module _ (segments : Map ℕ Segment) (areas : Map (ℕ × ℕ) Area) (pid : ℕ) where
   -- those that are still to come
   abbrev pub lines_from : ℕ → List Listed
-  lines_from at = map (line_of segments) (filter (is_own pid at (2 ^ 35)) areas)
+  lines_from at = map (area_line segments) (filter (is_own pid at (2 ^ 35)) areas)
 
   pub lines_begin : AllByRecursion IsSomePages areas → AllByRecursion EndsLow areas → lines_from 0 ≡ lines_of segments areas pid
-  lines_begin some low = ap (map (line_of segments)) (sym (own_all areas pid some low))
+  lines_begin some low = ap (map (area_line segments)) (sym (own_all areas pid some low))
 
   pub lines_next : (lines new : List Listed) (at s : ℕ) (x : Area) → s < 2 ^ 35 → IsStrictlySortedBy spot_cmp (keys_of areas) → at ≤ s → get spot_cmp areas (pid, s) ≡ Some x → NoneBegins areas pid at s
-      → new ≡ lines ++ line_of segments ((0, s), x) ∷ [] → lines ++ lines_from at ≡ lines_of segments areas pid → new ++ lines_from (s + 1) ≡ lines_of segments areas pid
+      → new ≡ lines ++ area_line segments ((0, s), x) ∷ [] → lines ++ lines_from at ≡ lines_of segments areas pid → new ++ lines_from (s + 1) ≡ lines_of segments areas pid
   lines_next lines new at s x high sorted low found none pushed so_far =
-      ap (λ l. l ++ lines_from (s + 1)) pushed ∙ append_assoc lines (line_of segments ((0, s), x) ∷ []) (lines_from (s + 1))
-      ∙ ap (λ l. lines ++ map (line_of segments) l) (sym (own_next pid s (2 ^ 35) x high areas at sorted low found none)) ∙ so_far
+      ap (λ l. l ++ lines_from (s + 1)) pushed ∙ append_assoc lines (area_line segments ((0, s), x) ∷ []) (lines_from (s + 1))
+      ∙ ap (λ l. lines ++ map (area_line segments) l) (sym (own_next pid s (2 ^ 35) x high areas at sorted low found none)) ∙ so_far
 
   pub lines_end : (lines : List Listed) (at : ℕ) → NoneBegins areas pid at (2 ^ 35) → lines ++ lines_from at ≡ lines_of segments areas pid → lines ≡ lines_of segments areas pid
-  lines_end lines at none so_far = sym (append-nil lines) ∙ ap (λ l. lines ++ map (line_of segments) l) (sym (own_none areas pid at (2 ^ 35) none)) ∙ so_far
+  lines_end lines at none so_far = sym (append-nil lines) ∙ ap (λ l. lines ++ map (area_line segments) l) (sym (own_none areas pid at (2 ^ 35) none)) ∙ so_far

@@ -12,7 +12,7 @@ use Rattle.nm_types.proofs.Cases.{some_none, none_some, some_is}
 use Rattle.nm_counts.specs.declared.step.Step.{Step}
 use Rattle.nm_counts.specs.Shifted.{shift_step, shifted_in, is_between}
 use Rattle.nm_counts.proofs.Orders.{pages_same, page_itself}
-use Rattle.nm_areas.specs.Coverage.{step_of, IsSteps, IsFlat}
+use Rattle.nm_areas.specs.Coverage.{step_at, IsSteps, IsFlat}
 use Rattle.nm_model.specs.definitions.Areas.{page_in}
 use Rattle.nm_model.proofs.areas.Overs.{up_to, from_up_to, spot_same}
 use Rattle.nm_model.proofs.areas.Halves.{less_from}
@@ -22,7 +22,7 @@ use Rattle.nm_model.proofs.areas.Halves.{less_from}
 abbrev stood : ℕ → ℕ → Step
 stood covers ends = record { covers = covers; ends = ends }
 
-pub none_ends : (e c : ℕ) → step_of e c ≡ None → e ≡ 0
+pub none_ends : (e c : ℕ) → step_at e c ≡ None → e ≡ 0
 none_ends e c h =
     elim (e == 0) as (λ b. (e == 0) ≡ b → (if b then None else Some (stood (c) (e))) ≡ None → e ≡ 0) [
       | true ↦ λ b k. eqb-true e 0 b
@@ -32,19 +32,19 @@ none_ends e c h =
 step_is : (s t : Step) → Some s ≡ Some t → s ≡ t
 step_is s t h = some_is h
 
-pub some_step : (e c : ℕ) (s : Step) → step_of e c ≡ Some s → (s.covers ≡ c) × (s.ends ≡ e)
+pub some_step : (e c : ℕ) (s : Step) → step_at e c ≡ Some s → (s.covers ≡ c) × (s.ends ≡ e)
 some_step e c s h =
     elim (e == 0) as (λ b. (if b then None else Some (stood (c) (e))) ≡ Some s → (s.covers ≡ c) × (s.ends ≡ e)) [
       | true ↦ λ k. absurd (none_some k)
       | false ↦ λ k. let is = step_is (stood (c) (e)) s k in (ap (λ (z : Step). z.covers) (sym is), ap (λ (z : Step). z.ends) (sym is))
     ] h
 
-step_there : (e c : ℕ) → (e ≡ 0 → ⊥) → step_of e c ≡ Some (stood (c) (e))
+step_there : (e c : ℕ) → (e ≡ 0 → ⊥) → step_at e c ≡ Some (stood (c) (e))
 step_there e c h = ap (λ b. if b then None else Some (stood (c) (e))) (false_from_ne_true (e == 0) (λ k. h (eqb-true e 0 k)))
 
 -- the same numbers
 pub steps_same : (m : Map Page Step) (ends covers new_ends new_covers : Page → ℕ) → IsSteps m ends covers → ((p : Page) → ends p ≡ new_ends p) → ((p : Page) → covers p ≡ new_covers p) → IsSteps m new_ends new_covers
-steps_same m ends covers new_ends new_covers h e c p = h p ∙ ap (λ n. step_of n (covers p)) (e p) ∙ ap (step_of (new_ends p)) (c p)
+steps_same m ends covers new_ends new_covers h e c p = h p ∙ ap (λ n. step_at n (covers p)) (e p) ∙ ap (step_at (new_ends p)) (c p)
 
 -- more ends
 pub flat_more : (ends covers more : Page → ℕ) → IsFlat ends covers → IsFlat (λ p. ends p + more p) covers
@@ -115,12 +115,12 @@ pub more_ends : (m new : Map Page Step) (page : Page) (times count last : ℕ) �
     → (ends covers : Page → ℕ) → IsSteps m ends covers → count ≡ covers page → last ≡ ends page + times → IsSteps new (λ p. ends p + (if same_page page p then times else 0)) covers
 more_ends m new page times count last some shows ends covers steps counted ended p =
     shows p
-    ∙ elim (same_page page p) as (λ b. same_page page p ≡ b → (if b then Some (stood count last) else get page_cmp m p) ≡ step_of (ends p + (if b then times else 0)) (covers p)) [
+    ∙ elim (same_page page p) as (λ b. same_page page p ≡ b → (if b then Some (stood count last) else get page_cmp m p) ≡ step_at (ends p + (if b then times else 0)) (covers p)) [
       | true ↦ λ b.
           let same = pages_same page p b in
           ap (λ c. Some (stood c last)) counted ∙ ap (λ n. Some (stood (covers page) n)) ended
-          ∙ sym (step_there (ends page + times) (covers page) (λ z. omega (arith, some, z))) ∙ ap (λ (q : Page). step_of (ends q + times) (covers q)) same
-      | false ↦ λ b. let none : ends p ≡ ends p + 0 = omega arith in steps p ∙ ap (λ n. step_of n (covers p)) none
+          ∙ sym (step_there (ends page + times) (covers page) (λ z. omega (arith, some, z))) ∙ ap (λ (q : Page). step_at (ends q + times) (covers q)) same
+      | false ↦ λ b. let none : ends p ≡ ends p + 0 = omega arith in steps p ∙ ap (λ n. step_at n (covers p)) none
     ] refl
 
 module _ (m new : Map Page Step) (page : Page) (times left : ℕ) (step : Step) (there : Some step ≡ get page_cmp m page) (is : left ≡ step.ends - times) (ends covers : Page → ℕ)
@@ -133,22 +133,22 @@ module _ (m new : Map Page Step) (page : Page) (times left : ℕ) (step : Step) 
   rest : ends page ≡ left
   rest = let all = at_page.1 in omega (arith, all, is)
 
-  elsewhere : (p : Page) → same_page page p ≡ false → get page_cmp m p ≡ step_of (ends p) (covers p)
+  elsewhere : (p : Page) → same_page page p ≡ false → get page_cmp m p ≡ step_at (ends p) (covers p)
   elsewhere p b =
       let none : ends p + (if same_page page p then times else 0) ≡ ends p = ap (λ c. ends p + (if c then times else 0)) b ∙ (omega arith) in
-      steps p ∙ ap (λ n. step_of n (covers p)) none
+      steps p ∙ ap (λ n. step_at n (covers p)) none
 
   -- fewer ends at a page, and some are left
   pub fewer_ends : (left ≡ 0 → ⊥) → ((p : Page) → get page_cmp new p ≡ option_map (λ there. if same_page page p then stood step.covers left else there) (get page_cmp m p)) → IsSteps new ends covers
   fewer_ends some shows p =
       let w : Step = stood step.covers left in
       shows p
-      ∙ elim (same_page page p) as (λ b. same_page page p ≡ b → option_map (λ there. if b then w else there) (get page_cmp m p) ≡ step_of (ends p) (covers p)) [
+      ∙ elim (same_page page p) as (λ b. same_page page p ≡ b → option_map (λ there. if b then w else there) (get page_cmp m p) ≡ step_at (ends p) (covers p)) [
         | true ↦ λ b.
             let same = pages_same page p b in
             ap (λ (q : Page). option_map (λ there. w) (get page_cmp m q)) (sym same) ∙ ap (option_map (λ there. w)) (sym there)
             ∙ ap (λ c. Some (stood c left)) at_page.0
-            ∙ sym (step_there left (covers page) some) ∙ ap (λ n. step_of n (covers page)) (sym rest) ∙ ap (λ (q : Page). step_of (ends q) (covers q)) same
+            ∙ sym (step_there left (covers page) some) ∙ ap (λ n. step_at n (covers page)) (sym rest) ∙ ap (λ (q : Page). step_at (ends q) (covers q)) same
         | false ↦ λ b. there_kept w (get page_cmp m p) ∙ elsewhere p b
       ] refl
 
@@ -156,8 +156,8 @@ module _ (m new : Map Page Step) (page : Page) (times left : ℕ) (step : Step) 
   pub no_ends : left ≡ 0 → ((p : Page) → get page_cmp new p ≡ (if same_page page p then None else get page_cmp m p)) → IsSteps new ends covers
   no_ends none shows p =
       shows p
-      ∙ elim (same_page page p) as (λ b. same_page page p ≡ b → (if b then None else get page_cmp m p) ≡ step_of (ends p) (covers p)) [
-        | true ↦ λ b. sym (ap (λ n. step_of n (covers p)) (ap (λ (q : Page). ends q) (sym (pages_same page p b)) ∙ rest ∙ none))
+      ∙ elim (same_page page p) as (λ b. same_page page p ≡ b → (if b then None else get page_cmp m p) ≡ step_at (ends p) (covers p)) [
+        | true ↦ λ b. sym (ap (λ n. step_at n (covers p)) (ap (λ (q : Page). ends q) (sym (pages_same page p b)) ∙ rest ∙ none))
         | false ↦ λ b. elsewhere p b
       ] refl
 

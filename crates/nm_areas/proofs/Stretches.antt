@@ -7,7 +7,7 @@ use Rattle.nm_types.specs.declared.area.Area.{Area}
 use Rattle.nm_types.specs.declared.area.Segment.{Segment}
 use Rattle.nm_types.specs.Map.{Map, get, without, page_cmp}
 use Rattle.nm_counts.specs.declared.step.Step.{Step}
-use Rattle.nm_areas.specs.Coverage.{step_of, IsCoverage, ends_at, covers_at}
+use Rattle.nm_areas.specs.Coverage.{step_at, IsCoverage, ends_at, covers_at}
 use Rattle.nm_model.specs.definitions.Areas.{is_shared}
 use Rattle.nm_model.specs.definitions.Areas.{pages_from, is_covered}
 use Rattle.nm_model.specs.definitions.Areas.{place_left, with_its_frame, lost_page, all_lost, page_in, pages_of_area}
@@ -73,7 +73,7 @@ module _ (m : Map Page Step) (segments : Map ℕ Segment) (left : Map (ℕ × �
       flat_same (ends_at left) (covers_at left) (areas_flat left) s at (i - at) i (omega (arith, from))
       (λ j up down.
       let q = page_in s j in
-      let here = ap (λ b. step_of (if b then ends_at left q else 0) (if b then covers_at left q else 0)) shared in
+      let here = ap (λ b. step_at (if b then ends_at left q else 0) (if b then covers_at left q else 0)) shared in
       none_ends (ends_at left q) (covers_at left q) (sym here ∙ sym (cover q) ∙ none j up (omega (arith, down, to))))
 
   parts : pages_from s at (past - at) ≡ pages_from s at (change - at) ++ pages_from s change (past - change)

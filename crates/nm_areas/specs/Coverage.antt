@@ -11,9 +11,9 @@ use Rattle.nm_model.specs.definitions.Areas.{shows_page}
 use Rattle.nm_model.specs.definitions.Areas.{page_in}
 
 -- the sum of a number of each area
-abbrev pub total : (PlacedArea → ℕ) → List PlacedArea → ℕ
-total number [] = 0
-total number (a ∷ areas) = number a + total number areas
+abbrev pub sum_over_areas : (PlacedArea → ℕ) → List PlacedArea → ℕ
+sum_over_areas number [] = 0
+sum_over_areas number (a ∷ areas) = number a + sum_over_areas number areas
 
 -- the page after an area's last one
 abbrev pub end_of : Area → Page
@@ -29,19 +29,19 @@ covers_of p area = if shows_page p area then 1 else 0
 
 -- how many areas begin or end at a page ...
 abbrev pub ends_at : Map (ℕ × ℕ) Area → Page → ℕ
-ends_at areas p = total (λ a. ends_of p a.1) areas
+ends_at areas p = sum_over_areas (λ a. ends_of p a.1) areas
 
 -- ... and how many cover it
 abbrev pub covers_at : Map (ℕ × ℕ) Area → Page → ℕ
-covers_at areas p = total (λ a. covers_of p a.1) areas
+covers_at areas p = sum_over_areas (λ a. covers_of p a.1) areas
 
 -- the step at a page: none where no area begins or ends
-abbrev pub step_of : ℕ → ℕ → Option Step
-step_of ends covers = if ends == 0 then None else Some (record { covers = covers; ends = ends })
+abbrev pub step_at : ℕ → ℕ → Option Step
+step_at ends covers = if ends == 0 then None else Some (record { covers = covers; ends = ends })
 
 -- there are steps exactly where areas begin or end, each with both numbers
 abbrev pub IsSteps : Map Page Step → (Page → ℕ) → (Page → ℕ) → Type 0
-IsSteps steps ends covers = (p : Page) → get page_cmp steps p ≡ step_of (ends p) (covers p)
+IsSteps steps ends covers = (p : Page) → get page_cmp steps p ≡ step_at (ends p) (covers p)
 
 -- a number of each page of a shared segment, and 0 for pages of private segments
 abbrev pub of_shared : Map ℕ Segment → (Page → ℕ) → Page → ℕ
@@ -69,4 +69,4 @@ split_of pid at p a = if covers a pid at && (nat_lt a.0.1 at && same_page (page_
 
 -- the same over all areas, of which at most one covers the page number
 abbrev pub splits_at : Map (ℕ × ℕ) Area → ℕ → ℕ → Page → ℕ
-splits_at areas pid at p = total (split_of pid at p) areas
+splits_at areas pid at p = sum_over_areas (split_of pid at p) areas

@@ -5,7 +5,7 @@ ghost use Rattle.nm_types.specs.State.{PlacedArea, area_over};
 ghost use Rattle.nm_types.specs.Does.{Makes};
 ghost use Rattle.nm_model.specs.definitions.Areas.{no_areas, new_area, with_segment, with_area, over_with};
 ghost use Rattle.nm_model.specs.definitions.Areas.{is_shared};
-ghost use Rattle.nm_areas.specs.Lines.{line_of};
+ghost use Rattle.nm_areas.specs.Lines.{area_line};
 ghost use Rattle.nm_model.specs.definitions.Areas.{IsWellFormed};
 ghost use Rattle.nm_model.specs.definitions.AreaRefusal.{insert_refusal, stretch_refusal};
 
@@ -59,7 +59,7 @@ impl<A: Allocator + Copy> Areas<A> {
     /// The area of a process that covers a page number. None if no area does. Looks up the area and its segment.
     pub fn find(&self, pid: Pid, vpn: Vpn) -> Option<Area>
         ensures { result
-            ≡ option_map (line_of self.now.segments) (area_over self.now.areas pid vpn) }
+            ≡ option_map (area_line self.now.segments) (area_over self.now.areas pid vpn) }
     {
         let (first, area) = self.table.over(pid, vpn)?;
         Some(line_of(&self.table.segments, first, area))

@@ -3,7 +3,7 @@
 ghost use Rattle.std.specs.Prelude.{◌≡◌, ◌<◌, length, IfOk, OnErr};
 ghost use Rattle.std.specs.List.{AllByRecursion};
 ghost use Rattle.nm_model.specs.definitions.Areas.{is_shared};
-ghost use Rattle.nm_areas.specs.Lines.{line_of, lines_of};
+ghost use Rattle.nm_areas.specs.Lines.{area_line, lines_of};
 ghost use Rattle.nm_model.specs.definitions.Areas.{EndsLow, IsSomePages};
 
 use crate::areas::Areas;
@@ -67,7 +67,7 @@ pub(crate) fn line_of<A: Allocator + Copy>(
     first: Vpn,
     area: nm_types::Area,
 ) -> Area
-    ensures { result ≡ line_of segments.now.entries ((0, first), area) }
+    ensures { result ≡ area_line segments.now.entries ((0, first), area) }
 {
     Area {
         first,

@@ -19,7 +19,7 @@ use Rattle.nm_types.specs.Map.{Map}
 use Rattle.nm_types.specs.declared.area.Area.{Area}
 use Rattle.nm_types.specs.declared.area.Segment.{Segment}
 use Rattle.nm_areas.specs.declared.lines.Area.{Area as Listed}
-use Rattle.nm_areas.specs.Lines.{line_of, lines_of}
+use Rattle.nm_areas.specs.Lines.{area_line, lines_of}
 use Rattle.nm_model.specs.definitions.Sound.{IsSound, IsWhole}
 use Rattle.nm_types.specs.Layout.{node_count}
 use Rattle.nm_types.specs.Nodes.{up_from}
@@ -121,7 +121,7 @@ ends_low : (segments : Map ℕ Segment) (areas : Map (ℕ × ℕ) Area) (pid : �
 ends_low segments [] pid h = tt
 ends_low segments (a ∷ areas) pid h =
     let rest = ends_low segments areas pid h.1 in
-    elim (a.0.0 == pid) as (λ b. AllByRecursion (λ (l : Listed). l.first + l.pages < 2 ^ 64) (map (line_of segments) (cond b (a ∷ filter (λ a. a.0.0 == pid) areas) (filter (λ a. a.0.0 == pid) areas)))) [
+    elim (a.0.0 == pid) as (λ b. AllByRecursion (λ (l : Listed). l.first + l.pages < 2 ^ 64) (map (area_line segments) (cond b (a ∷ filter (λ a. a.0.0 == pid) areas) (filter (λ a. a.0.0 == pid) areas)))) [
       | true ↦ (omega (arith, h.0), rest)
       | false ↦ rest
     ]
@@ -135,7 +135,7 @@ lines_end s pid lines sound e = subst (All (λ (l : Listed). l.first + l.pages <
 
 -- ---- the areas of a process
 
-text_is : (s : State) (segments : Map ℕ Segment) (pid : ℕ) (a : PlacedArea) → (a.0.0 == pid) ≡ true → line_text s pid (line_of segments a) ≡ area_text s a
+text_is : (s : State) (segments : Map ℕ Segment) (pid : ℕ) (a : PlacedArea) → (a.0.0 == pid) ≡ true → line_text s pid (area_line segments a) ≡ area_text s a
 text_is s segments pid a own = ap (λ (q : ℕ). area_text s ((q, a.0.1), a.1)) (sym (eqb-true a.0.0 pid own))
 
 texts_are : (s : State) (segments : Map ℕ Segment) (areas : Map (ℕ × ℕ) Area) (pid : ℕ)
@@ -144,7 +144,7 @@ texts_are s segments [] pid = refl
 texts_are s segments (a ∷ areas) pid =
     let rest = texts_are s segments areas pid in
     let own = filter (λ (b : PlacedArea). b.0.0 == pid) areas in
-    elim (a.0.0 == pid) as (λ b. (a.0.0 == pid) ≡ b → map (line_text s pid) (map (line_of segments) (cond b (a ∷ own) own)) ≡ map (area_text s) (cond b (a ∷ own) own)) [
+    elim (a.0.0 == pid) as (λ b. (a.0.0 == pid) ≡ b → map (line_text s pid) (map (area_line segments) (cond b (a ∷ own) own)) ≡ map (area_text s) (cond b (a ∷ own) own)) [
       | true ↦ λ is. ap (λ t. t ∷ map (line_text s pid) (lines_of segments areas pid)) (text_is s segments pid a is) ∙ ap (λ ts. area_text s a ∷ ts) rest
       | false ↦ λ is. rest
     ] refl

@@ -1,7 +1,7 @@
 use Rattle.std.proofs.Common.{ℕ, ◌+◌, ap, sym, arith, ◌∙◌}
 use Rattle.std.specs.List.{filter}
 use Rattle.nm_types.specs.State.{PlacedArea}
-use Rattle.nm_areas.specs.Coverage.{total, ends_at, covers_at}
+use Rattle.nm_areas.specs.Coverage.{sum_over_areas, ends_at, covers_at}
 use Rattle.nm_model.specs.definitions.Areas.{HasIndices}
 use Rattle.nm_model.specs.definitions.Areas.{others, is_own}
 use Rattle.nm_model.proofs.areas.Overs.{get_among}
@@ -19,7 +19,7 @@ loop-start-init g c =
     let own = λ (n : ℕ). filter (is_own a.pid n a.end) areas in
     record {
       steps = masked_parts a.steps.now a.table.now.segments areas left (own c.number-at.result)
-          (λ (f : PlacedArea → ℕ). sym (total_parts f (is_own a.pid a.first a.end) areas) ∙ ap (λ (n : ℕ). total f left + total f (own n)) (sym c.number-at.ensures)) c.requires.steps;
+          (λ (f : PlacedArea → ℕ). sym (total_parts f (is_own a.pid a.first a.end) areas) ∙ ap (λ (n : ℕ). sum_over_areas f left + sum_over_areas f (own n)) (sym c.number-at.ensures)) c.requires.steps;
       low = omega (arith, c.number-at.ensures);
       up = omega (arith, c.number-at.ensures, c.requires.range);
     }
