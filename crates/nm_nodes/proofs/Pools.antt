@@ -11,7 +11,7 @@ use Rattle.std.proofs.lemmas.Cmp.{nat_eq_equiv}
 use Rattle.nm_types.specs.Layout.{owner}
 use Rattle.nm_types.specs.Nodes.{up_from, is_in}
 use Rattle.nm_model.specs.definitions.Frames.{Pool, IsPool, all_frames, list_of, with_list, new_pool, with_back, with_front, without_front}
-use Rattle.nm_nodes.specs.Lists.{sizes_of, lists_of, pool_of}
+use Rattle.nm_nodes.specs.Lists.{sizes_of, lists_of, pool_of_lists}
 use Rattle.nm_nodes.proofs.Stretches.{sum-cons, owner_first, owner_later, length-all_frames, length_of_stretch, distinct_stretch, owner_is, owner_has, owner-lt, is_in-cons}
 
 -- what holds of a list's new element at its place and of the old ones elsewhere
@@ -147,7 +147,7 @@ unfolding rows
 lists_of-rows first [] = refl
 lists_of-rows first (size ∷ sizes) = ap (λ rest. up_from first size ∷ rest) (lists_of-rows (first + size) sizes)
 
-pub pool_of-rows : (sizes : List ℕ) → pool_of (rows 0 sizes) ≡ new_pool sizes
+pub pool_of-rows : (sizes : List ℕ) → pool_of_lists (rows 0 sizes) ≡ new_pool sizes
 pool_of-rows sizes =
     let a = sizes_of-rows 0 sizes in
     let b = lists_of-rows 0 sizes in
@@ -155,7 +155,7 @@ pool_of-rows sizes =
 
 -- another list in a row is another list of the pool
 pub pool_of-set : (rows : List (ℕ × List ℕ)) (node : ℕ) (row : ℕ × List ℕ) (frames : List ℕ) → node < length rows → row ≡ get_or rows node row
-    → pool_of (set rows node (row.0, frames)) ≡ with_list (pool_of rows) node frames
+    → pool_of_lists (set rows node (row.0, frames)) ≡ with_list (pool_of_lists rows) node frames
 pool_of-set rows node row frames within is =
     let sizes : sizes_of (set rows node (row.0, frames)) ≡ sizes_of rows =
     map-set (λ (r : ℕ × List ℕ). r.0) rows node (row.0, frames) ∙ ap (set (sizes_of rows) node) (ap (λ (r : ℕ × List ℕ). r.0) is ∙ sym (get_or-map (λ (r : ℕ × List ℕ). r.0) rows node row 0 within)) ∙ set-get_or (sizes_of rows) node 0 in
@@ -163,12 +163,12 @@ pool_of-set rows node row frames within is =
     cc
 
 -- a node's index is among the rows
-pub place_in : (rows : List (ℕ × List ℕ)) (p : Pool) (i node : ℕ) → pool_of rows ≡ p → i ≡ node → node < length p.lists → i < length rows
+pub place_in : (rows : List (ℕ × List ℕ)) (p : Pool) (i node : ℕ) → pool_of_lists rows ≡ p → i ≡ node → node < length p.lists → i < length rows
 place_in rows p i node shown at within =
     let l : length (lists_of rows) ≡ length rows = length-map rows (λ (r : ℕ × List ℕ). r.1) in omega (arith, ap (λ (q : Pool). length q.lists) shown, l)
 
 -- a row read at a node's index, and written there
-module _ (rows : List (ℕ × List ℕ)) (p : Pool) (i node : ℕ) (row : ℕ × List ℕ) (shown : pool_of rows ≡ p) (at : i ≡ node) (within : node < length p.lists) (is : row ≡ get_or rows i row) where
+module _ (rows : List (ℕ × List ℕ)) (p : Pool) (i node : ℕ) (row : ℕ × List ℕ) (shown : pool_of_lists rows ≡ p) (at : i ≡ node) (within : node < length p.lists) (is : row ≡ get_or rows i row) where
   inside : i < length rows
   inside = let l : length (lists_of rows) ≡ length rows = length-map rows (λ (r : ℕ × List ℕ). r.1) in omega (arith, ap (λ (q : Pool). length q.lists) shown, l)
 
@@ -178,8 +178,8 @@ module _ (rows : List (ℕ × List ℕ)) (p : Pool) (i node : ℕ) (row : ℕ ×
   pub row_size : row.0 ≡ get_or p.sizes node 0
   row_size = ap (λ (r : ℕ × List ℕ). r.0) is ∙ sym (get_or-map (λ (r : ℕ × List ℕ). r.0) rows i row 0 inside) ∙ ap (λ (q : Pool). get_or q.sizes i 0) shown ∙ ap (λ k. get_or p.sizes k 0) at
 
-  pub written : (new : ℕ × List ℕ) (frames : List ℕ) → new ≡ (row.0, frames) → pool_of (set rows i new) ≡ with_list p node frames
-  written new frames e = ap (λ (r : ℕ × List ℕ). pool_of (set rows i r)) e ∙ pool_of-set rows i row frames inside is ∙ ap (λ (q : Pool). with_list q i frames) shown ∙ ap (λ k. with_list p k frames) at
+  pub written : (new : ℕ × List ℕ) (frames : List ℕ) → new ≡ (row.0, frames) → pool_of_lists (set rows i new) ≡ with_list p node frames
+  written new frames e = ap (λ (r : ℕ × List ℕ). pool_of_lists (set rows i r)) e ∙ pool_of-set rows i row frames inside is ∙ ap (λ (q : Pool). with_list q i frames) shown ∙ ap (λ k. with_list p k frames) at
 
 -- the row of the node that owns a frame which is not free
 pub record OwnRow (p : Pool) (frame i : ℕ) (row : ℕ × List ℕ) : Type 0 where
@@ -188,7 +188,7 @@ pub record OwnRow (p : Pool) (frame i : ℕ) (row : ℕ × List ℕ) : Type 0 wh
   pub list : row.1 ≡ list_of p (owner p.sizes frame)
   pub room : length row.1 < row.0
 
-pub own_row : (rows : List (ℕ × List ℕ)) (p : Pool) (frame i : ℕ) (row : ℕ × List ℕ) → pool_of rows ≡ p → IsPool (pool_of rows) → i ≡ owner (sizes_of rows) frame → row ≡ get_or rows i row
+pub own_row : (rows : List (ℕ × List ℕ)) (p : Pool) (frame i : ℕ) (row : ℕ × List ℕ) → pool_of_lists rows ≡ p → IsPool (pool_of_lists rows) → i ≡ owner (sizes_of rows) frame → row ≡ get_or rows i row
     → frame < sum p.sizes → is_in (list_of p (owner p.sizes frame)) frame ≡ false → OwnRow p frame i row
 own_row rows p frame i row shown kept own is inside taken =
     let pool : IsPool p = subst IsPool shown kept in

@@ -8,5 +8,5 @@ sizes_of rows = map (λ row. row.0) rows
 abbrev pub lists_of : List (ℕ × List ℕ) → List (List ℕ)
 lists_of rows = map (λ row. row.1) rows
 
-abbrev pub pool_of : List (ℕ × List ℕ) → Pool
-pool_of rows = record { sizes = sizes_of rows; lists = lists_of rows }
+abbrev pub pool_of_lists : List (ℕ × List ℕ) → Pool
+pool_of_lists rows = record { sizes = sizes_of rows; lists = lists_of rows }

@@ -19,13 +19,13 @@ pub struct NodePool<A: Allocator + Copy> {
 
 impl<A: Allocator + Copy> Model for NodePool<A> {
     ghost use Rattle.nm_model.specs.definitions.Frames.{Pool, IsPool};
-    ghost use Rattle.nm_nodes.specs.Lists.{pool_of};
+    ghost use Rattle.nm_nodes.specs.Lists.{pool_of_lists};
 
     ghost Value = { Pool };
 
-    ghost view = { λ p. pool_of p.lists.items };
+    ghost view = { λ p. pool_of_lists p.lists.items };
 
-    ghost invariant = { λ p. IsPool (pool_of p.lists.items) };
+    ghost invariant = { λ p. IsPool (pool_of_lists p.lists.items) };
 }
 
 impl<A: Allocator + Copy> NodePool<A> {

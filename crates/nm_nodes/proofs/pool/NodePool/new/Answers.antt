@@ -3,7 +3,7 @@ use Rattle.std.proofs.lemmas.List.{take_all, take_more}
 use Rattle.std.proofs.lemmas.List.Sums.{sum_by_more_le}
 use Rattle.nm_types.specs.Nodes.{up_from}
 use Rattle.nm_model.specs.definitions.Frames.{IsPool}
-use Rattle.nm_nodes.specs.Lists.{pool_of}
+use Rattle.nm_nodes.specs.Lists.{pool_of_lists}
 use Rattle.nm_nodes.proofs.Pools.{rows, rows_none, rows_more, sum-push, pool_of-rows, IsPool-new_pool}
 use Rattle.nm_nodes.proofs.pool.NodePool.new.Goals as goal
 
@@ -43,7 +43,7 @@ pub returns : goal.returns
 returns g c =
     let sizes = c.args.geometry.now.sizes in
     let all : take c.loop-node.node sizes ≡ sizes = take_all c.loop-node.node sizes (omega arith) in
-    ap pool_of (c.loop-node.invariant.made ∙ ap (rows 0) all) ∙ pool_of-rows sizes
+    ap pool_of_lists (c.loop-node.invariant.made ∙ ap (rows 0) all) ∙ pool_of-rows sizes
 
 pub invariant_of-result : goal.invariant_of-result
 invariant_of-result g c = subst IsPool (sym (returns g c)) (IsPool-new_pool c.args.geometry.now.sizes)
