@@ -7,7 +7,7 @@ ghost use Rattle.nm_model.specs.definitions.Touch.{has_free};
 ghost use Rattle.nm_model.specs.definitions.Frames.{list_of, with_list, with_back, with_front};
 ghost use Rattle.std.specs.Cow.{cow_slice_items};
 ghost use Rattle.std.specs.List.{AllByRecursion};
-ghost use Rattle.nm_memory.specs.views.Copies.{CanCopy, HasBoth, emptied, jobs_of};
+ghost use Rattle.nm_memory.specs.views.Copies.{CanCopy, HasBoth, without_moves, jobs_of};
 ghost use Rattle.nm_model.specs.definitions.BeforeCopy.{frames_taken};
 ghost use Rattle.nm_model.specs.definitions.Run.{frames_left};
 ghost use Rattle.nm_model.specs.definitions.Frames.{IsHome, bytes_of, overwrite};
@@ -390,7 +390,7 @@ impl<A: Allocator + Copy> Frames<A> {
         // Afterwards
         ensures frames { result.0
             ≡ record (self) {
-              frames = emptied self.frames moves.now;
+              frames = without_moves self.frames moves.now;
               room = result.0.room;
             } }
         ensures jobs { result.1.items ≡ jobs_of 0 self.frames moves.now }

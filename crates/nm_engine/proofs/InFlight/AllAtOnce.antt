@@ -15,7 +15,7 @@ use Rattle.nm_model.specs.definitions.Frames.{Store, IsHome, overwrite}
 use Rattle.nm_types.specs.declared.taken.Taken.{Taken}
 use Rattle.nm_spaces.specs.views.AddressSpaces.{AddressSpacesView, with_moved, table_of}
 use Rattle.nm_memory.specs.views.Populated.{IsPopulated}
-use Rattle.nm_memory.specs.views.Copies.{without_both, emptied, with_copies, CanCopy, HasBoth}
+use Rattle.nm_memory.specs.views.Copies.{without_move, without_moves, with_copies, CanCopy, HasBoth}
 use Rattle.nm_memory.specs.views.Frames.{FramesView, HasAllFrames, free_on}
 use Rattle.nm_model.specs.definitions.Touch.{AccessResults}
 use Rattle.nm_laws.specs.Laws.{with_moves}
@@ -105,16 +105,16 @@ one_here f = ap (λ b. cond b 1 0) (Rattle.std.proofs.Common.eq-eqb f f refl)
 none_here : (f g : ℕ) (xs : List ℕ) → times f (g ∷ xs) ≡ 0 → f ≢ g
 none_here f g xs none e = let one : here f g ≡ 1 = ap (here f) (sym e) ∙ one_here f in omega (arith, none, one, times_cons f g xs)
 
-populated_meanwhile : (taken : List Taken) (store : Store) (f : ℕ) → times f (frames_left taken) ≡ 0 → times f (frames_taken taken) ≡ 0 → IsPopulated store f → IsPopulated (emptied store taken) f
+populated_meanwhile : (taken : List Taken) (store : Store) (f : ℕ) → times f (frames_left taken) ≡ 0 → times f (frames_taken taken) ≡ 0 → IsPopulated store f → IsPopulated (without_moves store taken) f
 populated_meanwhile [] store f from to whole = whole
 populated_meanwhile (t ∷ taken) store f from to whole =
-    populated_meanwhile taken (without_both store t) f (omega (arith, from, times_cons f t.from (frames_left taken))) (omega (arith, to, times_cons f t.to (frames_taken taken)))
+    populated_meanwhile taken (without_move store t) f (omega (arith, from, times_cons f t.from (frames_left taken))) (omega (arith, to, times_cons f t.to (frames_taken taken)))
     (stays_populated store t f (none_here f t.from (frames_left taken) from) (none_here f t.to (frames_taken taken) to) whole)
 
-home_meanwhile : (taken : List Taken) (store : Store) (f : ℕ) → times f (frames_left taken) ≡ 0 → times f (frames_taken taken) ≡ 0 → IsHome store f → IsHome (emptied store taken) f
+home_meanwhile : (taken : List Taken) (store : Store) (f : ℕ) → times f (frames_left taken) ≡ 0 → times f (frames_taken taken) ≡ 0 → IsHome store f → IsHome (without_moves store taken) f
 home_meanwhile [] store f from to home = home
 home_meanwhile (t ∷ taken) store f from to home =
-    home_meanwhile taken (without_both store t) f (omega (arith, from, times_cons f t.from (frames_left taken))) (omega (arith, to, times_cons f t.to (frames_taken taken)))
+    home_meanwhile taken (without_move store t) f (omega (arith, from, times_cons f t.from (frames_left taken))) (omega (arith, to, times_cons f t.to (frames_taken taken)))
     (stays_home store t f (none_here f t.from (frames_left taken) from) (none_here f t.to (frames_taken taken) to) home)
 
 none_more : (a b c : ℕ) (t : Bool) → a + b + c ≡ cond t 1 0 → 1 ≤ a → c ≡ 0
@@ -241,8 +241,8 @@ module _ (y : AddressSpacesView) (k : FramesView) (online : List ℕ) (moved fai
     all_can store homes [] due = tt
     all_can store homes (d ∷ ds) due = (one_can store homes d due.0, all_can store homes ds due.1)
 
-    pub can_meanwhile : AllByRecursion (CanDo spaces_then.place (emptied k.frames taken)) dues
-    can_meanwhile = all_can (emptied k.frames taken) (λ f from to home whole. (home_meanwhile taken k.frames f from to home, populated_meanwhile taken k.frames f from to whole)) dues h.due
+    pub can_meanwhile : AllByRecursion (CanDo spaces_then.place (without_moves k.frames taken)) dues
+    can_meanwhile = all_can (without_moves k.frames taken) (λ f from to home whole. (home_meanwhile taken k.frames f from to home, populated_meanwhile taken k.frames f from to whole)) dues h.due
 
     can_after : AllByRecursion (CanDo spaces_then.place (with_copies k.frames taken)) dues
     can_after = all_can (with_copies k.frames taken) (λ f from to home whole. (copies_home taken k.frames f home, copies_populated taken k.frames f both_whole whole)) dues h.due

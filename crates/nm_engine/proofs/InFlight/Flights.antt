@@ -12,7 +12,7 @@ use Rattle.nm_model.specs.definitions.Run.{frames_left}
 use Rattle.nm_model.specs.definitions.Sound.{IsSoundInFlight}
 use Rattle.nm_model.specs.definitions.Touch.{AccessResults}
 use Rattle.nm_memory.specs.definitions.AfterCopy.{StoreAfterCopy, all_stored_after_copy, CanDo}
-use Rattle.nm_memory.specs.views.Copies.{emptied, with_copies, jobs_of, refilled, CanCopy, CanRefill}
+use Rattle.nm_memory.specs.views.Copies.{without_moves, with_copies, jobs_of, with_jobs_back, CanCopy, CanRefill}
 use Rattle.nm_memory.specs.views.Frames.{FramesView, HasAllFrames}
 use Rattle.nm_memory.proofs.AfterCopy.Finished.{done_as_many, done_home}
 use Rattle.nm_memory.proofs.AfterCopy.Refilled.{all_after, all_refilled}
@@ -27,25 +27,25 @@ use Rattle.nm_engine.proofs.InFlight.AllAtOnce.{all_made_sound}
 
 -- the frames of a run that has begun, once its bytes are home, are those with the pages copied
 module _ {A : Type 0} (k v w : FramesView) (moves : List Taken) (jobs : List (CopyJob A)) (left : v ≡ record k { vacated = frames_left moves })
-    (out : w ≡ record v { frames = emptied v.frames moves; room = w.room }) (laid : jobs ≡ jobs_of 0 v.frames moves) (can : CanCopy k.frames moves) where
-  gone : w ≡ record k { frames = emptied k.frames moves; vacated = frames_left moves; room = w.room }
-  gone = out ∙ ap (λ (x : FramesView). record x { frames = emptied x.frames moves; room = w.room }) left
+    (out : w ≡ record v { frames = without_moves v.frames moves; room = w.room }) (laid : jobs ≡ jobs_of 0 v.frames moves) (can : CanCopy k.frames moves) where
+  gone : w ≡ record k { frames = without_moves k.frames moves; vacated = frames_left moves; room = w.room }
+  gone = out ∙ ap (λ (x : FramesView). record x { frames = without_moves x.frames moves; room = w.room }) left
 
   are : jobs ≡ jobs_of 0 k.frames moves
   are = laid ∙ ap (λ (x : FramesView). jobs_of {A = A} 0 x.frames moves) left
 
-  pub home_is : refilled w.frames (map copied jobs) ≡ with_copies k.frames moves
-  home_is = (λ i. refilled (gone i).frames (map copied (are i))) ∙ refilled_is A moves 0 k.frames can
+  pub home_is : with_jobs_back w.frames (map copied jobs) ≡ with_copies k.frames moves
+  home_is = (λ i. with_jobs_back (gone i).frames (map copied (are i))) ∙ refilled_is A moves 0 k.frames can
 
-  pub once_home : record w { frames = refilled w.frames (map copied jobs) } ≡ record k { frames = with_copies k.frames moves; vacated = frames_left moves; room = w.room }
-  once_home = ap (λ (x : FramesView). record x { frames = refilled w.frames (map copied jobs) }) gone ∙ ap (λ (s : Store). record k { frames = s; vacated = frames_left moves; room = w.room }) home_is
+  pub once_home : record w { frames = with_jobs_back w.frames (map copied jobs) } ≡ record k { frames = with_copies k.frames moves; vacated = frames_left moves; room = w.room }
+  once_home = ap (λ (x : FramesView). record x { frames = with_jobs_back w.frames (map copied jobs) }) gone ∙ ap (λ (s : Store). record k { frames = s; vacated = frames_left moves; room = w.room }) home_is
 
   pub can_home : CanRefill w.frames (map copied jobs)
   can_home =
       subst (λ (js : List (CopyJob A)). CanRefill w.frames (map copied js)) (sym are)
       (subst (λ (x : FramesView). CanRefill x.frames (map copied (jobs_of {A = A} 0 k.frames moves))) (sym gone) (can_refill A moves 0 k.frames can))
 
-  pub whole_then : HasAllFrames k → HasAllFrames (record w { frames = refilled w.frames (map copied jobs) })
+  pub whole_then : HasAllFrames k → HasAllFrames (record w { frames = with_jobs_back w.frames (map copied jobs) })
   whole_then h = subst HasAllFrames (sym once_home)
       (record { lists = h.lists; buffers = copies_as_many moves k.frames ∙ h.buffers; home = λ f below. copies_home moves k.frames f (h.home f below) })
 
@@ -64,7 +64,7 @@ module _ {A : Type 0} (x : Flight) (jobs : List (CopyJob A)) (dues : List Pendin
   home_jobs = map copied jobs
 
   abbrev store_once_home : Store
-  store_once_home = refilled x.frames.frames home_jobs
+  store_once_home = with_jobs_back x.frames.frames home_jobs
 
   abbrev made : StoreAfterCopy
   made = all_stored_after_copy x.spaces.place store_once_home dues
@@ -82,7 +82,7 @@ module _ {A : Type 0} (x : Flight) (jobs : List (CopyJob A)) (dues : List Pendin
   both : record { state = shown_by x.spaces (record (frames_then x jobs) { frames = made.store }) x.online x.moved x.failed; answers = made.answers } ≡ all_after_copy (state_in_flight x jobs) dues
   both = all_done_shows x.spaces.processes (table_of x.spaces) x.online x.moved x.failed (paged_frames x.spaces (frames_then x jobs)) h.kept.sound.order.place h.kept.sound.apart dues store_once_home can_then
 
-  later : refilled after.frames.frames home_jobs ≡ made.store
+  later : with_jobs_back after.frames.frames home_jobs ≡ made.store
   later = ap (λ (s : StoreAfterCopy). s.store) (all_after dues x.spaces.place home_jobs x.frames.frames h.can can).0
 
   pub answers_then : (all_stored_after_copy x.spaces.place x.frames.frames dues).answers ≡ (all_after_copy (state_in_flight x jobs) dues).answers
@@ -113,10 +113,10 @@ out_done {A} x jobs h =
     let same = sym (copied_twice jobs) in
     record {
       can = subst (CanRefill x.frames.frames) same h.can;
-      whole = subst (λ (js : List (CopyJob A)). HasAllFrames (let k = x.frames in record k { frames = refilled k.frames js })) same h.whole;
-      kept = subst (λ (js : List (CopyJob A)). IsSoundMachine (shown_by x.spaces (let k = x.frames in record k { frames = refilled k.frames js }) x.online x.moved x.failed) x.frames.vacated x.spaces.frames) same h.kept;
-      populated = subst (λ (js : List (CopyJob A)). AllByRecursion (IsPopulated (refilled x.frames.frames js)) x.frames.vacated) same h.populated;
+      whole = subst (λ (js : List (CopyJob A)). HasAllFrames (let k = x.frames in record k { frames = with_jobs_back k.frames js })) same h.whole;
+      kept = subst (λ (js : List (CopyJob A)). IsSoundMachine (shown_by x.spaces (let k = x.frames in record k { frames = with_jobs_back k.frames js }) x.online x.moved x.failed) x.frames.vacated x.spaces.frames) same h.kept;
+      populated = subst (λ (js : List (CopyJob A)). AllByRecursion (IsPopulated (with_jobs_back x.frames.frames js)) x.frames.vacated) same h.populated;
     }
 
 pub state_done : {A : Type 0} (x : Flight) (jobs : List (CopyJob A)) → state_in_flight x (map copied jobs) ≡ state_in_flight x jobs
-state_done {A} x jobs = ap (λ (js : List (CopyJob A)). shown_by x.spaces (let k = x.frames in record k { frames = refilled k.frames js }) x.online x.moved x.failed) (copied_twice jobs)
+state_done {A} x jobs = ap (λ (js : List (CopyJob A)). shown_by x.spaces (let k = x.frames in record k { frames = with_jobs_back k.frames js }) x.online x.moved x.failed) (copied_twice jobs)

@@ -10,7 +10,7 @@ use Rattle.nm_types.specs.State.{State, free_list}
 use Rattle.nm_model.specs.definitions.Frames.{Store, IsHome, bytes_of}
 use Rattle.nm_types.specs.declared.taken.Taken.{Taken}
 use Rattle.nm_spaces.specs.views.AddressSpaces.{AddressSpacesView, with_moved, table_of}
-use Rattle.nm_memory.specs.views.Copies.{with_copy, with_copies, without_both, CanCopy}
+use Rattle.nm_memory.specs.views.Copies.{with_copy, with_copies, without_move, CanCopy}
 use Rattle.nm_memory.specs.views.Frames.{FramesView, HasAllFrames, free_on}
 use Rattle.nm_laws.specs.Laws.{with_move, with_moves}
 use Rattle.nm_engine.specs.views.MidRun.{IsSoundMachine}
@@ -110,7 +110,7 @@ none_here : (f g : ℕ) (xs : List ℕ) → times f (g ∷ xs) ≡ 0 → g ≢ f
 none_here f g xs none e = let one : here f g ≡ 1 = ap (here f) e ∙ one_here f in omega (arith, none, one, times_cons f g xs)
 
 fine_rest : (us : List Taken) (store : Store) (g : Layout) (target : ℕ) (t : Taken) → node_of g t.from ≢ target → node_of g t.to ≡ target → AllByRecursion (IsFine store g target) us
-    → times t.from (frames_left us) ≡ 0 → times t.to (tos us) ≡ 0 → AllByRecursion (IsFine (without_both store t) g target) us
+    → times t.from (frames_left us) ≡ 0 → times t.to (tos us) ≡ 0 → AllByRecursion (IsFine (without_move store t) g target) us
 fine_rest [] store g target t away on all none nor = tt
 fine_rest (u ∷ us) store g target t away on all none nor =
     let fine = all.0 in (
@@ -132,7 +132,7 @@ can_copy (t ∷ taken) store g target all few once =
       fine.2,
       fine.3,
       (λ e. fine.0 (ap (node_of g) e ∙ fine.1)),
-      can_copy taken (without_both store t) g target (fine_rest taken store g target t fine.0 fine.1 all.1 none nor)
+      can_copy taken (without_move store t) g target (fine_rest taken store g target t fine.0 fine.1 all.1 none nor)
           (λ f. let a = few f in omega (arith, a, times_cons f t.from (frames_left taken))) (λ f. let a = once f in omega (arith, a, times_cons f t.to (tos taken))),
     )
 

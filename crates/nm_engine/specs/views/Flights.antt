@@ -28,7 +28,7 @@ use Rattle.nm_memory.specs.declared.answers.AccessAnswer.{AccessAnswer as Given}
 use Rattle.nm_memory.specs.declared.pending_access.PendingAccess.{PendingAccess as Left}
 use Rattle.nm_memory.specs.definitions.AfterCopy.{CanDo, all_stored_after_copy}
 use Rattle.nm_memory.specs.views.Accesses.{HasRoom, answer_shown, pending_shown}
-use Rattle.nm_memory.specs.views.Copies.{refilled, CanRefill}
+use Rattle.nm_memory.specs.views.Copies.{with_jobs_back, CanRefill}
 use Rattle.nm_memory.specs.views.Frames.{FramesView, HasAllFrames}
 use Rattle.nm_spaces.specs.views.AddressSpaces.{AddressSpacesView}
 use Rattle.nm_spaces.specs.views.Held.{HeldView, HoldsPages, is_taken}
@@ -84,7 +84,7 @@ module _ {A : Type 0} where
 
   -- the frames once the bytes in these jobs are copied and home again
   abbrev pub frames_then : Flight → List (CopyJob A) → FramesView
-  frames_then x jobs = let k = x.frames in record k { frames = refilled k.frames (map copied jobs) }
+  frames_then x jobs = let k = x.frames in record k { frames = with_jobs_back k.frames (map copied jobs) }
 
   -- the state that is read meanwhile: each page is in the frame that it goes to, with the bytes that it has in the one
   -- that it leaves
@@ -96,7 +96,7 @@ module _ {A : Type 0} where
     pub can : CanRefill x.frames.frames (map copied jobs)
     pub whole : HasAllFrames (frames_then x jobs)
     pub kept : IsSoundMachine (state_in_flight x jobs) x.frames.vacated x.spaces.frames
-    pub populated : AllByRecursion (IsPopulated (refilled x.frames.frames (map copied jobs))) x.frames.vacated
+    pub populated : AllByRecursion (IsPopulated (with_jobs_back x.frames.frames (map copied jobs))) x.frames.vacated
 
   -- a run machine whose run is under way, of these moves: it is read as the same state, and each process has the same entry
   -- at each page number

@@ -9,7 +9,7 @@ use Rattle.nm_types.specs.Map.{Map}
 use Rattle.nm_types.proofs.Cases.{none_some}
 use Rattle.nm_frames.specs.declared.job.CopyJob.{CopyJob}
 use Rattle.nm_model.specs.definitions.Frames.{Store, IsHome, IsOut, bytes_of, overwrite}
-use Rattle.nm_memory.specs.views.Copies.{with_buf, with_job, refilled, CanRefill}
+use Rattle.nm_memory.specs.views.Copies.{with_buf, with_job, with_jobs_back, CanRefill}
 use Rattle.nm_model.specs.definitions.Memory.{stretch_of}
 use Rattle.nm_model.specs.definitions.Touch.{AccessAnswer, Bytes}
 use Rattle.nm_model.specs.definitions.BeforeCopy.{PendingAccess, Known, ToRead, ToWrite}
@@ -63,16 +63,16 @@ told_first a rest = record { store = rest.store; answers = a ∷ rest.answers }
 module _ {A : Type 0} where
   -- bytes that are written beside those that come back
   record IsBeside (jobs : List (CopyJob A)) (store : Store) (f : ℕ) (bytes : List ℕ) : Type 0 where
-    pub later : refilled (slice_set store f (Some bytes)) jobs ≡ slice_set (refilled store jobs) f (Some bytes)
+    pub later : with_jobs_back (slice_set store f (Some bytes)) jobs ≡ slice_set (with_jobs_back store jobs) f (Some bytes)
     pub can : CanRefill (slice_set store f (Some bytes)) jobs
-    pub home : IsHome (refilled store jobs) f
-    pub same : at (refilled store jobs) f ≡ at store f
+    pub home : IsHome (with_jobs_back store jobs) f
+    pub same : at (with_jobs_back store jobs) f ≡ at store f
 
   beside : (jobs : List (CopyJob A)) (store : Store) (f : ℕ) (bytes : List ℕ) → CanRefill store jobs → IsHome store f → IsBeside jobs store f bytes
   beside [] store f bytes can home = record { later = refl; can = tt; home = home; same = refl }
   beside (job ∷ jobs) store f bytes can home =
       let rest = beside jobs store f bytes can.0 home in
-      let r = refilled store jobs in
+      let r = with_jobs_back store jobs in
       let s = job.source.0 in
       let t = job.target.0 in
       let mid = with_buf r job.source in
@@ -97,9 +97,9 @@ module _ {A : Type 0} where
 
   -- what is done before the bytes of jobs come back is done after
   record IsAfter (place : Map Page ℕ) (jobs : List (CopyJob A)) (store : Store) (d : PendingAccess) : Type 0 where
-    pub later : refilled (store_after_copy place store d) jobs ≡ store_after_copy place (refilled store jobs) d
+    pub later : with_jobs_back (store_after_copy place store d) jobs ≡ store_after_copy place (with_jobs_back store jobs) d
     pub can : CanRefill (store_after_copy place store d) jobs
-    pub told : answer_from_store place store d ≡ answer_from_store place (refilled store jobs) d
+    pub told : answer_from_store place store d ≡ answer_from_store place (with_jobs_back store jobs) d
 
   after : (place : Map Page ℕ) (jobs : List (CopyJob A)) (store : Store) (d : PendingAccess) → CanRefill store jobs → CanDo place store d → IsAfter place jobs store d
   after place jobs store (Known answer) can doable = record { later = refl; can = can; told = refl }
@@ -114,13 +114,13 @@ module _ {A : Type 0} where
       let home = subst (IsHome store) (sym there) doable.home in
       let b = beside jobs store f (overwrite (bytes_of store f) i new) can home in
       record {
-        later = b.later ∙ ap (λ o. slice_set (refilled store jobs) f (Some (overwrite (unwrap_or o []) i new))) (sym b.same);
+        later = b.later ∙ ap (λ o. slice_set (with_jobs_back store jobs) f (Some (overwrite (unwrap_or o []) i new))) (sym b.same);
         can = b.can;
         told = refl;
       }
 
   -- what can be done while the bytes of jobs are out can be done once they are back
-  can_refilled : (place : Map Page ℕ) (jobs : List (CopyJob A)) (store : Store) (d : PendingAccess) → CanRefill store jobs → CanDo place store d → CanDo place (refilled store jobs) d
+  can_refilled : (place : Map Page ℕ) (jobs : List (CopyJob A)) (store : Store) (d : PendingAccess) → CanRefill store jobs → CanDo place store d → CanDo place (with_jobs_back store jobs) d
   can_refilled place jobs store (Known answer) can doable = tt
   can_refilled place jobs store (ToRead page i len) can doable =
       let b = beside jobs store doable.frame [] can doable.home in
@@ -129,20 +129,20 @@ module _ {A : Type 0} where
       let b = beside jobs store doable.frame [] can doable.home in
       record { frame = doable.frame; placed = doable.placed; home = b.home; populated = ap (λ o. length (unwrap_or o [])) b.same ∙ doable.populated; inside = doable.inside }
 
-  pub all_refilled : (place : Map Page ℕ) (jobs : List (CopyJob A)) (store : Store) (dues : List PendingAccess) → CanRefill store jobs → AllByRecursion (CanDo place store) dues → AllByRecursion (CanDo place (refilled store jobs)) dues
+  pub all_refilled : (place : Map Page ℕ) (jobs : List (CopyJob A)) (store : Store) (dues : List PendingAccess) → CanRefill store jobs → AllByRecursion (CanDo place store) dues → AllByRecursion (CanDo place (with_jobs_back store jobs)) dues
   all_refilled place jobs store [] can doable = tt
   all_refilled place jobs store (d ∷ dues) can doable = (can_refilled place jobs store d can doable.0, all_refilled place jobs store dues can doable.1)
 
   abbrev back : List (CopyJob A) → StoreAfterCopy → StoreAfterCopy
-  back jobs x = record x { store = refilled (x.store) jobs }
+  back jobs x = record x { store = with_jobs_back (x.store) jobs }
 
   pub all_after : (dues : List PendingAccess) (place : Map Page ℕ) (jobs : List (CopyJob A)) (store : Store) → CanRefill store jobs → AllByRecursion (CanDo place store) dues
-      → (back jobs (all_stored_after_copy place store dues) ≡ all_stored_after_copy place (refilled store jobs) dues) × CanRefill (all_stored_after_copy place store dues).store jobs
+      → (back jobs (all_stored_after_copy place store dues) ≡ all_stored_after_copy place (with_jobs_back store jobs) dues) × CanRefill (all_stored_after_copy place store dues).store jobs
   all_after [] place jobs store can doable = (refl, can)
   all_after (d ∷ dues) place jobs store can doable =
       let now = after place jobs store d can doable.0 in
       let rest = all_after dues place jobs (store_after_copy place store d) now.can (all_can_then place store d dues doable.0 doable.1) in (
         ap (told_first (answer_from_store place store d)) (rest.0 ∙ ap (λ (x : Store). all_stored_after_copy place x dues) now.later)
-            ∙ ap (λ a. told_first a (all_stored_after_copy place (store_after_copy place (refilled store jobs) d) dues)) now.told,
+            ∙ ap (λ a. told_first a (all_stored_after_copy place (store_after_copy place (with_jobs_back store jobs) d) dues)) now.told,
         rest.1,
       )

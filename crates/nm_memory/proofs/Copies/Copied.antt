@@ -10,7 +10,7 @@ use Rattle.nm_frames.specs.Job.{copied}
 use Rattle.nm_memory.specs.views.Populated.{IsPopulated}
 use Rattle.nm_model.specs.definitions.Frames.{Store, IsHome, IsOut, bytes_of}
 use Rattle.nm_types.specs.declared.taken.Taken.{Taken}
-use Rattle.nm_memory.specs.views.Copies.{with_copy, with_copies, without_both, CanCopy, HasBoth, emptied, with_buf, jobs_of, with_job, refilled, CanRefill}
+use Rattle.nm_memory.specs.views.Copies.{with_copy, with_copies, without_move, CanCopy, HasBoth, without_moves, with_buf, jobs_of, with_job, with_jobs_back, CanRefill}
 use Rattle.nm_memory.proofs.Copies.Home.{copied_frame, home_bytes}
 
 -- what is at a frame
@@ -37,45 +37,45 @@ not_home store f q out home e = none_some (sym (ap (at store) e ∙ out) ∙ hom
     none_some e = cc
 
 module _ (store : Store) (t : Taken) where
-  from_out : at (without_both store t) t.from ≡ None
+  from_out : at (without_move store t) t.from ≡ None
   from_out = still_out (slice_set store t.from None) t.to t.from (none_out store t.from)
 
-  to_out : at (without_both store t) t.to ≡ None
+  to_out : at (without_move store t) t.to ≡ None
   to_out = none_out (slice_set store t.from None) t.to
 
-  as_many : length (without_both store t) ≡ length store
+  as_many : length (without_move store t) ≡ length store
   as_many = length-set (slice_set store t.from None) t.to None ∙ length-set store t.from None
 
   -- the frames that are home without both are others, and were home
-  not_from : (q : ℕ) → IsHome (without_both store t) q → q ≢ t.from
-  not_from q home = not_home (without_both store t) t.from q from_out home
+  not_from : (q : ℕ) → IsHome (without_move store t) q → q ≢ t.from
+  not_from q home = not_home (without_move store t) t.from q from_out home
 
-  pub not_to : (q : ℕ) → IsHome (without_both store t) q → q ≢ t.to
-  not_to q home = not_home (without_both store t) t.to q to_out home
+  pub not_to : (q : ℕ) → IsHome (without_move store t) q → q ≢ t.to
+  not_to q home = not_home (without_move store t) t.to q to_out home
 
-  untouched : (q : ℕ) → q ≢ t.from → q ≢ t.to → at (without_both store t) q ≡ at store q
+  untouched : (q : ℕ) → q ≢ t.from → q ≢ t.to → at (without_move store t) q ≡ at store q
   untouched q a b = get_or-set_other (slice_set store t.from None) t.to q None None b ∙ get_or-set_other store t.from q None None a
 
-  pub was_home : (q : ℕ) → IsHome (without_both store t) q → IsHome store q
+  pub was_home : (q : ℕ) → IsHome (without_move store t) q → IsHome store q
   was_home q home = record {
     in_range = omega (arith, as_many, home.in_range);
     here = subst (λ (o : Option (List ℕ)). IsSome o) (untouched q (not_from q home) (not_to q home)) home.here;
   }
 
-  pub stays_home : (q : ℕ) → q ≢ t.from → q ≢ t.to → IsHome store q → IsHome (without_both store t) q
+  pub stays_home : (q : ℕ) → q ≢ t.from → q ≢ t.to → IsHome store q → IsHome (without_move store t) q
   stays_home q a b home = record {
     in_range = omega (arith, as_many, home.in_range);
     here = subst (λ (o : Option (List ℕ)). IsSome o) (sym (untouched q a b)) home.here;
   }
 
   -- others keep their bytes in memory
-  pub stays_populated : (q : ℕ) → q ≢ t.from → q ≢ t.to → IsPopulated store q → IsPopulated (without_both store t) q
+  pub stays_populated : (q : ℕ) → q ≢ t.from → q ≢ t.to → IsPopulated store q → IsPopulated (without_move store t) q
   stays_populated q a b whole = ap (λ (o : Option (List ℕ)). length (unwrap_or o [])) (untouched q a b) ∙ whole
 
 -- as many frames have a place while the bytes of some are out
-pub out_as_many : (taken : List Taken) (store : Store) → length (emptied store taken) ≡ length store
+pub out_as_many : (taken : List Taken) (store : Store) → length (without_moves store taken) ≡ length store
 out_as_many [] store = refl
-out_as_many (t ∷ taken) store = out_as_many taken (without_both store t) ∙ as_many store t
+out_as_many (t ∷ taken) store = out_as_many taken (without_move store t) ∙ as_many store t
 
 -- what is home stays so where another frame gets bytes
 home_beside : (store : Store) (f q : ℕ) (bytes : List ℕ) → q ≢ f → IsHome store q → IsHome (slice_set store f (Some bytes)) q
@@ -103,24 +103,24 @@ can_where_more (t ∷ taken) g h covers can = (
   covers t.from can.0,
   covers t.to can.1,
   can.2,
-  can_where_more taken (without_both g t) (without_both h t) (λ q home. stays_home h t q (not_from g t q home) (not_to g t q home) (covers q (was_home g t q home))) can.3,
+  can_where_more taken (without_move g t) (without_move h t) (λ q home. stays_home h t q (not_from g t q home) (not_to g t q home) (covers q (was_home g t q home))) can.3,
 )
 
 -- the frames of later moves keep their bytes in memory while those of one move are out
-pub both_without : (taken : List Taken) (store : Store) (t : Taken) → CanCopy (without_both store t) taken → AllByRecursion (HasBoth store) taken → AllByRecursion (HasBoth (without_both store t)) taken
+pub both_without : (taken : List Taken) (store : Store) (t : Taken) → CanCopy (without_move store t) taken → AllByRecursion (HasBoth store) taken → AllByRecursion (HasBoth (without_move store t)) taken
 both_without [] store t can both = tt
 both_without (u ∷ taken) store t can both =
-    let g = without_both store t in (
+    let g = without_move store t in (
       (
         stays_populated store t u.from (not_from store t u.from can.0) (not_to store t u.from can.0) both.0.0,
         stays_populated store t u.to (not_from store t u.to can.1) (not_to store t u.to can.1) both.0.1,
       ),
-      both_without taken store t (can_where_more taken (without_both g u) g (λ q home. was_home g u q home) can.3) both.1,
+      both_without taken store t (can_where_more taken (without_move g u) g (λ q home. was_home g u q home) can.3) both.1,
     )
 
-after_copy : (taken : List Taken) (store : Store) (t : Taken) → CanCopy (without_both store t) taken → CanCopy (with_copy store t) taken
+after_copy : (taken : List Taken) (store : Store) (t : Taken) → CanCopy (without_move store t) taken → CanCopy (with_copy store t) taken
 after_copy taken store t can =
-    can_where_more taken (without_both store t) (with_copy store t) (λ q home. home_beside store t.to q (bytes_of store t.from) (not_to store t q home) (was_home store t q home)) can
+    can_where_more taken (without_move store t) (with_copy store t) (λ q home. home_beside store t.to q (bytes_of store t.from) (not_to store t q home) (was_home store t q home)) can
 
 -- a frame that is out stays out while others are copied, and its bytes may come back before or after
 copies_keep : (taken : List Taken) (store : Store) (f : ℕ) → CanCopy store taken → at store f ≡ None → at (with_copies store taken) f ≡ None
@@ -142,10 +142,10 @@ copies_set (t ∷ taken) store f v can out =
     ∙ ap (λ (s : Store). with_copies s taken) (set_comm store t.to f (Some bytes) v (not_home store f t.to out can.1) ∙ ap (λ (b : List ℕ). slice_set (slice_set store f v) t.to (Some b)) same)
 
 -- what goes out and is copied comes back copied
-pub refilled_is : (A : Type 0) (taken : List Taken) (k : ℕ) (store : Store) → CanCopy store taken → refilled (emptied store taken) (map copied (jobs_of {A = A} k store taken)) ≡ with_copies store taken
+pub refilled_is : (A : Type 0) (taken : List Taken) (k : ℕ) (store : Store) → CanCopy store taken → with_jobs_back (without_moves store taken) (map copied (jobs_of {A = A} k store taken)) ≡ with_copies store taken
 refilled_is A [] k store can = refl
 refilled_is A (t ∷ taken) k store can =
-    let g = without_both store t in
+    let g = without_move store t in
     let bytes = bytes_of store t.from in
     let both = λ (s : Store). slice_set (slice_set s t.from (Some bytes)) t.to (Some bytes) in
     ap both (refilled_is A taken (k + 1) g can.3)
@@ -156,13 +156,13 @@ refilled_is A (t ∷ taken) k store can =
     ∙ ap (λ (s : Store). with_copies s taken) (copied_frame store t.from t.to bytes can.2 (home_bytes store t.from can.0))
 
 -- and its frames are out until then
-pub can_refill : (A : Type 0) (taken : List Taken) (k : ℕ) (store : Store) → CanCopy store taken → CanRefill (emptied store taken) (map copied (jobs_of {A = A} k store taken))
+pub can_refill : (A : Type 0) (taken : List Taken) (k : ℕ) (store : Store) → CanCopy store taken → CanRefill (without_moves store taken) (map copied (jobs_of {A = A} k store taken))
 can_refill A [] k store can = tt
 can_refill A (t ∷ taken) k store can =
-    let g = without_both store t in
+    let g = without_move store t in
     let bytes = bytes_of store t.from in
     let w = with_copies g taken in
-    let is : refilled (emptied g taken) (map copied (jobs_of {A = A} (k + 1) g taken)) ≡ w = refilled_is A taken (k + 1) g can.3 in
+    let is : with_jobs_back (without_moves g taken) (map copied (jobs_of {A = A} (k + 1) g taken)) ≡ w = refilled_is A taken (k + 1) g can.3 in
     let same : length w ≡ length store = copies_as_many taken g ∙ as_many store t in (
       can_refill A taken (k + 1) g can.3,
       subst (λ (s : Store). IsOut s t.from) (sym is) (record { in_range = omega (arith, same, can.0.in_range); taken = copies_keep taken g t.from can.3 (from_out store t) }),
@@ -179,7 +179,7 @@ tickets_from A (x ∷ taken) k store zero job at =
     let first : CopyJob A = record { source = (x.from, bytes_of store x.from); target = (x.to, bytes_of store x.to); ticket = k } in
     let is : first ≡ job = cc in
     omega (arith, ap (λ (j : CopyJob A). j.ticket) is)
-tickets_from A (x ∷ taken) k store (suc t) job at = omega (arith, tickets_from A taken (k + 1) (without_both store x) t job at)
+tickets_from A (x ∷ taken) k store (suc t) job at = omega (arith, tickets_from A taken (k + 1) (without_move store x) t job at)
 
 -- every frame is home after copying as before
 pub copies_home : (taken : List Taken) (store : Store) (q : ℕ) → IsHome store q → IsHome (with_copies store taken) q
@@ -188,7 +188,7 @@ copies_home (t ∷ taken) store q home = copies_home taken (with_copy store t) q
 
 module _ {A : Type 0} where
   -- the last job's bytes come back first
-  pub refilled_last : (jobs : List (CopyJob A)) (job : CopyJob A) (store : Store) → refilled store (jobs ++ job ∷ []) ≡ refilled (with_job store job) jobs
+  pub refilled_last : (jobs : List (CopyJob A)) (job : CopyJob A) (store : Store) → with_jobs_back store (jobs ++ job ∷ []) ≡ with_jobs_back (with_job store job) jobs
   refilled_last [] job store = refl
   refilled_last (j ∷ jobs) job store = ap (λ (s : Store). with_job s j) (refilled_last jobs job store)
 
@@ -200,8 +200,8 @@ module _ {A : Type 0} where
       (rest.0, rest.1, (rest.2, subst (λ (s : Store). IsOut s j.source.0) is can.1, subst (λ (s : Store). IsOut (with_buf s j.source) j.target.0) is can.2))
 
   -- as many frames have a place once bytes are back
-  pub back_as_many : (jobs : List (CopyJob A)) (store : Store) → length (refilled store jobs) ≡ length store
+  pub back_as_many : (jobs : List (CopyJob A)) (store : Store) → length (with_jobs_back store jobs) ≡ length store
   back_as_many [] store = refl
   back_as_many (job ∷ jobs) store =
-      let r = refilled store jobs in
+      let r = with_jobs_back store jobs in
       length-set (with_buf r job.source) job.target.0 (Some job.target.1) ∙ length-set r job.source.0 (Some job.source.1) ∙ back_as_many jobs store

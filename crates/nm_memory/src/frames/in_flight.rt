@@ -6,7 +6,7 @@ ghost use Rattle.nm_types.specs.Layout.{frame_count};
 ghost use Rattle.nm_memory.specs.views.Populated.{IsPopulated};
 ghost use Rattle.nm_model.specs.definitions.Frames.{IsHome, bytes_of, overwrite};
 ghost use Rattle.nm_model.specs.definitions.Memory.{stretch_of};
-ghost use Rattle.nm_memory.specs.views.Copies.{CanCopy, HasBoth, emptied, jobs_of, refilled, CanRefill};
+ghost use Rattle.nm_memory.specs.views.Copies.{CanCopy, HasBoth, without_moves, jobs_of, with_jobs_back, CanRefill};
 ghost use Rattle.nm_memory.specs.views.Frames.{HasAllPlaces, in_memory};
 
 use crate::frames::{FrameParts, Frames, copy_bytes};
@@ -80,12 +80,12 @@ impl<A: Allocator + Copy> FramesInFlight<A> {
     pub fn put_back(self, mut copied: Vec<CopyJob<A>, A>) -> Frames<A>
         requires can { CanRefill self.frames copied.items }
         requires home { (f : ℕ) → f < frame_count self.layout
-            → IsHome (refilled self.frames copied.items) f }
-        requires populated { AllByRecursion (IsPopulated (refilled self.frames copied.items))
+            → IsHome (with_jobs_back self.frames copied.items) f }
+        requires populated { AllByRecursion (IsPopulated (with_jobs_back self.frames copied.items))
             self.vacated }
         ensures frames { result
             ≡ record (self) {
-              frames = refilled self.frames copied.items;
+              frames = with_jobs_back self.frames copied.items;
               room = result.room;
             } }
         ensures room { result.room ≡ min self.room (vec_capacity copied) }
@@ -108,7 +108,7 @@ pub(super) fn take_out_each<A: Allocator + Copy>(
     requires can { CanCopy (in_memory frames.old) moves.now }
     requires populated { AllByRecursion (HasBoth (in_memory frames.old)) moves.now }
     requires room { vec_len jobs.old + length moves.now ≤ vec_capacity jobs.old }
-    ensures frames { in_memory frames.new ≡ emptied (in_memory frames.old) moves.now }
+    ensures frames { in_memory frames.new ≡ without_moves (in_memory frames.old) moves.now }
     ensures jobs { jobs.new.items
         ≡ jobs.old.items ++ jobs_of (vec_len jobs.old) (in_memory frames.old) moves.now }
     ensures room { vec_capacity jobs.new ≡ vec_capacity jobs.old }
@@ -128,7 +128,7 @@ pub(super) fn take_out_each<A: Allocator + Copy>(
 /// Puts the bytes of both frames of each job back home, and empties the list.
 fn put_back_each<A: Allocator + Copy>(frames: &mut FrameStore<A>, jobs: &mut Vec<CopyJob<A>, A>)
     requires { CanRefill (in_memory frames.old) jobs.old.items }
-    ensures frames { in_memory frames.new ≡ refilled (in_memory frames.old) jobs.old.items }
+    ensures frames { in_memory frames.new ≡ with_jobs_back (in_memory frames.old) jobs.old.items }
     ensures empty { jobs.new.items ≡ [] }
     ensures room { vec_capacity jobs.new ≡ vec_capacity jobs.old }
 {

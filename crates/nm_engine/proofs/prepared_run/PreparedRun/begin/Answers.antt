@@ -18,7 +18,7 @@ use Rattle.nm_spaces.specs.definitions.Moves.{all_moved}
 use Rattle.nm_spaces.specs.views.AddressSpaces.{AddressSpacesView}
 use Rattle.nm_spaces.proofs.Held.HeldEntries.{held_is_taken, frames_stay, takes_below}
 use Rattle.nm_memory.specs.definitions.AfterCopy.{CanDo}
-use Rattle.nm_memory.specs.views.Copies.{CanCopy, HasBoth, emptied, jobs_of, refilled, with_copies, without_both}
+use Rattle.nm_memory.specs.views.Copies.{CanCopy, HasBoth, without_moves, jobs_of, with_jobs_back, with_copies, without_move}
 use Rattle.nm_memory.specs.views.Frames.{FramesView}
 use Rattle.nm_memory.proofs.Copies.Copied.{tickets_from}
 use Rattle.nm_memory.proofs.Copies.Populated.{after_populated}
@@ -85,7 +85,7 @@ invariant_of-run g c =
           held_is_taken y moves (sight_in (get nat_cmp (all_moved y moves).processes pid) v) f
           (sym (c.hold.ensures.entries pid v ∙ ap (λ (z : AddressSpacesView). option_map (entry_in_flight z.place (pages_of moves)) (sight_in (get nat_cmp z.processes pid) v)) c.hold.ensures.spaces) ∙ held);
       below = subst (λ n. AllByRecursion (λ t. t.to < n) moves) (sym (ap (λ (z : AddressSpacesView). z.frames) c.hold.ensures.spaces ∙ frames_stay moves y)) (takes_below moves y can);
-      left = ap (λ (v : FramesView). v.vacated) (c.take_out-frames.ensures.frames ∙ ap (λ (v : FramesView). record v { frames = emptied v.frames moves; room = c.take_out-frames.result.0.room }) c.vacate_each.ensures.vacated);
+      left = ap (λ (v : FramesView). v.vacated) (c.take_out-frames.ensures.frames ∙ ap (λ (v : FramesView). record v { frames = without_moves v.frames moves; room = c.take_out-frames.result.0.room }) c.vacate_each.ensures.vacated);
     }
 
 pub returns-clause-spaces : goal.returns-clause-spaces
@@ -136,10 +136,10 @@ returns-clause-out g c =
     record {
       can = can_home {A = g.row.A.Denot} k v w moves jobs left out.frames out.jobs can;
       whole = whole_then {A = g.row.A.Denot} k v w moves jobs left out.frames out.jobs can c.vacate_each.ensures.shelf;
-      kept = subst (λ (z : AddressSpacesView). IsSoundMachine (shown_by z (record w { frames = refilled w.frames (map copied jobs) }) i.online i.totals.moved i.totals.failed) w.vacated z.frames) (sym c.hold.ensures.spaces)
+      kept = subst (λ (z : AddressSpacesView). IsSoundMachine (shown_by z (record w { frames = with_jobs_back w.frames (map copied jobs) }) i.online i.totals.moved i.totals.failed) w.vacated z.frames) (sym c.hold.ensures.spaces)
           (subst (λ (x : FramesView). IsSoundMachine (shown_by (all_moved i.spaces moves) x i.online i.totals.moved i.totals.failed) x.vacated (all_moved i.spaces moves).frames) (sym is)
           (finished_kept i.spaces i.frames i.online i.totals.moved i.totals.failed r.0 moves [] h then refl));
-      populated = subst (λ (l : List ℕ). AllByRecursion (IsPopulated (refilled w.frames (map copied jobs))) l) (sym stays)
+      populated = subst (λ (l : List ℕ). AllByRecursion (IsPopulated (with_jobs_back w.frames (map copied jobs))) l) (sym stays)
           (subst (λ (s : Store). AllByRecursion (IsPopulated s) (frames_left moves)) (sym home)
           (after_populated (frames_left moves) (all_moved i.spaces moves).place [] moves k.frames k.frames (both_whole i.spaces i.frames i.online i.totals.moved i.totals.failed r.0 moves [] h) tt leaves));
     }
@@ -147,7 +147,7 @@ returns-clause-out g c =
 -- the jobs of moves are between the frames that these name
 pairs_are : (A : Type 0) (moves : List Taken) (k : ℕ) (store : Store) → map (pair_of {A = A}) (jobs_of k store moves) ≡ map (λ t. (t.from, t.to)) moves
 pairs_are A [] k store = refl
-pairs_are A (t ∷ moves) k store = ap (λ ps. (t.from, t.to) ∷ ps) (pairs_are A moves (k + 1) (without_both store t))
+pairs_are A (t ∷ moves) k store = ap (λ ps. (t.from, t.to) ∷ ps) (pairs_are A moves (k + 1) (without_move store t))
 
 pub returns-clause-pairs : goal.returns-clause-pairs
 returns-clause-pairs g c =
@@ -169,7 +169,7 @@ returns-clause-due g c d pending =
     let h = prepared i.spaces i.frames i.online i.totals.moved i.totals.failed r.0 moves (d ∷ []) c.args.self c.self.view_is c.self.invariant c.vacate_each.ensures.shelf
     r.1.node r.1.taken r.1.sound r.1.can (pending, tt) c.vacate_each.ensures.populated in
     let can = can_meanwhile i.spaces i.frames i.online i.totals.moved i.totals.failed r.0 moves (d ∷ []) h in
-    let gone = c.take_out-frames.ensures.frames ∙ ap (λ (v : FramesView). record v { frames = emptied v.frames moves; room = c.take_out-frames.result.0.room }) c.vacate_each.ensures.vacated in
+    let gone = c.take_out-frames.ensures.frames ∙ ap (λ (v : FramesView). record v { frames = without_moves v.frames moves; room = c.take_out-frames.result.0.room }) c.vacate_each.ensures.vacated in
     subst (λ (z : AddressSpacesView). CanDo z.place c.take_out-frames.result.0.frames d) (sym c.hold.ensures.spaces)
     (subst (λ (x : FramesView). CanDo (all_moved i.spaces moves).place x.frames d) (sym gone) can.0)
 

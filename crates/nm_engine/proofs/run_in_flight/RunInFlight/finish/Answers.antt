@@ -6,7 +6,7 @@ use Rattle.nm_types.specs.declared.taken.Taken.{Taken}
 use Rattle.nm_frames.specs.declared.job.CopyJob.{CopyJob}
 use Rattle.nm_memory.specs.views.Populated.{IsPopulated}
 use Rattle.nm_model.specs.definitions.Run.{failures, frames_left, total_after, with_all_free, with_counts}
-use Rattle.nm_memory.specs.views.Copies.{refilled, CanRefill}
+use Rattle.nm_memory.specs.views.Copies.{with_jobs_back, CanRefill}
 use Rattle.nm_memory.specs.views.Frames.{FramesView, HasAllFrames}
 use Rattle.nm_spaces.specs.views.AddressSpaces.{AddressSpacesView, table_of}
 use Rattle.nm_engine.specs.views.Flights.{Flight, state_in_flight}
@@ -31,7 +31,7 @@ put_back-frames-requires-clause-can g c =
 
 -- the frames, where these bytes are home
 abbrev with_bytes : {A : Type 0} → FramesView → List (CopyJob A) → FramesView
-with_bytes k jobs = record k { frames = refilled k.frames jobs }
+with_bytes k jobs = record k { frames = with_jobs_back k.frames jobs }
 
 pub put_back-frames-requires-clause-home : goal.put_back-frames-requires-clause-home
 put_back-frames-requires-clause-home g c =
@@ -42,8 +42,8 @@ put_back-frames-requires-clause-home g c =
 pub put_back-frames-requires-clause-populated : goal.put_back-frames-requires-clause-populated
 put_back-frames-requires-clause-populated g c =
     let jobs = c.args.jobs.items in
-    subst (λ (x : Flight). AllByRecursion (IsPopulated (refilled x.frames.frames jobs)) x.frames.vacated) (sym c.self.view_is)
-    (subst (λ (js : List (CopyJob g.row.A.Denot)). AllByRecursion (IsPopulated (refilled c.args.self.frames.frames js)) c.args.self.frames.vacated) c.requires.done c.requires.out.populated)
+    subst (λ (x : Flight). AllByRecursion (IsPopulated (with_jobs_back x.frames.frames jobs)) x.frames.vacated) (sym c.self.view_is)
+    (subst (λ (js : List (CopyJob g.row.A.Denot)). AllByRecursion (IsPopulated (with_jobs_back c.args.self.frames.frames js)) c.args.self.frames.vacated) c.requires.done c.requires.out.populated)
 
 -- the parts of a machine are kept where the pages have arrived, and its frames have their bytes
 arrived_kept : {A : Type 0} (x i : Flight) (jobs given : List (CopyJob A)) (z : AddressSpacesView) (w : FramesView) → i ≡ x → given ≡ jobs → z ≡ i.spaces → w ≡ record (with_bytes i.frames jobs) { room = w.room }

@@ -3,7 +3,7 @@ use Rattle.std.specs.Prelude.{min, vec_capacity, vec_len}
 use Rattle.std.specs.List.{AllByRecursion}
 use Rattle.nm_memory.specs.views.Populated.{IsPopulated}
 use Rattle.nm_model.specs.definitions.Frames.{Store}
-use Rattle.nm_memory.specs.views.Copies.{CanCopy, HasBoth, emptied, jobs_of}
+use Rattle.nm_memory.specs.views.Copies.{CanCopy, HasBoth, without_moves, jobs_of}
 use Rattle.nm_memory.specs.views.Frames.{FramesView, HasAllFrames, in_memory}
 use Rattle.nm_memory.proofs.Copies.Copied.{out_as_many}
 use Rattle.nm_memory.proofs.Boxed.{seen, held}
@@ -41,7 +41,7 @@ returns-clause-frames g c =
     let moves = c.args.moves.now in
     let room = vec_capacity k.vacated in
     let fields : Store → FramesView = λ s. record { layout = k.geometry; frames = s; free = k.nodes.lists; vacated = k.vacated.items; room = room } in
-    ap fields c.take_out_each.ensures.frames ∙ ap (λ (v : FramesView). record v { frames = emptied v.frames moves; room = room }) (seen c.self.inside.jobs c.deref_mut.ensures.value c.self.view_is)
+    ap fields c.take_out_each.ensures.frames ∙ ap (λ (v : FramesView). record v { frames = without_moves v.frames moves; room = room }) (seen c.self.inside.jobs c.deref_mut.ensures.value c.self.view_is)
 
 pub returns-clause-jobs : goal.returns-clause-jobs
 returns-clause-jobs g c =

@@ -1,7 +1,7 @@
 use Rattle.std.proofs.Common.{ap, sym, subst, ◌∙◌}
 use Rattle.std.specs.Prelude.{Some}
 use Rattle.nm_model.specs.definitions.Frames.{Store, IsOut}
-use Rattle.nm_memory.specs.views.Copies.{CanRefill, refilled, with_buf}
+use Rattle.nm_memory.specs.views.Copies.{CanRefill, with_jobs_back, with_buf}
 use Rattle.nm_memory.specs.views.Frames.{in_memory}
 use Rattle.nm_memory.proofs.Copies.Copied.{refilled_last, can_last}
 use Rattle.nm_memory.proofs.InMemory.{out, bytes_set}
@@ -33,6 +33,6 @@ loop-job-preserved g c =
     let now = end ∙ ap (λ (s : Store). with_buf s job.target) mid in
     record {
       can = subst (λ (s : Store). CanRefill s rest) (sym now) (can_last rest job store (subst (CanRefill store) items c.loop-job.invariant.can)).2;
-      frames = ap (λ (s : Store). refilled s rest) now ∙ sym (refilled_last rest job store) ∙ ap (refilled store) (sym items) ∙ c.loop-job.invariant.frames;
+      frames = ap (λ (s : Store). with_jobs_back s rest) now ∙ sym (refilled_last rest job store) ∙ ap (with_jobs_back store) (sym items) ∙ c.loop-job.invariant.frames;
       room = c.pop.ensures.capacity ∙ c.loop-job.invariant.room;
     }

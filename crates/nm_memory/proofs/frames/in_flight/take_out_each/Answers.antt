@@ -8,7 +8,7 @@ use Rattle.nm_frames.specs.declared.job.CopyJob.{CopyJob}
 use Rattle.nm_frames.specs.Stores.{StoreView, HasBuffer}
 use Rattle.nm_model.specs.definitions.Frames.{Store, IsHome, bytes_of}
 use Rattle.nm_types.specs.declared.taken.Taken.{Taken}
-use Rattle.nm_memory.specs.views.Copies.{without_both, CanCopy, HasBoth, emptied, jobs_of}
+use Rattle.nm_memory.specs.views.Copies.{without_move, CanCopy, HasBoth, without_moves, jobs_of}
 use Rattle.nm_memory.proofs.Copies.Copied.{both_without}
 use Rattle.nm_laws.proofs.Lists.{drop_item}
 use Rattle.nm_memory.specs.views.Frames.{in_memory}
@@ -86,7 +86,7 @@ loop-taken-preserved g c =
     let can = subst (CanCopy store) at c.loop-taken.invariant.can in
     let both = subst (AllByRecursion (HasBoth store)) at c.loop-taken.invariant.populated in
     let has = target_has held t both.0 mid c.take_out-source.ensures.out can.2 in
-    let now : in_memory c.take_out-target.new.self ≡ without_both store t =
+    let now : in_memory c.take_out-target.new.self ≡ without_move store t =
     bytes_set mid t.to c.take_out-target.new.self None has c.take_out-target.ensures.out ∙ ap (λ (s : Store). slice_set s t.to None) (source_out held t both.0 mid c.take_out-source.ensures.out) in
     let job : ℕ × List ℕ → ℕ × List ℕ → ℕ → CopyJob g.row.A.Denot = λ s b ticket. record { source = s; target = b; ticket = ticket } in
     let source : ℕ × List ℕ = (t.from, bytes_of store t.from) in
@@ -97,7 +97,7 @@ loop-taken-preserved g c =
     record {
       can = subst (λ (s : Store). CanCopy s rest) (sym now) can.3;
       populated = subst (λ (s : Store). AllByRecursion (HasBoth s) rest) (sym now) (both_without rest store t can.3 both.1);
-      frames = ap (λ (s : Store). emptied s rest) now ∙ ap (emptied store) (sym at) ∙ c.loop-taken.invariant.frames;
+      frames = ap (λ (s : Store). without_moves s rest) now ∙ ap (without_moves store) (sym at) ∙ c.loop-taken.invariant.frames;
       jobs =
           ap (λ xs. xs ++ later) c.push_reserved.ensures.items
           ∙ append_assoc before (job c.take_out-source.result c.take_out-target.result c.len-ticket.result ∷ []) later
@@ -113,7 +113,7 @@ loop-taken-preserved g c =
 
 pub returns-clause-frames : goal.returns-clause-frames
 returns-clause-frames g c =
-    ap (emptied (in_memory c.loop-taken.frames)) (sym (drop_of_length-le c.args.moves.now c.loop-taken-test.false)) ∙ c.loop-taken.invariant.frames
+    ap (without_moves (in_memory c.loop-taken.frames)) (sym (drop_of_length-le c.args.moves.now c.loop-taken-test.false)) ∙ c.loop-taken.invariant.frames
 
 pub returns-clause-jobs : goal.returns-clause-jobs
 returns-clause-jobs g c =

@@ -4,7 +4,7 @@ use Rattle.std.specs.List.{AllByRecursion}
 use Rattle.nm_types.specs.Layout.{frame_count}
 use Rattle.nm_memory.specs.views.Populated.{IsPopulated}
 use Rattle.nm_model.specs.definitions.Frames.{Store, IsHome}
-use Rattle.nm_memory.specs.views.Copies.{CanRefill, refilled}
+use Rattle.nm_memory.specs.views.Copies.{CanRefill, with_jobs_back}
 use Rattle.nm_memory.specs.views.Frames.{FramesView, in_memory}
 use Rattle.nm_memory.proofs.Copies.Copied.{back_as_many}
 use Rattle.nm_memory.proofs.Boxed.{seen_alone, held_alone}
@@ -20,8 +20,8 @@ invariant_of-result g c =
     let k = c.deref_mut.result.now in
     let copied = c.args.copied.items in
     let is = c.put_back_each.ensures.frames in
-    let homes = subst (λ (v : FramesView). (f : _) → f < frame_count v.layout → IsHome (refilled v.frames copied) f) (sym shown) c.requires.home in
-    let whole = subst (λ (v : FramesView). AllByRecursion (IsPopulated (refilled v.frames copied)) v.vacated) (sym shown) c.requires.populated in (
+    let homes = subst (λ (v : FramesView). (f : _) → f < frame_count v.layout → IsHome (with_jobs_back v.frames copied) f) (sym shown) c.requires.home in
+    let whole = subst (λ (v : FramesView). AllByRecursion (IsPopulated (with_jobs_back v.frames copied)) v.vacated) (sym shown) c.requires.populated in (
       own.0,
       record {
         lists = own.1.lists;
@@ -38,7 +38,7 @@ returns-clause-frames g c =
     let copied = c.args.copied.items in
     let room = min (vec_capacity k.vacated) (vec_capacity c.put_back_each.new.jobs) in
     let fields : Store → FramesView = λ s. record { layout = k.geometry; frames = s; free = k.nodes.lists; vacated = k.vacated.items; room = room } in
-    ap fields c.put_back_each.ensures.frames ∙ ap (λ (v : FramesView). record v { frames = refilled v.frames copied; room = room }) (seen_alone c.deref_mut.ensures.value c.self.view_is)
+    ap fields c.put_back_each.ensures.frames ∙ ap (λ (v : FramesView). record v { frames = with_jobs_back v.frames copied; room = room }) (seen_alone c.deref_mut.ensures.value c.self.view_is)
 
 pub returns-clause-room : goal.returns-clause-room
 returns-clause-room g c =
