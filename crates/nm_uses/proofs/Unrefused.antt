@@ -10,7 +10,7 @@ use Rattle.nm_calls.specs.definitions.Answers.{Answer, Refusal, Done, Held, NewS
 use Rattle.nm_calls.specs.definitions.Does.{Does}
 use Rattle.nm_calls.specs.definitions.Outcome.{Outcome, outcome, refusal_of, end_of_call, runs_asked, accesses_asked, start}
 use Rattle.nm_calls.specs.definitions.Systems.{SystemState, new_system}
-use Rattle.nm_uses.specs.Moving.{asking, mapped, mapping, moved, moving, reading, spawned, spawning, two_nodes, written, writing, IsMemory}
+use Rattle.nm_uses.specs.Moving.{asking, after_map, mapping, after_move, request_to_move, reading, after_spawn, spawning, nodes_to_use, after_write, writing, IsMemory}
 
 abbrev is_refusal : Answer → Bool
 is_refusal Done = false
@@ -21,7 +21,7 @@ is_refusal (Statuses failed statuses answers) = false
 is_refusal (Failed k) = false
 is_refusal (Frames frames) = false
 is_refusal (Entries entries) = false
-is_refusal (TheTotals moved failed) = false
+is_refusal (TheTotals after_move failed) = false
 is_refusal (Lines lines) = false
 is_refusal (Refusal e) = true
 
@@ -34,37 +34,37 @@ memory_only view (Err (Refused e)) old new call fine h =
 memory_only view (Err (HostMemory runs set)) old new call fine h = tt
 
 module _ {T : Type 0} (view : T → Answer) (r : Result T CallError) (old new : SystemState) (call : Call) (does : Does view r old new call) where
-  pub spawn_memory : old ≡ new_system two_nodes → call ≡ spawning → IfErr r IsMemory
+  pub spawn_memory : old ≡ new_system nodes_to_use → call ≡ spawning → IfErr r IsMemory
   unfolding refusal_of end_of_call runs_asked accesses_asked start
-  spawn_memory from is = memory_only view r old new call (ap (λ (y : SystemState). is_refusal (outcome y call).answer) from ∙ ap (λ (k : Call). is_refusal (outcome (new_system two_nodes) k).answer) is) does
+  spawn_memory from is = memory_only view r old new call (ap (λ (y : SystemState). is_refusal (outcome y call).answer) from ∙ ap (λ (k : Call). is_refusal (outcome (new_system nodes_to_use) k).answer) is) does
 
-  pub map_memory : old ≡ spawned → call ≡ mapping → IfErr r IsMemory
+  pub map_memory : old ≡ after_spawn → call ≡ mapping → IfErr r IsMemory
   unfolding refusal_of end_of_call runs_asked accesses_asked start
-  map_memory from is = memory_only view r old new call (ap (λ (y : SystemState). is_refusal (outcome y call).answer) from ∙ ap (λ (k : Call). is_refusal (outcome spawned k).answer) is) does
+  map_memory from is = memory_only view r old new call (ap (λ (y : SystemState). is_refusal (outcome y call).answer) from ∙ ap (λ (k : Call). is_refusal (outcome after_spawn k).answer) is) does
 
-  pub write_memory : old ≡ mapped → call ≡ writing → IfErr r IsMemory
+  pub write_memory : old ≡ after_map → call ≡ writing → IfErr r IsMemory
   unfolding refusal_of end_of_call runs_asked accesses_asked start
-  write_memory from is = memory_only view r old new call (ap (λ (y : SystemState). is_refusal (outcome y call).answer) from ∙ ap (λ (k : Call). is_refusal (outcome mapped k).answer) is) does
+  write_memory from is = memory_only view r old new call (ap (λ (y : SystemState). is_refusal (outcome y call).answer) from ∙ ap (λ (k : Call). is_refusal (outcome after_map k).answer) is) does
 
-  pub move_memory : old ≡ written → call ≡ moving → IfErr r IsMemory
+  pub move_memory : old ≡ after_write → call ≡ request_to_move → IfErr r IsMemory
   unfolding refusal_of end_of_call runs_asked accesses_asked start
-  move_memory from is = memory_only view r old new call (ap (λ (y : SystemState). is_refusal (outcome y call).answer) from ∙ ap (λ (k : Call). is_refusal (outcome written k).answer) is) does
+  move_memory from is = memory_only view r old new call (ap (λ (y : SystemState). is_refusal (outcome y call).answer) from ∙ ap (λ (k : Call). is_refusal (outcome after_write k).answer) is) does
 
-  pub query_memory : old ≡ moved → call ≡ asking → IfErr r IsMemory
+  pub query_memory : old ≡ after_move → call ≡ asking → IfErr r IsMemory
   unfolding refusal_of end_of_call runs_asked accesses_asked start
-  query_memory from is = memory_only view r old new call (ap (λ (y : SystemState). is_refusal (outcome y call).answer) from ∙ ap (λ (k : Call). is_refusal (outcome moved k).answer) is) does
+  query_memory from is = memory_only view r old new call (ap (λ (y : SystemState). is_refusal (outcome y call).answer) from ∙ ap (λ (k : Call). is_refusal (outcome after_move k).answer) is) does
 
-  pub read_memory : old ≡ moved → call ≡ reading → IfErr r IsMemory
+  pub read_memory : old ≡ after_move → call ≡ reading → IfErr r IsMemory
   unfolding refusal_of end_of_call runs_asked accesses_asked start
-  read_memory from is = memory_only view r old new call (ap (λ (y : SystemState). is_refusal (outcome y call).answer) from ∙ ap (λ (k : Call). is_refusal (outcome moved k).answer) is) does
+  read_memory from is = memory_only view r old new call (ap (λ (y : SystemState). is_refusal (outcome y call).answer) from ∙ ap (λ (k : Call). is_refusal (outcome after_move k).answer) is) does
 
 -- the page is on node 1, and reads as before
-pub on_its_node : {E : Type 0} (r : Result (Unit {0}) E) (new : SystemState) → OnOk r (new ≡ moved) → OnOk r (node_status new.state 1 16 ≡ pos 1)
+pub on_its_node : {E : Type 0} (r : Result (Unit {0}) E) (new : SystemState) → OnOk r (new ≡ after_move) → OnOk r (node_status new.state 1 16 ≡ pos 1)
 unfolding refusal_of end_of_call runs_asked accesses_asked start
 on_its_node (Ok done) new is = ap (λ (y : SystemState). node_status y.state 1 16) is
 on_its_node (Err e) new is = tt
 
-pub with_its_byte : {E : Type 0} (r : Result (Unit {0}) E) (new : SystemState) → OnOk r (new ≡ moved) → OnOk r (mem new.state 1 65536 ≡ Some 97)
+pub with_its_byte : {E : Type 0} (r : Result (Unit {0}) E) (new : SystemState) → OnOk r (new ≡ after_move) → OnOk r (mem new.state 1 65536 ≡ Some 97)
 unfolding refusal_of end_of_call runs_asked accesses_asked start
 with_its_byte (Ok done) new is = ap (λ (y : SystemState). mem y.state 1 65536) is
 with_its_byte (Err e) new is = tt
@@ -78,20 +78,20 @@ abbrev bytes_in : Answer → List ℕ
 bytes_in (TheBytes bytes) = bytes
 bytes_in answer = []
 
-module _ (old new : SystemState) (call : Call) (from : old ≡ moved) where
+module _ (old new : SystemState) (call : Call) (from : old ≡ after_move) where
   pub status_found : (xs : List ℤ) → call ≡ asking → outcome old call ≡ record { answer = Statuses 0 xs []; system = new } → xs ≡ pos 1 ∷ []
   unfolding refusal_of end_of_call runs_asked accesses_asked start
   status_found xs is h =
       sym (ap (λ (o : Outcome). statuses_in o.answer) h)
       ∙ ap (λ (y : SystemState). statuses_in (outcome y call).answer) from
-      ∙ ap (λ (k : Call). statuses_in (outcome moved k).answer) is
+      ∙ ap (λ (k : Call). statuses_in (outcome after_move k).answer) is
 
   pub byte_found : (xs : List ℕ) → call ≡ reading → outcome old call ≡ record { answer = TheBytes xs; system = new } → xs ≡ 97 ∷ []
   unfolding refusal_of end_of_call runs_asked accesses_asked start
   byte_found xs is h =
       sym (ap (λ (o : Outcome). bytes_in o.answer) h)
       ∙ ap (λ (y : SystemState). bytes_in (outcome y call).answer) from
-      ∙ ap (λ (k : Call). bytes_in (outcome moved k).answer) is
+      ∙ ap (λ (k : Call). bytes_in (outcome after_move k).answer) is
 
 -- an error that is handed on
 pub handed_on : {T U : Type 0} (r : Result T CallError) (s : Result U CallError) (e : CallError) → r ≡ Err e → s ≡ Err e → IfErr r IsMemory → IfErr s IsMemory

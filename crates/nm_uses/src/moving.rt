@@ -4,7 +4,7 @@ ghost use Rattle.std.specs.Prelude.{◌≡◌, [], ◌∷◌, IfErr, IfOk, OnOk,
 ghost use Rattle.nm_model.specs.definitions.Memory.{mem};
 ghost use Rattle.nm_model.specs.definitions.Status.{node_status};
 ghost use Rattle.nm_calls.specs.definitions.Systems.{new_system};
-ghost use Rattle.nm_uses.specs.Moving.{mapped, moved, spawned, two_nodes, written, IsMemory};
+ghost use Rattle.nm_uses.specs.Moving.{after_map, after_move, after_spawn, nodes_to_use, after_write, IsMemory};
 
 use nm_calls::{CallError, Question, System};
 use nm_crew::Alone;
@@ -26,7 +26,7 @@ const TARGET: u32 = 1;
 
 /// Two nodes of four frames each, at distance 10 to themselves and 20 to each other.
 fn two_nodes(heap: Global) -> Result<Geometry<Global>, AllocError>
-    ensures { IfOk result (λ geometry. geometry ≡ two_nodes) }
+    ensures { IfOk result (λ geometry. geometry ≡ nodes_to_use) }
 {
     let sizes = vec![in heap; 4u32, 4]?;
     let distances = vec![in heap; vec![in heap; 10u8, 20]?, vec![in heap; 20u8, 10]?]?;
@@ -38,15 +38,15 @@ fn two_nodes(heap: Global) -> Result<Geometry<Global>, AllocError>
 
 /// A new machine of these nodes.
 fn machine(heap: Global) -> Result<System<Global>, AllocError>
-    ensures { IfOk result (λ system. system ≡ new_system two_nodes) }
+    ensures { IfOk result (λ system. system ≡ new_system nodes_to_use) }
 {
     System::new(heap, two_nodes(heap)?)
 }
 
 /// The process begins, at home on node 0.
 fn spawn(system: &mut System<Global>) -> Result<(), CallError>
-    requires { system.old ≡ new_system two_nodes }
-    ensures done { OnOk result (system.new ≡ spawned) }
+    requires { system.old ≡ new_system nodes_to_use }
+    ensures done { OnOk result (system.new ≡ after_spawn) }
     ensures memory { IfErr result IsMemory }
 {
     let mut allowed = NodeMask::new();
@@ -63,8 +63,8 @@ fn spawn(system: &mut System<Global>) -> Result<(), CallError>
 
 /// It maps a page.
 fn map(system: &mut System<Global>) -> Result<(), CallError>
-    requires { system.old ≡ spawned }
-    ensures done { OnOk result (system.new ≡ mapped) }
+    requires { system.old ≡ after_spawn }
+    ensures done { OnOk result (system.new ≡ after_map) }
     ensures memory { IfErr result IsMemory }
 {
     system.map(&NewArea {
@@ -78,8 +78,8 @@ fn map(system: &mut System<Global>) -> Result<(), CallError>
 
 /// It writes a byte, for which its page takes a frame of node 0.
 fn write(system: &mut System<Global>) -> Result<(), CallError>
-    requires { system.old ≡ mapped }
-    ensures done { OnOk result (system.new ≡ written) }
+    requires { system.old ≡ after_map }
+    ensures done { OnOk result (system.new ≡ after_write) }
     ensures memory { IfErr result IsMemory }
 {
     let byte = [b'a'];
@@ -88,8 +88,8 @@ fn write(system: &mut System<Global>) -> Result<(), CallError>
 
 /// It moves the page to node 1, as move_pages(2) does.
 fn move_there(heap: Global, system: &mut System<Global>) -> Result<(), CallError>
-    requires { system.old ≡ written }
-    ensures done { OnOk result (system.new ≡ moved) }
+    requires { system.old ≡ after_write }
+    ensures done { OnOk result (system.new ≡ after_move) }
     ensures memory { IfErr result IsMemory }
 {
     // (the kit's borrow checker looks for what a crew works on among the types of this function)
@@ -111,8 +111,8 @@ fn move_there(heap: Global, system: &mut System<Global>) -> Result<(), CallError
 /// On a new machine, a process writes a byte to a page, and moves the page to node 1: there it is then, and reads as
 /// before. Nothing but a lack of memory of the host can come between.
 fn move_page(heap: Global, system: &mut System<Global>) -> Result<(), CallError>
-    requires { system.old ≡ new_system two_nodes }
-    ensures done { OnOk result (system.new ≡ moved) }
+    requires { system.old ≡ new_system nodes_to_use }
+    ensures done { OnOk result (system.new ≡ after_move) }
     ensures node { OnOk result (node_status system.new.state 1 16 ≡ pos 1) }
     ensures byte { OnOk result (mem system.new.state 1 65536 ≡ Some 97) }
     ensures memory { IfErr result IsMemory }
@@ -125,7 +125,7 @@ fn move_page(heap: Global, system: &mut System<Global>) -> Result<(), CallError>
 
 /// The node of the page, as move_pages(2) without nodes tells it, and the byte there.
 fn look(heap: Global, system: &mut System<Global>) -> Result<(Vec<i32>, Vec<u8>), CallError>
-    requires { system.old ≡ moved }
+    requires { system.old ≡ after_move }
     ensures found { IfOk result (λ seen. (seen.0.items ≡ pos 1 ∷ []) × (seen.1.items ≡ 97 ∷ [])) }
     ensures memory { IfErr result IsMemory }
 {
