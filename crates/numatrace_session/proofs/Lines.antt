@@ -7,7 +7,7 @@ use Rattle.std.specs.Io.KnownBytes.{Appends, Keeps}
 use Rattle.std.specs.Prelude.{OnOk}
 use Rattle.nm_trace.specs.Session.{SessionState, next_call, session_of}
 use Rattle.nm_streams.proofs.Known.{appends_kept, appends_more, appends_none}
-use Rattle.numatrace_session.specs.Replies.{HasByte, after, after_lines, but_last, reply_of, replies_to, AreLines, ReadsLines, RepliesToLines, Talks}
+use Rattle.numatrace_session.specs.Replies.{HasByte, session_after, after_lines, but_last, reply_of, replies_to, AreLines, ReadsLines, RepliesToLines, Talks}
 
 -- ---- reading
 
@@ -32,16 +32,16 @@ reads_top (Some xs) b (Some zs) top lines is drops h = (is, subst (λ (o : Optio
 
 -- ---- replying
 
-after_more : (s : SessionState) (lines : List (List ℕ)) (line : List ℕ) → after_lines s (lines ++ line ∷ []) ≡ after (after_lines s lines) (next_call (after_lines s lines) line)
+after_more : (s : SessionState) (lines : List (List ℕ)) (line : List ℕ) → after_lines s (lines ++ line ∷ []) ≡ session_after (after_lines s lines) (next_call (after_lines s lines) line)
 after_more s [] line = refl
-after_more s (l ∷ ls) line = after_more (after s (next_call s l)) ls line
+after_more s (l ∷ ls) line = after_more (session_after s (next_call s l)) ls line
 
 pub replies_more : (s : SessionState) (lines : List (List ℕ)) (line : List ℕ) → replies_to s (lines ++ line ∷ []) ≡ replies_to s lines ++ reply_of (after_lines s lines) (next_call (after_lines s lines) line)
 replies_more s [] line = append-nil (reply_of s (next_call s line))
 replies_more s (l ∷ ls) line =
     let first = reply_of s (next_call s l) in
-    ap (λ (text : List ℕ). first ++ text) (replies_more (after s (next_call s l)) ls line)
-    ∙ sym (append_assoc first (replies_to (after s (next_call s l)) ls) (reply_of (after_lines (after s (next_call s l)) ls) (next_call (after_lines (after s (next_call s l)) ls) line)))
+    ap (λ (text : List ℕ). first ++ text) (replies_more (session_after s (next_call s l)) ls line)
+    ∙ sym (append_assoc first (replies_to (session_after s (next_call s l)) ls) (reply_of (after_lines (session_after s (next_call s l)) ls) (next_call (after_lines (session_after s (next_call s l)) ls) line)))
 
 -- the replies to some first lines are no longer than those to all
 replies_front : (s : SessionState) (n : ℕ) (lines : List (List ℕ)) → length (replies_to s (take n lines)) ≤ length (replies_to s lines)
@@ -49,7 +49,7 @@ replies_front s zero lines = omega arith
 replies_front s (suc n) [] = omega arith
 replies_front s (suc n) (l ∷ ls) =
     let first = reply_of s (next_call s l) in
-    let then = after s (next_call s l) in
+    let then = session_after s (next_call s l) in
     omega (arith, replies_front then n ls, length-append first (replies_to then (take n ls)), length-append first (replies_to then ls))
 
 pub replies_but_last : (s : SessionState) (lines : List (List ℕ)) → length (replies_to s (but_last lines)) ≤ length (replies_to s lines)
@@ -74,7 +74,7 @@ all_more (l ∷ ls) line h some = (h.0, all_more ls line h.1 some)
 -- one more line is read and replied to
 pub one_more : (s t u : SessionState) (a b c old new newer newest : Option (List ℕ)) (line : List ℕ) → RepliesToLines s t a b old new
     → IfSome b (λ xs. line ≡ take_through 10 xs) → DropsThrough b c 10
-    → Appends new newer (reply_of t (next_call t line)) → u ≡ after t (next_call t line) → Keeps newer newest → HasByte line
+    → Appends new newer (reply_of t (next_call t line)) → u ≡ session_after t (next_call t line) → Keeps newer newest → HasByte line
     → RepliesToLines s u a c old newest
 one_more s t u a b c old new newer newest line h is drops written made kept some =
     let lines = h.0 in
@@ -83,7 +83,7 @@ one_more s t u a b c old new newer newest line h is drops written made kept some
     let so_far = appends_more old new newer (replies_to s lines) (reply_of t (next_call t line)) h.3 written in (
       lines ++ line ∷ [],
       reads_more a b c lines line h.1 is drops,
-      made ∙ ap (λ (v : SessionState). after v (next_call v line)) before ∙ sym (after_more s lines line),
+      made ∙ ap (λ (v : SessionState). session_after v (next_call v line)) before ∙ sym (after_more s lines line),
       appends_kept old newer newest (replies_to s (lines ++ line ∷ []))
           (subst (Appends old newer) (ap (λ (x : List ℕ). replies_to s lines ++ x) text ∙ sym (replies_more s lines line)) so_far) kept,
       all_more lines line h.4 some,

@@ -11,7 +11,7 @@ use Rattle.nm_streams.proofs.Waits.{breaks_before, breaks_behind}
 use Rattle.nm_trace.specs.Session.{SessionState, Steps, next_call, next, next_lines}
 use Rattle.numatrace_session.specs.declared.End.{End}
 use Rattle.numatrace_session.specs.declared.End.TheVariants.{BadTop, HostMemory, Stream}
-use Rattle.numatrace_session.specs.Replies.{after, bad_step_reply, not_json_reply, reply_of, Replies, TellsFault, Writes}
+use Rattle.numatrace_session.specs.Replies.{session_after, bad_step_reply, not_json_reply, reply_of, Replies, TellsFault, Writes}
 
 -- two texts, one after another
 pub written_both : (old mid new : Option (List ℕ)) (failed told fails : Bool) (first second : List ℕ) (result : Result (Unit {0}) End)
@@ -50,7 +50,7 @@ number_broken old new failed fails front digits number more e r is h w =
 
 -- the reply was written
 pub replied : (s t : SessionState) (line text : List ℕ) (old new : Option (List ℕ)) (failed fails : Bool) (result : Result (Unit {0}) End)
-    → text ≡ reply_of s (next_call s line) → t ≡ after s (next_call s line) → Writes old new failed fails text result
+    → text ≡ reply_of s (next_call s line) → t ≡ session_after s (next_call s line) → Writes old new failed fails text result
     → Replies s t line old new failed fails result
 replied s t line text old new failed fails (Ok done) is then w = (subst (λ (x : List ℕ). Writes old new failed fails x (Ok done)) is w, then)
 replied s t line text old new failed fails (Err (BadTop fault)) is then w = absurd w
@@ -62,11 +62,11 @@ pub lines_are : (s : SessionState) (line lines : List ℕ) (call : Call) → nex
     → lines ++ 10 ∷ [] ≡ reply_of s (next_call s line)
 lines_are s line lines call is e = subst (λ (a : Result Call TraceError). lines ++ 10 ∷ [] ≡ reply_of s a) (sym is) (ap (λ (xs : List ℕ). xs ++ 10 ∷ []) e)
 
-pub made_is : (s t : SessionState) (line : List ℕ) (call : Call) → next_call s line ≡ Ok call → t ≡ next s call → t ≡ after s (next_call s line)
-made_is s t line call is e = subst (λ (a : Result Call TraceError). t ≡ after s a) (sym is) e
+pub made_is : (s t : SessionState) (line : List ℕ) (call : Call) → next_call s line ≡ Ok call → t ≡ next s call → t ≡ session_after s (next_call s line)
+made_is s t line call is e = subst (λ (a : Result Call TraceError). t ≡ session_after s a) (sym is) e
 
-pub kept_is : (s t : SessionState) (line : List ℕ) (fault : TraceError) → next_call s line ≡ Err fault → t ≡ s → t ≡ after s (next_call s line)
-kept_is s t line fault is e = subst (λ (a : Result Call TraceError). t ≡ after s a) (sym is) e
+pub kept_is : (s t : SessionState) (line : List ℕ) (fault : TraceError) → next_call s line ≡ Err fault → t ≡ s → t ≡ session_after s (next_call s line)
+kept_is s t line fault is e = subst (λ (a : Result Call TraceError). t ≡ session_after s a) (sym is) e
 
 -- a text that is written is not told as lack of memory
 pub no_memory : (old new : Option (List ℕ)) (failed fails : Bool) (text : List ℕ) (result : Result (Unit {0}) End) → Writes old new failed fails text result → result ≡ Err HostMemory → ⊥

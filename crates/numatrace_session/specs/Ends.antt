@@ -17,9 +17,9 @@ unread kind true = Stream
 unread kind false = HostMemory
 
 -- where the first line begins no session, for this fault
-abbrev pub unopened : TraceError → End
-unopened (trace.HostMemory k) = HostMemory
-unopened fault = BadTop fault
+abbrev pub end_unopened : TraceError → End
+end_unopened (trace.HostMemory k) = HostMemory
+end_unopened fault = BadTop fault
 
 -- a first line begins a session, or none for a fault; or the host is out of memory, which only a text with a byte needs
 abbrev pub Begins : Result SessionState End → List ℕ → Type 0

@@ -32,9 +32,9 @@ reply_of s (Ok call) = next_lines s call ++ 10 ∷ []
 reply_of s (Err fault) = fault_reply fault
 
 -- the session after a line: its call is made, and a line that is no step leaves it as it was
-abbrev pub after : SessionState → Result Call TraceError → SessionState
-after s (Ok call) = next s call
-after s (Err fault) = s
+abbrev pub session_after : SessionState → Result Call TraceError → SessionState
+session_after s (Ok call) = next s call
+session_after s (Err fault) = s
 
 -- a text is written; or the stream fails, and it breaks off
 abbrev pub Writes : Option (List ℕ) → Option (List ℕ) → Bool → Bool → List ℕ → Result (Unit {0}) End → Type 0
@@ -55,19 +55,19 @@ abbrev pub Replies : SessionState → SessionState → List ℕ → Option (List
     → Result (Unit {0}) End → Type 0
 Replies s t line old new failed fails (Err HostMemory) = StopsShort s line t × Appends old new [] × (fails ≡ failed)
 Replies s t line old new failed fails result =
-    Writes old new failed fails (reply_of s (next_call s line)) result × (t ≡ after s (next_call s line))
+    Writes old new failed fails (reply_of s (next_call s line)) result × (t ≡ session_after s (next_call s line))
 
 -- ---- lines, one after another
 
 -- the session after lines
 abbrev pub after_lines : SessionState → List (List ℕ) → SessionState
 after_lines s [] = s
-after_lines s (line ∷ lines) = after_lines (after s (next_call s line)) lines
+after_lines s (line ∷ lines) = after_lines (session_after s (next_call s line)) lines
 
 -- the replies to them
 abbrev pub replies_to : SessionState → List (List ℕ) → List ℕ
 replies_to s [] = []
-replies_to s (line ∷ lines) = reply_of s (next_call s line) ++ replies_to (after s (next_call s line)) lines
+replies_to s (line ∷ lines) = reply_of s (next_call s line) ++ replies_to (session_after s (next_call s line)) lines
 
 -- bytes are these lines, each up to and with its line feed, and then a rest
 abbrev pub AreLines : List ℕ → List (List ℕ) → List ℕ → Type 0

@@ -14,7 +14,7 @@ ghost use Rattle.std.specs.Io.KnownBytes.{Consumes, IsAtEnd, Keeps};
 ghost use Rattle.std.specs.Io.Buffered.{reader_buffer, writer_buffer, writer_inner};
 ghost use Rattle.nm_steps.specs.Memory.{IsSomeText};
 ghost use Rattle.nm_steps.specs.declared.trace_error.TraceError.{TraceError};
-ghost use Rattle.numatrace_session.specs.Ends.{status_of, unopened, unread, Begins, IsTold};
+ghost use Rattle.numatrace_session.specs.Ends.{status_of, end_unopened, unread, Begins, IsTold};
 ghost use Rattle.numatrace_session.specs.Input.{has_read_failed, left_in};
 ghost use Rattle.numatrace_session.specs.Replies.{bad_step_reply, has_line, EndsEarly, EndsFlushed, EndsTalk, ReachesEnd, Replies, RepliesToLines, Talks, TellsFault, Writes};
 
@@ -207,7 +207,7 @@ fn reply_to_lines<T: Wait, R: Read, W: FlushingWriter>(
 
 /// Why a session ends whose first line begins none, for this fault.
 fn unopened(fault: TraceError) -> End
-    ensures { result ≡ unopened fault }
+    ensures { result ≡ end_unopened fault }
 {
     match fault {
         TraceError::HostMemory(_) => End::HostMemory,

@@ -3,7 +3,7 @@ use Rattle.std.proofs.lemmas.Bool.{ltb-true}
 use Rattle.numatrace_session.specs.Input.{has_read_failed, left_in}
 use Rattle.std.specs.Io.KnownBytes.{Appends}
 use Rattle.nm_trace.specs.Session.{next_call}
-use Rattle.numatrace_session.specs.Replies.{after, reply_of, EndsEarly, Replies}
+use Rattle.numatrace_session.specs.Replies.{session_after, reply_of, EndsEarly, Replies}
 use Rattle.numatrace_session.proofs.Early.{if_err, unflushed, unread, unreplied}
 use Rattle.numatrace_session.proofs.Lines.{no_lines, one_more}
 use Rattle.numatrace_session.proofs.reply_to_lines.Goals as goal
@@ -19,7 +19,7 @@ loop-preserved g c =
     let is = c.as_slice.ensures.value in
     let s = c.loop.session in
     let written = subst (λ (x : List ℕ). Appends (g.W.Write.contents c.loop.out) (g.W.Write.contents c.reply.new.out) (reply_of s (next_call s x))) is c.in_ok-reply.ensures.replies.0.0 in
-    let made = c.in_ok-reply.ensures.replies.1 ∙ ap (λ (x : List ℕ). after s (next_call s x)) is in
+    let made = c.in_ok-reply.ensures.replies.1 ∙ ap (λ (x : List ℕ). session_after s (next_call s x)) is in
     record {
       replied = one_more c.args.session.now s c.reply.new.session _ (left_in g.R.Read.remaining c.loop.input) (left_in g.R.Read.remaining c.next_line.new.input) _ _ _ (g.W.Write.contents c.flush_unless_asked.new.out)
           c.next_line.new.line.items c.loop.invariant.replied c.in_ok-next_line.ensures.line c.in_ok-next_line.ensures.rest written made c.in_ok-flush_unless_asked.ensures.kept (ltb-true 0 _ (sym c.in_ok-next_line.ensures.more ∙ c.if-not-branch.false));
@@ -52,7 +52,7 @@ returns-in_err-flush_unless_asked-clause-early g c =
     let line = c.as_slice.ensures.value in
     let s = c.loop.session in
     let written = subst (λ (x : List ℕ). Appends (g.W.Write.contents c.loop.out) (g.W.Write.contents c.reply.new.out) (reply_of s (next_call s x))) line c.in_ok-reply.ensures.replies.0.0 in
-    let made = c.in_ok-reply.ensures.replies.1 ∙ ap (λ (x : List ℕ). after s (next_call s x)) line in
+    let made = c.in_ok-reply.ensures.replies.1 ∙ ap (λ (x : List ℕ). session_after s (next_call s x)) line in
     if_err (λ e. EndsEarly e c.args.session.now (left_in g.R.Read.remaining c.args.input.now) (left_in g.R.Read.remaining c.next_line.new.input) (g.W.Write.contents c.args.out.now) (g.W.Write.contents c.flush_unless_asked.new.out) (has_read_failed c.next_line.new.input) (g.W.TellingWriter.has_failed c.args.out.now) (g.W.TellingWriter.has_failed c.flush_unless_asked.new.out))
     c.in_err-flush_unless_asked.field-0.0 c.from_residual-in_err-flush_unless_asked.result is
     (unflushed c.args.session.now c.reply.new.session _ (left_in g.R.Read.remaining c.next_line.new.input) _ (g.W.Write.contents c.flush_unless_asked.new.out) (has_read_failed c.next_line.new.input) _ _ c.in_err-flush_unless_asked.field-0.0
