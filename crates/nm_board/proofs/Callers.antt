@@ -4,13 +4,13 @@ use Rattle.std.specs.Prelude.{slice_get}
 use Rattle.std.specs.Option.{option_map}
 use Rattle.std.proofs.lemmas.Option.{slice_get-map}
 use Rattle.nm_frames.specs.declared.job.CopyJob.{CopyJob}
-use Rattle.nm_frames.specs.Job.{copied}
+use Rattle.nm_frames.specs.Job.{job_after_copy}
 use Rattle.nm_board.specs.Tickets.{InTicketOrder}
 
 module _ {A : Type 0} where
   -- what was drawn and copied may be given back
-  pub can_give : (jobs : List (CopyJob A)) (job now : CopyJob A) → slice_get jobs job.ticket ≡ Some job → now ≡ copied job → slice_get (map copied jobs) now.ticket ≡ Some now
-  can_give jobs job now laid is = subst (λ (n : CopyJob A). slice_get (map copied jobs) n.ticket ≡ Some n) (sym is) (slice_get-map copied jobs job.ticket ∙ ap (option_map copied) laid)
+  pub can_give : (jobs : List (CopyJob A)) (job now : CopyJob A) → slice_get jobs job.ticket ≡ Some job → now ≡ job_after_copy job → slice_get (map job_after_copy jobs) now.ticket ≡ Some now
+  can_give jobs job now laid is = subst (λ (n : CopyJob A). slice_get (map job_after_copy jobs) n.ticket ≡ Some n) (sym is) (slice_get-map job_after_copy jobs job.ticket ∙ ap (option_map job_after_copy) laid)
 
   from_push : (n : ℕ) (xs : List (CopyJob A)) (job : CopyJob A) → ((t : ℕ) (k : CopyJob A) → slice_get xs t ≡ Some k → k.ticket ≡ n + t) → job.ticket ≡ n + length xs
       → (t : ℕ) (k : CopyJob A) → slice_get (xs ++ job ∷ []) t ≡ Some k → k.ticket ≡ n + t

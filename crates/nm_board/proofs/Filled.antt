@@ -4,7 +4,7 @@ use Rattle.std.proofs.lemmas.List.{reverse-append, append-nil, map-append, get_o
 use native.Mathlib.Decide.{ℕ_discrete}
 use mathlib.Core.Option.{some, some-injective, some-ne-none}
 use lib.ListN.{get_elem?}
-use Rattle.nm_frames.specs.Job.{copied}
+use Rattle.nm_frames.specs.Job.{job_after_copy}
 use Rattle.nm_frames.specs.declared.job.CopyJob.{CopyJob}
 
 pub filled_rest : (fs gs : List Bool) (i len k : ℕ) → gs ≡ set fs i false → ((k : ℕ) → i ≤ k → k < len → get_or fs k false ≡ true) → i + 1 ≤ k → k < len → get_or gs k false ≡ true
@@ -61,11 +61,11 @@ module _ {A : Type 0} where
   some_there js l i e at = never js i (sym (ap (λ (z : List (Option (CopyJob A))). get_elem? z i) e) ∙ at)
 
   -- what each slot has
-  pub each_is : (js : List (CopyJob A)) (l : List (Option (CopyJob A))) → length l ≡ length js → ((t : ℕ) (j : CopyJob A) → get_elem? js t ≡ some j → get_elem? l t ≡ some (Some (copied j))) → l ≡ map Some (map copied js)
+  pub each_is : (js : List (CopyJob A)) (l : List (Option (CopyJob A))) → length l ≡ length js → ((t : ℕ) (j : CopyJob A) → get_elem? js t ≡ some j → get_elem? l t ≡ some (Some (job_after_copy j))) → l ≡ map Some (map job_after_copy js)
   each_is [] [] e h = refl
   each_is [] (x ∷ xs) e h = absurd (omega arith)
   each_is (j ∷ js) [] e h = absurd (omega arith)
   each_is (j ∷ js) (x ∷ xs) e h =
-      let a : x ≡ Some (copied j) = some-injective x (Some (copied j)) (h zero j refl) in
+      let a : x ≡ Some (job_after_copy j) = some-injective x (Some (job_after_copy j)) (h zero j refl) in
       let b = each_is js xs (omega arith) (λ t i at. h (suc t) i at) in
       cc

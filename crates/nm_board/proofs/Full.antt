@@ -7,7 +7,7 @@ use native.Mathlib.Decide.{ℕ_discrete}
 use Rattle.std.proofs.Math.Decide.{dec_lt}
 use Rattle.atomic_table.specs.Table.{Final, Seen}
 use Rattle.nm_frames.specs.declared.job.CopyJob.{CopyJob}
-use Rattle.nm_frames.specs.Job.{copied}
+use Rattle.nm_frames.specs.Job.{job_after_copy}
 use Rattle.nm_board.specs.declared.view.View.{View}
 use Rattle.nm_board.specs.Tickets.{hit, ticket_times}
 use Rattle.nm_board.specs.Rule.{sum_over_hands, RuleHolds, IsBoardRule}
@@ -69,9 +69,9 @@ module _ {A : Type 0} where
 
   -- at the end each slot has its job's copy
   pub closed : (jobs : List (CopyJob A)) (id : ℕ) (v : View A) (ws : List ℕ) (xs : List (Option (CopyJob A))) → v.full ≡ true → Final (Seen (IsBoardRule jobs) id v) ws xs
-      → (t : ℕ) (j : CopyJob A) → get_elem? jobs t ≡ some j → get_elem? xs t ≡ some (Some (copied j))
+      → (t : ℕ) (j : CopyJob A) → get_elem? jobs t ≡ some j → get_elem? xs t ≡ some (Some (job_after_copy j))
   closed jobs id v ws xs full f t j at =
       let held = f.1.0 in
       let k = held.2 in
       let e = (k.hands id v f.1.1).all_given full in
-      f.4 t (Some (copied j)) (k.back t j (all_given jobs f.0.words f.0.homes f.0.views held.0 held.1 k e t (lt_get jobs t j at)) at)
+      f.4 t (Some (job_after_copy j)) (k.back t j (all_given jobs f.0.words f.0.homes f.0.views held.0 held.1 k e t (lt_get jobs t j at)) at)

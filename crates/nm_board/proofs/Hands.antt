@@ -8,7 +8,7 @@ use lib.ListN.{get_elem?}
 use Rattle.atomic_table.specs.Table.{rest, Allows, step, Step}
 use Rattle.atomic_table.specs.Seated.{TableId}
 use Rattle.nm_frames.specs.declared.job.CopyJob.{CopyJob}
-use Rattle.nm_frames.specs.Job.{copied}
+use Rattle.nm_frames.specs.Job.{job_after_copy}
 use Rattle.nm_board.specs.Tickets.{hit, ticket_times}
 use Rattle.nm_board.specs.Rule.{IsBoardRule, first_view}
 use Rattle.nm_board.specs.Steps.{Mine, front, tickets, DrewEach, DrawsNone, GivesBack, LooksAtBoard, less, part, both}
@@ -164,12 +164,12 @@ module _ {A : Type 0} where
       let same = ap (λ (z : Holding A). z.board) e ∙ (own ∙ sym v) in (ap (λ (l : Laying A). l.id) same, ap (λ (l : Laying A). l.jobs) same)
 
   pub gives_at : (jobs : List (CopyJob A)) (slots id : ℕ) (m n : Mine A) (j laid : CopyJob A) (shares : ℕ) (past : Bool) → Fits m shares past → slice_get (tickets m.1) 0 ≡ Some j.ticket
-      → get_elem? jobs j.ticket ≡ some laid → j ≡ copied laid
+      → get_elem? jobs j.ticket ≡ some laid → j ≡ job_after_copy laid
       → n ≡ (m.0, (j.ticket, Some j) ∷ rest m.1) → Allows (IsBoardRule jobs) slots id n 8 (λ k. (k + 1) % 2 ^ 64) (GivesBack (step slots 8 1 0 Opt.none) n)
   gives_at jobs slots id m n j laid shares past f last here is now =
       let top = front_is m.1 j.ticket last in
       let less = out_drawn m j.ticket shares past top.0 (rest m.1) f top.1 in
-      let now' : n ≡ (m.0, (j.ticket, Some (copied laid)) ∷ rest m.1) = now ∙ ap (λ (x : CopyJob A). (m.0, (j.ticket, Some x) ∷ rest m.1)) is in
+      let now' : n ≡ (m.0, (j.ticket, Some (job_after_copy laid)) ∷ rest m.1) = now ∙ ap (λ (x : CopyJob A). (m.0, (j.ticket, Some x) ∷ rest m.1)) is in
       subst (λ (z : Mine A). Allows (IsBoardRule jobs) slots id z 8 (λ k. (k + 1) % 2 ^ 64) (GivesBack (step slots 8 1 0 Opt.none) z)) (sym now') (gives_back jobs slots id j.ticket m.0 laid (rest m.1) here less.0 less.1)
 
   pub gave_is : (m n r : Mine A) (t : ℕ) (y : Option (CopyJob A)) → n ≡ (m.0, (t, y) ∷ rest m.1) → r ≡ (record n.0 { done = n.0.done ++ front n.1 }, rest n.1) → r ≡ (record m.0 { done = m.0.done ++ t ∷ [] }, rest m.1)
@@ -192,7 +192,7 @@ module _ {A : Type 0} where
       }
 
   -- the job of which this is the copy
-  pub laid_for : (jobs : List (CopyJob A)) (t : ℕ) (job : CopyJob A) → slice_get (map copied jobs) t ≡ Some job → (laid : CopyJob A) × (get_elem? jobs t ≡ some laid) × (job ≡ copied laid)
+  pub laid_for : (jobs : List (CopyJob A)) (t : ℕ) (job : CopyJob A) → slice_get (map job_after_copy jobs) t ≡ Some job → (laid : CopyJob A) × (get_elem? jobs t ≡ some laid) × (job ≡ job_after_copy laid)
   laid_for [] t job e = absurd (cc)
-  laid_for (x ∷ xs) zero job e = let h : copied x ≡ job = cc in (x, refl, sym h)
+  laid_for (x ∷ xs) zero job e = let h : job_after_copy x ≡ job = cc in (x, refl, sym h)
   laid_for (x ∷ xs) (suc t) job e = laid_for xs t job e

@@ -7,7 +7,7 @@ use Rattle.std.proofs.lemmas.List.{length-set}
 use lib.ListN.{get_elem?}
 use Rattle.atomic_table.proofs.Lists.{at_set, set_else, set_again}
 use Rattle.nm_frames.specs.declared.job.CopyJob.{CopyJob}
-use Rattle.nm_frames.specs.Job.{copied}
+use Rattle.nm_frames.specs.Job.{job_after_copy}
 use Rattle.nm_board.specs.declared.view.View.{View}
 use Rattle.nm_board.specs.Tickets.{ticket_times, once_below}
 use Rattle.nm_board.specs.Rule.{words_of, sum_over_hands, past_shares, IsHand, RuleHolds, spent_view}
@@ -134,7 +134,7 @@ module _ {A : Type 0} where
   -- the rule after a ticket was given back
   pub keeps_give : (jobs : List (CopyJob A)) (ws : List ℕ) (homes : List (Opt.Option (Option (CopyJob A)))) (vs : List (View A)) (next given id t : ℕ) (v : View A) (j : CopyJob A)
       → RuleHolds jobs ws homes vs next given → get_elem? vs id ≡ some v → get_elem? jobs t ≡ some j → ticket_times t v.done < ticket_times t v.drawn → length v.done < length v.drawn
-      → (given + 1 ≤ length jobs) × RuleHolds jobs (words_of next (given + 1)) (set homes t (some (Some (copied j)))) (set vs id (record v { done = v.done ++ t ∷ [] })) next (given + 1)
+      → (given + 1 ≤ length jobs) × RuleHolds jobs (words_of next (given + 1)) (set homes t (some (Some (job_after_copy j)))) (set vs id (record v { done = v.done ++ t ∷ [] })) next (given + 1)
   keeps_give jobs ws homes vs next given id t v j k at job mine more =
       let w : View A = record v { done = v.done ++ t ∷ [] } in
       let put = λ (f : View A → ℕ). total_set f vs id v w at in
@@ -149,16 +149,16 @@ module _ {A : Type 0} where
         record {
           words_are = refl;
           few = k.few;
-          slots = length-set homes t (some (Some (copied j))) ∙ k.slots;
+          slots = length-set homes t (some (Some (job_after_copy j))) ∙ k.slots;
           shares = (let a = put (λ v. v.shares) in let b = k.shares in omega arith);
           once = (λ u. let a = put (λ v. ticket_times u v.drawn) in let b = k.once u in omega arith);
           drawn = (let b = k.drawn in omega arith);
           returned = (let b = k.returned in omega (arith, length-append v.done (t ∷ [])));
           ahead = (let a = put past_shares in let b = k.ahead in omega arith);
           hands = hands_set jobs next given next (given + 1) vs id w k.hands (λ u h. more_given jobs next given u h some_out) (given_hand jobs next given t v (k.hands id v at) some_out mine more);
-          laid = (λ u i le e. set_else homes t u (some (Some (copied j))) (λ q. omega arith) ∙ k.laid u i le e);
-          back = (λ u i some_done e. back_set homes t u (some (Some (copied j))) (some (Some (copied i))) there
-              (λ q. ap (λ (x : CopyJob A). some (Some (copied x))) (some-injective j i (sym job ∙ ap (get_elem? jobs) (sym q) ∙ e)))
+          laid = (λ u i le e. set_else homes t u (some (Some (job_after_copy j))) (λ q. omega arith) ∙ k.laid u i le e);
+          back = (λ u i some_done e. back_set homes t u (some (Some (job_after_copy j))) (some (Some (job_after_copy i))) there
+              (λ q. ap (λ (x : CopyJob A). some (Some (job_after_copy x))) (some-injective j i (sym job ∙ ap (get_elem? jobs) (sym q) ∙ e)))
               (λ ne. let a = put (λ v. ticket_times u v.done) in k.back u i (omega (arith, times_append u v.done (t ∷ []), hit_other u t ne)) e)
               (ℕ_discrete u t));
         },

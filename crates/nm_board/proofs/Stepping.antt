@@ -9,7 +9,7 @@ use lib.ListN.{get_elem?}
 use Rattle.atomic_table.specs.Table.{Act, takes, gives, keeps, step, Allows, Splits, Joins, Valid, homes_after, carried_after, opening}
 use Rattle.atomic_table.proofs.Lists.{set_here, set_else, at_snoc, at_map}
 use Rattle.nm_frames.specs.declared.job.CopyJob.{CopyJob}
-use Rattle.nm_frames.specs.Job.{copied}
+use Rattle.nm_frames.specs.Job.{job_after_copy}
 use Rattle.nm_board.specs.declared.view.View.{View}
 use Rattle.nm_board.specs.Tickets.{ticket_times}
 use Rattle.nm_board.specs.Rule.{words_of, past_shares, IsHand, RuleHolds, IsBoardRule, first_view, spent_view}
@@ -74,7 +74,7 @@ module _ {A : Type 0} where
   gives_here : (jobs : List (CopyJob A)) (slots id t : ℕ) (v : View A) (j : CopyJob A) (tail : List (ℕ × Option (CopyJob A))) (ws : List ℕ) (homes : List (Opt.Option (Option (CopyJob A))))
       (views : List (View A)) (next given : ℕ)
       → RuleHolds jobs ws homes views next given → get_elem? jobs t ≡ some j → ticket_times t v.done < ticket_times t v.drawn → length v.done < length v.drawn → get_elem? views id ≡ some v
-      → Goes jobs homes views id ((t, Some (copied j)) ∷ tail) (words_of next ((given + 1) % 2 ^ 64)) (GivesBack (step slots 8 1 0 Opt.none) (v, (t, Some (copied j)) ∷ tail) given)
+      → Goes jobs homes views id ((t, Some (job_after_copy j)) ∷ tail) (words_of next ((given + 1) % 2 ^ 64)) (GivesBack (step slots 8 1 0 Opt.none) (v, (t, Some (job_after_copy j)) ∷ tail) given)
   gives_here jobs slots id t v j tail ws homes views next given k job mine more at =
       let kept = keeps_give jobs ws homes views next given id t v j k at job mine more in
       let small = step_is given (let a = kept.0 in let b = k.few in omega arith) in (
@@ -87,10 +87,10 @@ module _ {A : Type 0} where
 
   pub gives_back : (jobs : List (CopyJob A)) (slots id t : ℕ) (v : View A) (j : CopyJob A) (tail : List (ℕ × Option (CopyJob A)))
       → get_elem? jobs t ≡ some j → ticket_times t v.done < ticket_times t v.drawn → length v.done < length v.drawn
-      → Allows (IsBoardRule jobs) slots id (v, (t, Some (copied j)) ∷ tail) 8 (λ n. (n + 1) % 2 ^ 64) (GivesBack (step slots 8 1 0 Opt.none) (v, (t, Some (copied j)) ∷ tail))
+      → Allows (IsBoardRule jobs) slots id (v, (t, Some (job_after_copy j)) ∷ tail) 8 (λ n. (n + 1) % 2 ^ 64) (GivesBack (step slots 8 1 0 Opt.none) (v, (t, Some (job_after_copy j)) ∷ tail))
   gives_back jobs slots id t v j tail job mine more s held len at bound =
-      let P : List ℕ → Type 0 = λ c. Goes jobs s.homes s.views id ((t, Some (copied j)) ∷ tail) (slice_set c 8 ((slice_index c 8 + 1) % 2 ^ 64))
-      (GivesBack (step slots 8 1 0 Opt.none) (v, (t, Some (copied j)) ∷ tail) (slice_index c 8)) in
+      let P : List ℕ → Type 0 = λ c. Goes jobs s.homes s.views id ((t, Some (job_after_copy j)) ∷ tail) (slice_set c 8 ((slice_index c 8 + 1) % 2 ^ 64))
+      (GivesBack (step slots 8 1 0 Opt.none) (v, (t, Some (job_after_copy j)) ∷ tail) (slice_index c 8)) in
       subst P (sym held.2.words_are) (gives_here jobs slots id t v j tail s.words s.homes s.views held.0 held.1 held.2 job mine more at)
 
   -- a hand's own tickets are among those that were given back, which are no more than there are jobs

@@ -5,7 +5,7 @@ use mathlib.Core.Option as Opt
 use lib.ListN.{get_elem?}
 use Rattle.atomic_table.specs.Table.{State}
 use Rattle.nm_frames.specs.declared.job.CopyJob.{CopyJob}
-use Rattle.nm_frames.specs.Job.{copied}
+use Rattle.nm_frames.specs.Job.{job_after_copy}
 use Rattle.nm_board.specs.declared.view.View.{View}
 use Rattle.nm_board.specs.Tickets.{ticket_times, once_below}
 
@@ -52,7 +52,7 @@ pub record RuleHolds {A : Type 0} (jobs : List (CopyJob A)) (words : List ℕ) (
   -- a job is as it was laid until it is drawn, and is its copy once it was given back
   pub laid : (t : ℕ) (job : CopyJob A) → next ≤ t → get_elem? jobs t ≡ some job → get_elem? homes t ≡ some (some (Some job))
   pub back : (t : ℕ) (job : CopyJob A) → 0 < sum_over_hands (λ v. ticket_times t v.done) views → get_elem? jobs t ≡ some job
-      → get_elem? homes t ≡ some (some (Some (copied job)))
+      → get_elem? homes t ≡ some (some (Some (job_after_copy job)))
 
 -- the board's rule
 abbrev pub IsBoardRule : {A : Type 0} → List (CopyJob A) → State (Option (CopyJob A)) (View A) → Type 0

@@ -1,7 +1,7 @@
 //! The board.
 
 ghost use Rattle.std.specs.Prelude.{◌≡◌, ◌<◌, false, true, length, map, slice_get, Some, IfOk, IfErr, IfSome, IfNone};
-ghost use Rattle.nm_frames.specs.Job.{copied};
+ghost use Rattle.nm_frames.specs.Job.{job_after_copy};
 ghost use Rattle.nm_board.specs.Tickets.{InTicketOrder};
 ghost use Rattle.nm_board.specs.Shown.{all_shares, without_ticket, Drew, HasEach, IsShort};
 
@@ -125,7 +125,7 @@ impl<A: Allocator + Copy> Board<A> {
     pub fn give(&self, hand: &mut Hand<A>, job: CopyJob<A>)
         requires own { hand.old.board ≡ self.now }
         requires last { slice_get hand.old.out 0 ≡ Some job.ticket }
-        requires copied { slice_get (map copied self.now.jobs) job.ticket ≡ Some job }
+        requires copied { slice_get (map job_after_copy self.now.jobs) job.ticket ≡ Some job }
         ensures { hand.new ≡ without_ticket hand.old job.ticket }
     {
         let slot = job.ticket as usize;
@@ -143,7 +143,7 @@ impl<A: Allocator + Copy> Board<A> {
         requires past_end { hand.past_end ≡ true }
 
         // On success
-        ensures all { IfOk result (λ jobs. jobs.items ≡ map copied self.jobs) }
+        ensures all { IfOk result (λ jobs. jobs.items ≡ map job_after_copy self.jobs) }
 
         // If a ticket was not given back
         ensures back { IfErr result (λ short. (short.board ≡ self) × (short.hand ≡ hand)) }

@@ -1,7 +1,7 @@
 //! Jobs that a crew does.
 
 ghost use Rattle.std.specs.Prelude.{◌≡◌, map};
-ghost use Rattle.nm_frames.specs.Job.{copied};
+ghost use Rattle.nm_frames.specs.Job.{job_after_copy};
 
 use nm_frames::CopyJob;
 use std::alloc::Allocator;
@@ -23,12 +23,12 @@ pub trait Jobs {
 /// same order.
 impl<A: Allocator + Copy> Jobs for Vec<CopyJob<A>, A> {
     ghost use Rattle.std.specs.Prelude.{◌≡◌, map};
-    ghost use Rattle.nm_frames.specs.Job.{copied};
+    ghost use Rattle.nm_frames.specs.Job.{job_after_copy};
     ghost use Rattle.nm_board.specs.Tickets.{InTicketOrder};
 
     ghost may_be_done = { λ jobs. InTicketOrder jobs.items };
 
-    ghost are_done = { λ old new. new.items ≡ map copied old.items };
+    ghost are_done = { λ old new. new.items ≡ map job_after_copy old.items };
 
     fn do_each(&mut self) {
         copy_each(self.as_mut_slice());
@@ -37,7 +37,7 @@ impl<A: Allocator + Copy> Jobs for Vec<CopyJob<A>, A> {
 
 /// Copies each job in turn.
 fn copy_each<A: Allocator + Copy>(jobs: &mut [CopyJob<A>])
-    ensures { jobs.new ≡ map copied jobs.old }
+    ensures { jobs.new ≡ map job_after_copy jobs.old }
 {
     for job in jobs {
         job.copy();

@@ -1,7 +1,7 @@
 //! Runs whose pages are on their way.
 
 ghost use Rattle.std.specs.Prelude.{◌≡◌, ℕ, IsSome, Some, map, length, slice_get};
-ghost use Rattle.nm_frames.specs.Job.{copied};
+ghost use Rattle.nm_frames.specs.Job.{job_after_copy};
 ghost use Rattle.nm_frames.specs.declared.job.CopyJob.{CopyJob as Job};
 ghost use Rattle.nm_types.specs.Map.{get, page_cmp};
 ghost use Rattle.nm_model.specs.definitions.BeforeCopy.{all_after_copy};
@@ -132,7 +132,7 @@ impl<'m, A: Allocator + Copy + Send + Sync> RunInFlight<'m, A> {
             ≡ with_store self.entry
             (all_stored_after_copy self.entry.spaces.place self.entry.frames.frames
             (map pending_shown dues.entry.items)).store }
-        ensures jobs { result.1.items ≡ map copied jobs.items }
+        ensures jobs { result.1.items ≡ map job_after_copy jobs.items }
         ensures done { C.has_done crew.now result.1 (Flight × Vec (Given _) _) (result.0, result.2) }
         ensures out { AreOutIn result.0 result.1.items }
         ensures state { state_in_flight result.0 result.1.items
@@ -160,7 +160,7 @@ impl<'m, A: Allocator + Copy + Send + Sync> RunInFlight<'m, A> {
     /// failures are counted. Returns the machine and the number of failures. Does not allocate.
     pub(crate) fn finish(self, jobs: Vec<CopyJob<A>, A>, statuses: &[i32]) -> (Machine<A>, usize)
         requires out { AreOutIn self jobs.items }
-        requires done { map copied jobs.items ≡ jobs.items }
+        requires done { map job_after_copy jobs.items ≡ jobs.items }
         ensures state { result.0
             ≡ with_counts (with_all_free (state_in_flight self.entry jobs.items) (frames_left self.entry.moves))
             (length self.entry.moves) (failures statuses.now) }

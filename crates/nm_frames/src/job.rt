@@ -16,7 +16,7 @@ pub struct CopyJob<A: Allocator + Copy> {
 
 impl<A: Allocator + Copy> CopyJob<A> {
     ghost use Rattle.std.specs.Prelude.{◌≡◌};
-    ghost use Rattle.nm_frames.specs.Job.{copied};
+    ghost use Rattle.nm_frames.specs.Job.{job_after_copy};
     ghost use Rattle.nm_frames.specs.Zeros.{AreZeroBut};
 
     /// How many bytes `copy` copies: all others are zero in both frames, in one stretch.
@@ -28,7 +28,7 @@ impl<A: Allocator + Copy> CopyJob<A> {
 
     /// Copies the source's bytes to the target, and changes nothing else.
     pub fn copy(&mut self)
-        ensures { self.new ≡ copied self.old }
+        ensures { self.new ≡ job_after_copy self.old }
     {
         self.target.copy_from(&self.source);
     }

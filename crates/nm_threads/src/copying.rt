@@ -2,7 +2,7 @@
 
 ghost use Rattle.std.specs.Prelude.{◌≡◌, ◌⊎◌, ◌+◌, ◌<◌, ◌≤◌, ℕ, length, map, vec_len};
 ghost use Rattle.std.specs.Thread.{IsSync, IsSend};
-ghost use Rattle.nm_frames.specs.Job.{copied};
+ghost use Rattle.nm_frames.specs.Job.{job_after_copy};
 ghost use Rattle.nm_board.specs.Shown.{all_shares};
 ghost use Rattle.nm_board.specs.Tickets.{InTicketOrder};
 ghost use Rattle.nm_threads.specs.Named.{identity_of};
@@ -42,7 +42,7 @@ pub fn copy_while<
     requires tickets { InTicketOrder jobs.items }
     requires workers { (0 < workers) × (workers ≤ 64) }
     requires work { W.pre work }
-    ensures jobs { result.0.items ≡ map copied jobs.items }
+    ensures jobs { result.0.items ≡ map job_after_copy jobs.items }
     ensures work { W.post work result.1 }
 {
     let others = others(jobs.as_slice(), gate.worth_from(), workers);
@@ -89,7 +89,7 @@ fn copy_alone<A: Allocator + Copy, G: Gate, T, W: FnOnce() -> T>(
     work: W,
 ) -> (Vec<CopyJob<A>, A>, T)
     requires { W.pre work }
-    ensures jobs { result.0.items ≡ map copied jobs.items }
+    ensures jobs { result.0.items ≡ map job_after_copy jobs.items }
     ensures work { W.post work result.1 }
 {
     let answer = work();
@@ -99,7 +99,7 @@ fn copy_alone<A: Allocator + Copy, G: Gate, T, W: FnOnce() -> T>(
 
 /// Copies each job in turn.
 fn copy_each<A: Allocator + Copy, G: Gate>(jobs: &mut [CopyJob<A>], gate: &G)
-    ensures { jobs.new ≡ map copied jobs.old }
+    ensures { jobs.new ≡ map job_after_copy jobs.old }
 {
     for job in jobs {
         gate.pass(0, job.ticket);
@@ -128,7 +128,7 @@ fn copy_by<
     requires own { own ≡ all_shares board }
     requires others { others < 64 }
     requires work { W.pre work }
-    ensures jobs { result.0.items ≡ map copied board.jobs }
+    ensures jobs { result.0.items ≡ map job_after_copy board.jobs }
     ensures work { W.post work result.1 }
 {
     let workers = hire::<A, B>(alloc, &board, &mut own, others);

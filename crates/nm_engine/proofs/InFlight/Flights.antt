@@ -4,7 +4,7 @@ use Rattle.std.specs.List.{AllByRecursion}
 use Rattle.nm_types.specs.declared.taken.Taken.{Taken}
 use Rattle.nm_types.specs.State.{State}
 use Rattle.nm_frames.specs.declared.job.CopyJob.{CopyJob}
-use Rattle.nm_frames.specs.Job.{copied}
+use Rattle.nm_frames.specs.Job.{job_after_copy}
 use Rattle.nm_memory.specs.views.Populated.{IsPopulated}
 use Rattle.nm_model.specs.definitions.BeforeCopy.{PendingAccess, all_after_copy, IsInside}
 use Rattle.nm_model.specs.definitions.Frames.{Store, IsHome}
@@ -34,25 +34,25 @@ module _ {A : Type 0} (k v w : FramesView) (moves : List Taken) (jobs : List (Co
   are : jobs ≡ jobs_of 0 k.frames moves
   are = laid ∙ ap (λ (x : FramesView). jobs_of {A = A} 0 x.frames moves) left
 
-  pub home_is : with_jobs_back w.frames (map copied jobs) ≡ with_copies k.frames moves
-  home_is = (λ i. with_jobs_back (gone i).frames (map copied (are i))) ∙ refilled_is A moves 0 k.frames can
+  pub home_is : with_jobs_back w.frames (map job_after_copy jobs) ≡ with_copies k.frames moves
+  home_is = (λ i. with_jobs_back (gone i).frames (map job_after_copy (are i))) ∙ refilled_is A moves 0 k.frames can
 
-  pub once_home : record w { frames = with_jobs_back w.frames (map copied jobs) } ≡ record k { frames = with_copies k.frames moves; vacated = frames_left moves; room = w.room }
-  once_home = ap (λ (x : FramesView). record x { frames = with_jobs_back w.frames (map copied jobs) }) gone ∙ ap (λ (s : Store). record k { frames = s; vacated = frames_left moves; room = w.room }) home_is
+  pub once_home : record w { frames = with_jobs_back w.frames (map job_after_copy jobs) } ≡ record k { frames = with_copies k.frames moves; vacated = frames_left moves; room = w.room }
+  once_home = ap (λ (x : FramesView). record x { frames = with_jobs_back w.frames (map job_after_copy jobs) }) gone ∙ ap (λ (s : Store). record k { frames = s; vacated = frames_left moves; room = w.room }) home_is
 
-  pub can_home : CanRefill w.frames (map copied jobs)
+  pub can_home : CanRefill w.frames (map job_after_copy jobs)
   can_home =
-      subst (λ (js : List (CopyJob A)). CanRefill w.frames (map copied js)) (sym are)
-      (subst (λ (x : FramesView). CanRefill x.frames (map copied (jobs_of {A = A} 0 k.frames moves))) (sym gone) (can_refill A moves 0 k.frames can))
+      subst (λ (js : List (CopyJob A)). CanRefill w.frames (map job_after_copy js)) (sym are)
+      (subst (λ (x : FramesView). CanRefill x.frames (map job_after_copy (jobs_of {A = A} 0 k.frames moves))) (sym gone) (can_refill A moves 0 k.frames can))
 
-  pub whole_then : HasAllFrames k → HasAllFrames (record w { frames = with_jobs_back w.frames (map copied jobs) })
+  pub whole_then : HasAllFrames k → HasAllFrames (record w { frames = with_jobs_back w.frames (map job_after_copy jobs) })
   whole_then h = subst HasAllFrames (sym once_home)
       (record { lists = h.lists; buffers = copies_as_many moves k.frames ∙ h.buffers; home = λ f below. copies_home moves k.frames f (h.home f below) })
 
 -- a job that is copied again is the same
-pub copied_twice : {A : Type 0} (jobs : List (CopyJob A)) → map copied (map copied jobs) ≡ map copied jobs
+pub copied_twice : {A : Type 0} (jobs : List (CopyJob A)) → map job_after_copy (map job_after_copy jobs) ≡ map job_after_copy jobs
 copied_twice [] = refl
-copied_twice (job ∷ jobs) = ap (λ js. copied job ∷ js) (copied_twice jobs)
+copied_twice (job ∷ jobs) = ap (λ js. job_after_copy job ∷ js) (copied_twice jobs)
 
 all_populated : (fs : List ℕ) (a b : Store) → ((f : ℕ) → IsPopulated a f → IsPopulated b f) → AllByRecursion (IsPopulated a) fs → AllByRecursion (IsPopulated b) fs
 all_populated [] a b keeps all = tt
@@ -61,7 +61,7 @@ all_populated (f ∷ fs) a b keeps all = (keeps f all.0, all_populated fs a b ke
 -- accesses whose pages are home
 module _ {A : Type 0} (x : Flight) (jobs : List (CopyJob A)) (dues : List PendingAccess) (h : AreOutIn x jobs) (can : AllByRecursion (CanDo x.spaces.place x.frames.frames) dues) where
   abbrev home_jobs : List (CopyJob A)
-  home_jobs = map copied jobs
+  home_jobs = map job_after_copy jobs
 
   abbrev store_once_home : Store
   store_once_home = with_jobs_back x.frames.frames home_jobs
@@ -108,7 +108,7 @@ module _ {A : Type 0} (x : Flight) (jobs : List (CopyJob A)) (dues : List Pendin
   }
 
 -- the same bytes are out in the jobs once they are done
-pub out_done : {A : Type 0} (x : Flight) (jobs : List (CopyJob A)) → AreOutIn x jobs → AreOutIn x (map copied jobs)
+pub out_done : {A : Type 0} (x : Flight) (jobs : List (CopyJob A)) → AreOutIn x jobs → AreOutIn x (map job_after_copy jobs)
 out_done {A} x jobs h =
     let same = sym (copied_twice jobs) in
     record {
@@ -118,5 +118,5 @@ out_done {A} x jobs h =
       populated = subst (λ (js : List (CopyJob A)). AllByRecursion (IsPopulated (with_jobs_back x.frames.frames js)) x.frames.vacated) same h.populated;
     }
 
-pub state_done : {A : Type 0} (x : Flight) (jobs : List (CopyJob A)) → state_in_flight x (map copied jobs) ≡ state_in_flight x jobs
+pub state_done : {A : Type 0} (x : Flight) (jobs : List (CopyJob A)) → state_in_flight x (map job_after_copy jobs) ≡ state_in_flight x jobs
 state_done {A} x jobs = ap (λ (js : List (CopyJob A)). shown_by x.spaces (let k = x.frames in record k { frames = with_jobs_back k.frames js }) x.online x.moved x.failed) (copied_twice jobs)

@@ -9,7 +9,7 @@ use Rattle.nm_types.specs.declared.taken.Taken.{Taken}
 use Rattle.nm_types.specs.Layout.{node_count}
 use Rattle.nm_types.specs.State.{State}
 use Rattle.nm_frames.specs.declared.job.CopyJob.{CopyJob}
-use Rattle.nm_frames.specs.Job.{copied}
+use Rattle.nm_frames.specs.Job.{job_after_copy}
 use Rattle.nm_memory.specs.views.Populated.{IsPopulated}
 use Rattle.nm_model.specs.definitions.Accesses.{after_access}
 use Rattle.nm_model.specs.definitions.BeforeCopy.{PendingAccess, after_copy, all_after_copy, answer_after_copy, with_fronts, frames_taken}
@@ -84,7 +84,7 @@ module _ {A : Type 0} where
 
   -- the frames once the bytes in these jobs are copied and home again
   abbrev pub frames_then : Flight → List (CopyJob A) → FramesView
-  frames_then x jobs = let k = x.frames in record k { frames = with_jobs_back k.frames (map copied jobs) }
+  frames_then x jobs = let k = x.frames in record k { frames = with_jobs_back k.frames (map job_after_copy jobs) }
 
   -- the state that is read meanwhile: each page is in the frame that it goes to, with the bytes that it has in the one
   -- that it leaves
@@ -93,10 +93,10 @@ module _ {A : Type 0} where
 
   -- the bytes that are out are in these jobs, and the machine is whole once they are home
   pub record AreOutIn (x : Flight) (jobs : List (CopyJob A)) : Type 0 where
-    pub can : CanRefill x.frames.frames (map copied jobs)
+    pub can : CanRefill x.frames.frames (map job_after_copy jobs)
     pub whole : HasAllFrames (frames_then x jobs)
     pub kept : IsSoundMachine (state_in_flight x jobs) x.frames.vacated x.spaces.frames
-    pub populated : AllByRecursion (IsPopulated (with_jobs_back x.frames.frames (map copied jobs))) x.frames.vacated
+    pub populated : AllByRecursion (IsPopulated (with_jobs_back x.frames.frames (map job_after_copy jobs))) x.frames.vacated
 
   -- a run machine whose run is under way, of these moves: it is read as the same state, and each process has the same entry
   -- at each page number

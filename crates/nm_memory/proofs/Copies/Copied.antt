@@ -6,7 +6,7 @@ use Rattle.std.proofs.lemmas.Bool.{cases_eq}
 use Rattle.std.specs.Option.{unwrap_or}
 use Rattle.std.specs.List.{AllByRecursion}
 use Rattle.nm_frames.specs.declared.job.CopyJob.{CopyJob}
-use Rattle.nm_frames.specs.Job.{copied}
+use Rattle.nm_frames.specs.Job.{job_after_copy}
 use Rattle.nm_memory.specs.views.Populated.{IsPopulated}
 use Rattle.nm_model.specs.definitions.Frames.{Store, IsHome, IsOut, bytes_of}
 use Rattle.nm_types.specs.declared.taken.Taken.{Taken}
@@ -142,7 +142,7 @@ copies_set (t ∷ taken) store f v can out =
     ∙ ap (λ (s : Store). with_copies s taken) (set_comm store t.to f (Some bytes) v (not_home store f t.to out can.1) ∙ ap (λ (b : List ℕ). slice_set (slice_set store f v) t.to (Some b)) same)
 
 -- what goes out and is copied comes back copied
-pub refilled_is : (A : Type 0) (taken : List Taken) (k : ℕ) (store : Store) → CanCopy store taken → with_jobs_back (without_moves store taken) (map copied (jobs_of {A = A} k store taken)) ≡ with_copies store taken
+pub refilled_is : (A : Type 0) (taken : List Taken) (k : ℕ) (store : Store) → CanCopy store taken → with_jobs_back (without_moves store taken) (map job_after_copy (jobs_of {A = A} k store taken)) ≡ with_copies store taken
 refilled_is A [] k store can = refl
 refilled_is A (t ∷ taken) k store can =
     let g = without_move store t in
@@ -156,13 +156,13 @@ refilled_is A (t ∷ taken) k store can =
     ∙ ap (λ (s : Store). with_copies s taken) (copied_frame store t.from t.to bytes can.2 (home_bytes store t.from can.0))
 
 -- and its frames are out until then
-pub can_refill : (A : Type 0) (taken : List Taken) (k : ℕ) (store : Store) → CanCopy store taken → CanRefill (without_moves store taken) (map copied (jobs_of {A = A} k store taken))
+pub can_refill : (A : Type 0) (taken : List Taken) (k : ℕ) (store : Store) → CanCopy store taken → CanRefill (without_moves store taken) (map job_after_copy (jobs_of {A = A} k store taken))
 can_refill A [] k store can = tt
 can_refill A (t ∷ taken) k store can =
     let g = without_move store t in
     let bytes = bytes_of store t.from in
     let w = with_copies g taken in
-    let is : with_jobs_back (without_moves g taken) (map copied (jobs_of {A = A} (k + 1) g taken)) ≡ w = refilled_is A taken (k + 1) g can.3 in
+    let is : with_jobs_back (without_moves g taken) (map job_after_copy (jobs_of {A = A} (k + 1) g taken)) ≡ w = refilled_is A taken (k + 1) g can.3 in
     let same : length w ≡ length store = copies_as_many taken g ∙ as_many store t in (
       can_refill A taken (k + 1) g can.3,
       subst (λ (s : Store). IsOut s t.from) (sym is) (record { in_range = omega (arith, same, can.0.in_range); taken = copies_keep taken g t.from can.3 (from_out store t) }),

@@ -6,7 +6,7 @@ use Rattle.nm_types.specs.State.{State}
 use Rattle.nm_types.specs.declared.request.Wanted.{Wanted}
 use Rattle.nm_types.specs.declared.taken.Taken.{Taken}
 use Rattle.nm_frames.specs.declared.job.CopyJob.{CopyJob}
-use Rattle.nm_frames.specs.Job.{copied}
+use Rattle.nm_frames.specs.Job.{job_after_copy}
 use Rattle.nm_laws.specs.Laws.{with_moves}
 use Rattle.nm_laws.specs.Moves.{CanMove, IsPlanOf}
 use Rattle.nm_laws.proofs.Early.Flown.{run_state, run_answers}
@@ -28,7 +28,7 @@ use Rattle.nm_engine.proofs.planned_run.make_run.Given.{Over}
 use Rattle.nm_engine.proofs.planned_run.make_run.Goals as goal
 
 -- a job's copy is between the same frames
-still_pairs : {A : Type 0} (jobs : List (CopyJob A)) → map pair_of (map copied jobs) ≡ map pair_of jobs
+still_pairs : {A : Type 0} (jobs : List (CopyJob A)) → map pair_of (map job_after_copy jobs) ≡ map pair_of jobs
 still_pairs [] = refl
 still_pairs (job ∷ jobs) = ap (λ ps. pair_of job ∷ ps) (still_pairs jobs)
 
@@ -107,7 +107,7 @@ finish-machine-requires-clause-out g c κs within = c.copy_beside-run.ensures.ou
 pub finish-machine-requires-clause-done : goal.finish-machine-requires-clause-done
 finish-machine-requires-clause-done g c κs within =
     let is = c.copy_beside-run.ensures.jobs in
-    ap (λ (js : List (CopyJob g.row.A.Denot)). map copied js) is ∙ copied_twice c.begin-run.result.1.items ∙ sym is
+    ap (λ (js : List (CopyJob g.row.A.Denot)). map job_after_copy js) is ∙ copied_twice c.begin-run.result.1.items ∙ sym is
 
 pub returns-in-Ok-clause-failed : goal.returns-in-Ok-clause-failed
 returns-in-Ok-clause-failed g c = c.finish-machine.ensures.failed ∙ ap failures (c.statuses.ensures ∙ sym c.into_statuses.ensures)

@@ -3,7 +3,7 @@ use Rattle.std.proofs.Common.{◌≡◌, length, map, sym, refl, ap, ◌∙◌, 
 use Rattle.nm_board.specs.Steps.{Mine}
 use Rattle.nm_board.specs.Shown.{Holding, Laying, holding_of}
 use Rattle.std.specs.Mem.Slots.{slots_items}
-use Rattle.nm_frames.specs.Job.{copied}
+use Rattle.nm_frames.specs.Job.{job_after_copy}
 use Rattle.nm_board.proofs.Stepping.{counts}
 use Rattle.nm_board.proofs.Full.{closed}
 use Rattle.nm_board.proofs.Filled.{each_is, same_jobs}
@@ -36,7 +36,7 @@ take_all-requires-clause-jobs g c =
     let found = c.if-given-slot_count.false ∙ (c.slot_count.ensures ∙ (c.self.invariant.slots ∙ sym (ap length own.1))) in
     let full = ap (λ (m : Mine _). m.0.full) (c.load-given.ensures.2.all found) in
     let slots : length (slots_items c.close_with.result.slots) ≡ length jobs = omega (arith, c.close_with.ensures.counts.1, c.self.invariant.slots) in
-    (map copied jobs, each_is jobs (slots_items c.close_with.result.slots) slots (λ t j at. closed _ _ _ _ _ full c.close_with.ensures.values.2 t j at))
+    (map job_after_copy jobs, each_is jobs (slots_items c.close_with.result.slots) slots (λ t j at. closed _ _ _ _ _ full c.close_with.ensures.values.2 t j at))
 
 pub returns-clause-all : goal.returns-clause-all
 returns-clause-all g c =
@@ -46,7 +46,7 @@ returns-clause-all g c =
     let full = ap (λ (m : Mine _). m.0.full) (c.load-given.ensures.2.all found) in
     let slots : length (slots_items c.close_with.result.slots) ≡ length jobs = omega (arith, c.close_with.ensures.counts.1, c.self.invariant.slots) in
     let all = each_is jobs (slots_items c.close_with.result.slots) slots (λ t j at. closed _ _ _ _ _ full c.close_with.ensures.values.2 t j at) in
-    same_jobs (map copied jobs) c.take_all.new.room.items (sym all ∙ sym c.take_all.ensures) ∙ ap (λ (b : Laying _). map copied b.jobs) c.self.view_is
+    same_jobs (map job_after_copy jobs) c.take_all.new.room.items (sym all ∙ sym c.take_all.ensures) ∙ ap (λ (b : Laying _). map job_after_copy b.jobs) c.self.view_is
 
 pub invariant_of-hand : goal.invariant_of-hand
 invariant_of-hand g c =

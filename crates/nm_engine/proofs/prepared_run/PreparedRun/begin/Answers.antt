@@ -4,7 +4,7 @@ use Rattle.std.specs.List.{AllByRecursion}
 use Rattle.std.specs.Ordering.{nat_cmp}
 use Rattle.nm_types.specs.Map.{get}
 use Rattle.nm_types.specs.State.{State}
-use Rattle.nm_frames.specs.Job.{copied}
+use Rattle.nm_frames.specs.Job.{job_after_copy}
 use Rattle.nm_memory.specs.views.Populated.{IsPopulated}
 use Rattle.nm_laws.specs.Laws.{with_moves}
 use Rattle.nm_laws.specs.Midway.{entry_in_flight}
@@ -136,10 +136,10 @@ returns-clause-out g c =
     record {
       can = can_home {A = g.row.A.Denot} k v w moves jobs left out.frames out.jobs can;
       whole = whole_then {A = g.row.A.Denot} k v w moves jobs left out.frames out.jobs can c.vacate_each.ensures.shelf;
-      kept = subst (λ (z : AddressSpacesView). IsSoundMachine (shown_by z (record w { frames = with_jobs_back w.frames (map copied jobs) }) i.online i.totals.moved i.totals.failed) w.vacated z.frames) (sym c.hold.ensures.spaces)
+      kept = subst (λ (z : AddressSpacesView). IsSoundMachine (shown_by z (record w { frames = with_jobs_back w.frames (map job_after_copy jobs) }) i.online i.totals.moved i.totals.failed) w.vacated z.frames) (sym c.hold.ensures.spaces)
           (subst (λ (x : FramesView). IsSoundMachine (shown_by (all_moved i.spaces moves) x i.online i.totals.moved i.totals.failed) x.vacated (all_moved i.spaces moves).frames) (sym is)
           (finished_kept i.spaces i.frames i.online i.totals.moved i.totals.failed r.0 moves [] h then refl));
-      populated = subst (λ (l : List ℕ). AllByRecursion (IsPopulated (with_jobs_back w.frames (map copied jobs))) l) (sym stays)
+      populated = subst (λ (l : List ℕ). AllByRecursion (IsPopulated (with_jobs_back w.frames (map job_after_copy jobs))) l) (sym stays)
           (subst (λ (s : Store). AllByRecursion (IsPopulated s) (frames_left moves)) (sym home)
           (after_populated (frames_left moves) (all_moved i.spaces moves).place [] moves k.frames k.frames (both_whole i.spaces i.frames i.online i.totals.moved i.totals.failed r.0 moves [] h) tt leaves));
     }

@@ -1,6 +1,6 @@
 use Rattle.std.proofs.Common.{List, map, sym, subst, ◌∙◌}
 use Rattle.nm_frames.specs.declared.job.CopyJob.{CopyJob}
-use Rattle.nm_frames.specs.Job.{copied}
+use Rattle.nm_frames.specs.Job.{job_after_copy}
 use Rattle.nm_memory.specs.definitions.AfterCopy.{all_stored_after_copy}
 use Rattle.nm_memory.specs.views.Accesses.{pending_shown}
 use Rattle.nm_engine.specs.views.Flights.{Flight, AreOutIn, state_in_flight, with_store}
@@ -18,7 +18,7 @@ returns-clause-out g c =
     let dues = map pending_shown c.args.dues.items in
     let done = out_done (with_store x (all_stored_after_copy x.spaces.place x.frames.frames dues).store) jobs (out_then x jobs dues c.requires.out c.requires.can.can) in
     subst (λ (js : List (CopyJob g.row.A.Denot)). AreOutIn c.copy_while-jobs.result.1.0 js) (sym c.copy_while-jobs.ensures.jobs)
-    (subst (λ (y : Flight). AreOutIn y (map copied jobs)) (sym c.copy_while-jobs.ensures.work.run) done)
+    (subst (λ (y : Flight). AreOutIn y (map job_after_copy jobs)) (sym c.copy_while-jobs.ensures.work.run) done)
 
 pub returns-clause-state : goal.returns-clause-state
 returns-clause-state g c =
