@@ -1,7 +1,7 @@
 -- What a prepared run has.
 use Rattle.std.proofs.Common.{◌≡◌, ◌≤◌, ℕ, List, Vec, map, length, ap, ◌∙◌, arith}
 use Rattle.nm_types.specs.State.{State}
-use Rattle.nm_types.specs.declared.taken.Taken.{Taken}
+use Rattle.nm_types.specs.declared.page_move.PageMove.{PageMove}
 use Rattle.nm_model.specs.definitions.BeforeCopy.{all_before_copy, frames_taken}
 use Rattle.nm_model.specs.definitions.Touch.{Access}
 use Rattle.nm_memory.specs.declared.pending_access.PendingAccess.{PendingAccess as Left}
@@ -10,7 +10,7 @@ use Rattle.nm_laws.proofs.Early.Phases.{pages_of, touched_all}
 use Rattle.nm_engine.specs.views.Early.{Prepares}
 use Rattle.nm_engine.specs.views.MidRun.{RunState}
 
-module _ {A : Type 0} (old : RunState) (target : ℕ) (moves : List Taken) (accesses : List Access) (new : RunState) (dues : Vec (Left A) A) (h : Prepares old target moves accesses new dues) where
+module _ {A : Type 0} (old : RunState) (target : ℕ) (moves : List PageMove) (accesses : List Access) (new : RunState) (dues : Vec (Left A) A) (h : Prepares old target moves accesses new dues) where
   -- the state once all touches are made, and what is then left to do
   pub early_state : new.state ≡ (touched_all old.state target moves accesses).state
   early_state = ap (λ (x : RunState). x.state) h.touches.touched ∙ ap (λ (s : State). (all_before_copy s (pages_of moves) accesses).state) h.frames.state

@@ -17,7 +17,7 @@ use crate::run_in_flight::RunInFlight;
 use nm_frames::CopyJob;
 use nm_memory::Frames;
 use nm_spaces::{AddressSpaces, HeldSpaces};
-use nm_types::{NodeMask, Pid, Taken, Vpn};
+use nm_types::{NodeMask, Pid, PageMove, Vpn};
 use std::alloc::Allocator;
 use std::marker::Model;
 
@@ -82,7 +82,7 @@ impl<A: Allocator + Copy + Send + Sync> PreparedRun<A> {
     /// Begins the run of these moves, whose frames are taken: every entry that names a frame that a page leaves is held,
     /// on its way to the frame that the page takes, and the bytes of both frames go out, as the jobs of the crew. Does
     /// not allocate.
-    pub(crate) fn begin(self, moves: &[Taken]) -> (RunInFlight<'_, A>, Vec<CopyJob<A>, A>)
+    pub(crate) fn begin(self, moves: &[PageMove]) -> (RunInFlight<'_, A>, Vec<CopyJob<A>, A>)
         requires ready { (target : ℕ) × IsReadyFor self target moves.now }
         requires few { length moves.now ≤ self.room }
 

@@ -17,7 +17,7 @@ use crate::run_crew::RunCrew;
 use nm_frames::CopyJob;
 use nm_memory::{AccessAnswer, FramesInFlight, PendingAccess};
 use nm_spaces::HeldSpaces;
-use nm_types::{Errno, FrameId, NodeMask, Page, Pid, Taken, Vpn};
+use nm_types::{Errno, FrameId, NodeMask, Page, Pid, PageMove, Vpn};
 use std::alloc::Allocator;
 use std::marker::Model;
 
@@ -33,7 +33,7 @@ pub(crate) struct RunInFlight<'m, A: Allocator + Copy> {
     pub(crate) totals: Totals,
     pub(crate) last_pin: Option<(Pid, Vpn)>,
     pub(crate) alloc: A,
-    pub(crate) moves: &'m [Taken],
+    pub(crate) moves: &'m [PageMove],
 }
 
 impl<'m, A: Allocator + Copy> Model for RunInFlight<'m, A> {

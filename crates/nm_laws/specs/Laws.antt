@@ -16,7 +16,7 @@ use Rattle.nm_types.specs.declared.seen.Seen.TheVariants.{At}
 use Rattle.nm_model.specs.definitions.Seen.{look}
 use Rattle.nm_model.specs.definitions.Cut.{Request, Stretch}
 use Rattle.nm_model.specs.definitions.Status.{status_or_move, class_of}
-use Rattle.nm_types.specs.declared.taken.Taken.{Taken}
+use Rattle.nm_types.specs.declared.page_move.PageMove.{PageMove}
 use Rattle.nm_model.specs.definitions.Decide.{Decisions, decide}
 use Rattle.nm_model.specs.definitions.Memory.{mem}
 use Rattle.nm_model.specs.definitions.Touch.{Access, Write, AccessAnswer, Done, read, write, access}
@@ -129,12 +129,12 @@ PolicyKeepsMemory =
     (page_at t.areas q v ≡ page_at s.areas q v) × (mem t q at ≡ mem s q at)
 
 -- a page takes the front frame of the target
-abbrev pub with_move : ℕ → State → Taken → State
+abbrev pub with_move : ℕ → State → PageMove → State
 with_move target s t =
     record s { place = set page_cmp s.place t.page t.to; free = slice_set s.free target (drop 1 (free_list s target)) }
 
 -- one page after another takes the target's front frame
-abbrev pub with_moves : State → ℕ → List Taken → State
+abbrev pub with_moves : State → ℕ → List PageMove → State
 with_moves s target taken = fold (with_move target) s taken
 
 -- the state after deciding one request after another is what the decisions say

@@ -3,7 +3,7 @@ use Rattle.std.specs.Prelude.{◌≡◌, ◌≢◌, ℕ, List, [], ◌∷◌, So
 use Rattle.nm_types.specs.Layout.{node_of}
 use Rattle.nm_types.specs.Map.{get, page_cmp}
 use Rattle.nm_types.specs.State.{State, free_list}
-use Rattle.nm_types.specs.declared.taken.Taken.{Taken}
+use Rattle.nm_types.specs.declared.page_move.PageMove.{PageMove}
 use Rattle.nm_model.specs.definitions.Decide.{RunPlan, plan_run}
 use Rattle.nm_types.specs.declared.request.Wanted.{Wanted}
 use Rattle.nm_model.specs.definitions.Status.{status_or_move}
@@ -11,7 +11,7 @@ use Rattle.nm_model.specs.definitions.Run.{each_request}
 use Rattle.nm_laws.specs.Laws.{Agrees, with_move}
 
 -- each of these pages in turn leaves its frame, which is on another node, for the front frame of the target
-abbrev pub CanMove : State → ℕ → List Taken → Type 0
+abbrev pub CanMove : State → ℕ → List PageMove → Type 0
 CanMove s target [] = Unit {0}
 CanMove s target (t ∷ taken) =
     (get page_cmp s.place t.page ≡ Some t.from) × (slice_get (free_list s target) 0 ≡ Some t.to)

@@ -3,7 +3,7 @@ use Rattle.std.specs.Prelude.{◌≡◌, ℕ, ◌<◌, List, map, length}
 use Rattle.std.specs.List.{AllByRecursion}
 use Rattle.nm_types.specs.declared.page.Page.{Page}
 use Rattle.nm_types.specs.State.{State}
-use Rattle.nm_types.specs.declared.taken.Taken.{Taken}
+use Rattle.nm_types.specs.declared.page_move.PageMove.{PageMove}
 use Rattle.nm_model.specs.definitions.Touch.{Access, all_in_flight}
 use Rattle.nm_laws.specs.Laws.{with_moves}
 use Rattle.nm_laws.specs.Moves.{CanMove}
@@ -21,7 +21,7 @@ TouchesComeFirst =
 -- that have a frame and do not move
 abbrev pub MovesComeLater : Type 0
 MovesComeLater =
-    (s : State) (target : ℕ) (taken : List Taken) (accesses : List Access) →
+    (s : State) (target : ℕ) (taken : List PageMove) (accesses : List Access) →
     IsSound s → target < length s.free → CanMove s target taken →
     let pages = map (λ t. t.page) taken in
     let early = all_before_copy (without_fronts s target (length taken)) pages accesses in

@@ -24,7 +24,7 @@ pub use in_flight::FramesInFlight;
 use in_flight::take_out_each;
 use nm_frames::{CopyJob, FrameStore};
 use nm_nodes::NodePool;
-use nm_types::{FrameId, Geometry, NodeId, NodeMask, Taken};
+use nm_types::{FrameId, Geometry, NodeId, NodeMask, PageMove};
 use std::alloc::{AllocError, Allocator};
 use std::borrow::CowSlice;
 use std::marker::Model;
@@ -232,7 +232,7 @@ impl<A: Allocator + Copy> Frames<A> {
 
     /// Gives the frames that pages of moves take their bytes in memory, as far as they lack them. An error means that the
     /// host is out of memory, and that one of them did not have its bytes.
-    pub fn populate_each(&mut self, alloc: A, moves: &[Taken]) -> Result<(), AllocError>
+    pub fn populate_each(&mut self, alloc: A, moves: &[PageMove]) -> Result<(), AllocError>
         requires { AllByRecursion (λ frame. frame < frame_count self.old.layout) (frames_taken moves.now) }
         ensures kept { KeepsBytes self.old.frames self.new.frames }
         ensures same { self.new ≡ record (self.old) { frames = self.new.frames } }
@@ -308,7 +308,7 @@ impl<A: Allocator + Copy> Frames<A> {
     }
 
     /// Puts the frames taken for these moves back at the front of the list of the node that they came from.
-    pub fn give_back(&mut self, node: NodeId, moves: &[Taken])
+    pub fn give_back(&mut self, node: NodeId, moves: &[PageMove])
         requires node { node < node_count self.old.layout }
         requires can { CanReturn (pool_of self.old) node (frames_taken moves.now) }
         ensures given { self.new
@@ -325,7 +325,7 @@ impl<A: Allocator + Copy> Frames<A> {
     }
 
     /// Lets the pages of these moves leave their frames, which become free when the run ends, for those taken for them.
-    pub fn vacate_each(&mut self, moves: &[Taken])
+    pub fn vacate_each(&mut self, moves: &[PageMove])
         requires room { length moves.now ≤ self.old.room }
         requires populated { AllByRecursion (IsPopulated self.old.frames) (frames_left moves.now) }
         ensures vacated { self.new ≡ record (self.old) { vacated = frames_left moves.now } }
@@ -382,7 +382,7 @@ impl<A: Allocator + Copy> Frames<A> {
 
     /// Takes the bytes of both frames of each move out, as jobs in the order of the moves, numbered from 0. Does not
     /// allocate: the list of the jobs is the one that has had room reserved for them.
-    pub fn take_out(self, moves: &[Taken]) -> (FramesInFlight<A>, Vec<CopyJob<A>, A>)
+    pub fn take_out(self, moves: &[PageMove]) -> (FramesInFlight<A>, Vec<CopyJob<A>, A>)
         requires can { CanCopy self.frames moves.now }
         requires populated { AllByRecursion (HasBoth self.frames) moves.now }
         requires few { length moves.now ≤ self.room }
@@ -452,7 +452,7 @@ fn populate_behind<A: Allocator + Copy>(frames: &mut FrameStore<A>, alloc: A, fr
 fn populate_each<A: Allocator + Copy>(
     frames: &mut FrameStore<A>,
     alloc: A,
-    moves: &[Taken],
+    moves: &[PageMove],
 ) -> Result<(), AllocError>
     requires frames { AllByRecursion (λ frame. frame < length (in_memory frames.old)) (frames_taken moves.now) }
     requires home { (f : ℕ) → f < length (in_memory frames.old) → IsHome (in_memory frames.old) f }
@@ -469,7 +469,7 @@ fn populate_each<A: Allocator + Copy>(
 }
 
 /// Puts the frames taken for these moves back at the front of the node's list.
-fn return_tos<A: Allocator + Copy>(nodes: &mut NodePool<A>, node: NodeId, moves: &[Taken])
+fn return_tos<A: Allocator + Copy>(nodes: &mut NodePool<A>, node: NodeId, moves: &[PageMove])
     requires node { node < length nodes.old.lists }
     requires can { CanReturn nodes.old node (frames_taken moves.now) }
     ensures { nodes.new ≡ with_list nodes.old node (frames_taken moves.now ++ list_of nodes.old node) }
@@ -482,7 +482,7 @@ fn return_tos<A: Allocator + Copy>(nodes: &mut NodePool<A>, node: NodeId, moves:
 }
 
 /// Appends the frames that the pages of these moves leave to a list that has room for them.
-fn push_left<A: Allocator + Copy>(vacated: &mut Vec<FrameId, A>, moves: &[Taken])
+fn push_left<A: Allocator + Copy>(vacated: &mut Vec<FrameId, A>, moves: &[PageMove])
     requires { vec_len vacated.old + length moves.now ≤ vec_capacity vacated.old }
     ensures items { vacated.new.items ≡ vacated.old.items ++ frames_left moves.now }
     ensures room { vec_capacity vacated.new ≡ vec_capacity vacated.old }

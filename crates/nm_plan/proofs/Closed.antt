@@ -14,19 +14,19 @@ use Rattle.nm_types.specs.Map.{same_page}
 use Rattle.nm_types.specs.declared.request.Class.{Class}
 use Rattle.nm_types.specs.declared.request.Class.TheVariants.{Status, Move}
 use Rattle.nm_model.specs.definitions.Status.{code}
-use Rattle.nm_types.specs.declared.taken.Taken.{Taken}
+use Rattle.nm_types.specs.declared.page_move.PageMove.{PageMove}
 use Rattle.nm_model.specs.definitions.Decide.{Choice, Decisions, has_moved, take_front, decide}
 use Rattle.nm_plan.specs.Closed.{is_one_of, new_pages, taking, status_by}
 
-abbrev pages_of : List Taken → List Page
+abbrev pages_of : List PageMove → List Page
 pages_of taken = map (λ t. t.page) taken
 
 -- the pages of moves, and a look at them
-moved_by_page : (taken : List Taken) (p : Page) → has_moved taken p ≡ is_one_of (pages_of taken) p
+moved_by_page : (taken : List PageMove) (p : Page) → has_moved taken p ≡ is_one_of (pages_of taken) p
 moved_by_page [] p = refl
 moved_by_page (t ∷ taken) p = ap (λ b. same_page p t.page || b) (moved_by_page taken p)
 
-pages_push : (taken : List Taken) (t : Taken) → pages_of (taken ++ t ∷ []) ≡ pages_of taken ++ t.page ∷ []
+pages_push : (taken : List PageMove) (t : PageMove) → pages_of (taken ++ t ∷ []) ≡ pages_of taken ++ t.page ∷ []
 pages_push [] t = refl
 pages_push (u ∷ taken) t = ap (λ (ps : List Page). u.page ∷ ps) (pages_push taken t)
 
@@ -35,7 +35,7 @@ no_frames [] = refl
 no_frames (e ∷ es) = refl
 
 -- one more request, where this is whether its page has moved
-after_one : Bool → Page → ℕ → List Class → List Taken → List ℕ → ℕ → Decisions
+after_one : Bool → Page → ℕ → List Class → List PageMove → List ℕ → ℕ → Decisions
 after_one b page from classes moved front target =
     let now : Choice = if b then record { status = pos target; taken = []; front = front } else take_front page from front target in
     let rest = decide classes (moved ++ now.taken) now.front target in
@@ -47,25 +47,25 @@ from_one b page from classes met = if b then new_pages met classes else (page, f
 
 -- what the moves are, from any on
 abbrev TakenIs : List Class → ℕ → Type 0
-TakenIs classes target = (moved : List Taken) (front : List ℕ) → (decide classes moved front target).taken ≡ map taking (zip (new_pages (pages_of moved) classes) front)
+TakenIs classes target = (moved : List PageMove) (front : List ℕ) → (decide classes moved front target).taken ≡ map taking (zip (new_pages (pages_of moved) classes) front)
 
-new_taken : (classes : List Class) (target : ℕ) → TakenIs classes target → (page : Page) (from : ℕ) (moved : List Taken) (front : List ℕ)
+new_taken : (classes : List Class) (target : ℕ) → TakenIs classes target → (page : Page) (from : ℕ) (moved : List PageMove) (front : List ℕ)
     → (after_one false page from classes moved front target).taken ≡ map taking (zip (from_one false page from classes (pages_of moved)) front)
 unfolding after_one from_one
 new_taken classes target rest page from moved [] =
-    ap (λ (ts : List Taken). (decide classes ts [] target).taken) (append-nil moved) ∙ rest moved [] ∙ ap (λ (es : List ((Page × ℕ) × ℕ)). map taking es) (no_frames (new_pages (pages_of moved) classes))
+    ap (λ (ts : List PageMove). (decide classes ts [] target).taken) (append-nil moved) ∙ rest moved [] ∙ ap (λ (es : List ((Page × ℕ) × ℕ)). map taking es) (no_frames (new_pages (pages_of moved) classes))
 new_taken classes target rest page from moved (f ∷ front) =
-    let t : Taken = record { page = page; from = from; to = f } in
-    ap (λ (ts : List Taken). t ∷ ts) (rest (moved ++ t ∷ []) front ∙ ap (λ (ps : List Page). map taking (zip (new_pages ps classes) front)) (pages_push moved t))
+    let t : PageMove = record { page = page; from = from; to = f } in
+    ap (λ (ts : List PageMove). t ∷ ts) (rest (moved ++ t ∷ []) front ∙ ap (λ (ps : List Page). map taking (zip (new_pages ps classes) front)) (pages_push moved t))
 
 pub taken_closed : (classes : List Class) (target : ℕ) → TakenIs classes target
 unfolding after_one from_one
 taken_closed [] target moved front = refl
 taken_closed (Status status ∷ classes) target moved front =
-    ap (λ (ts : List Taken). (decide classes ts front target).taken) (append-nil moved) ∙ taken_closed classes target moved front
+    ap (λ (ts : List PageMove). (decide classes ts front target).taken) (append-nil moved) ∙ taken_closed classes target moved front
 taken_closed (Move page from ∷ classes) target moved front =
     elim (has_moved moved page) as (λ b. (after_one b page from classes moved front target).taken ≡ map taking (zip (from_one b page from classes (pages_of moved)) front)) [
-      | true ↦ ap (λ (ts : List Taken). (decide classes ts front target).taken) (append-nil moved) ∙ taken_closed classes target moved front
+      | true ↦ ap (λ (ts : List PageMove). (decide classes ts front target).taken) (append-nil moved) ∙ taken_closed classes target moved front
       | false ↦ new_taken classes target (taken_closed classes target) page from moved front
     ]
     ∙ ap (λ b. map taking (zip (from_one b page from classes (pages_of moved)) front)) (moved_by_page moved page)
@@ -76,7 +76,7 @@ going met new front = met ++ map (λ e. e.0) (take (length front) new)
 
 -- what the statuses are, from any on
 abbrev StatusesAre : List Class → ℕ → Type 0
-StatusesAre classes target = (moved : List Taken) (front : List ℕ) → (decide classes moved front target).statuses ≡ map (status_by (going (pages_of moved) (new_pages (pages_of moved) classes) front) target) classes
+StatusesAre classes target = (moved : List PageMove) (front : List ℕ) → (decide classes moved front target).statuses ≡ map (status_by (going (pages_of moved) (new_pages (pages_of moved) classes) front) target) classes
 
 one_of_both : (ps qs : List Page) (p : Page) → is_one_of (ps ++ qs) p ≡ (is_one_of ps p || is_one_of qs p)
 one_of_both ps qs p = list_any-append (same_page p) ps qs
@@ -92,22 +92,22 @@ or_true false = refl
 joined : (s t : ℤ) (ss ts : List ℤ) → s ≡ t → ss ≡ ts → s ∷ ss ≡ t ∷ ts
 joined s t ss ts e f = ap (λ (x : ℤ). x ∷ ss) e ∙ ap (λ (xs : List ℤ). t ∷ xs) f
 
-moved_status : (classes : List Class) (target : ℕ) → StatusesAre classes target → (page : Page) (from : ℕ) (moved : List Taken) (front : List ℕ) → has_moved moved page ≡ true
+moved_status : (classes : List Class) (target : ℕ) → StatusesAre classes target → (page : Page) (from : ℕ) (moved : List PageMove) (front : List ℕ) → has_moved moved page ≡ true
     → (after_one true page from classes moved front target).statuses ≡ map (status_by (going (pages_of moved) (from_one true page from classes (pages_of moved)) front) target) (Move page from ∷ classes)
 unfolding after_one from_one
 moved_status classes target rest page from moved front h =
     let new = map (λ (e : Page × ℕ). e.0) (take (length front) (new_pages (pages_of moved) classes)) in
     let known : is_one_of (pages_of moved ++ new) page ≡ true = one_of_both (pages_of moved) new page ∙ ap (λ b. b || is_one_of new page) (sym (moved_by_page moved page) ∙ h) in
-    joined _ _ _ _ (sym (ap (λ b. if b then pos target else code Enomem) known)) (ap (λ (ts : List Taken). (decide classes ts front target).statuses) (append-nil moved) ∙ rest moved front)
+    joined _ _ _ _ (sym (ap (λ b. if b then pos target else code Enomem) known)) (ap (λ (ts : List PageMove). (decide classes ts front target).statuses) (append-nil moved) ∙ rest moved front)
 
-new_status : (classes : List Class) (target : ℕ) → StatusesAre classes target → (page : Page) (from : ℕ) (moved : List Taken) (front : List ℕ) → has_moved moved page ≡ false
+new_status : (classes : List Class) (target : ℕ) → StatusesAre classes target → (page : Page) (from : ℕ) (moved : List PageMove) (front : List ℕ) → has_moved moved page ≡ false
     → (after_one false page from classes moved front target).statuses ≡ map (status_by (going (pages_of moved) (from_one false page from classes (pages_of moved)) front) target) (Move page from ∷ classes)
 unfolding after_one from_one
 new_status classes target rest page from moved [] h =
     let unknown : is_one_of (pages_of moved ++ []) page ≡ false = ap (λ (ps : List Page). is_one_of ps page) (append-nil (pages_of moved)) ∙ sym (moved_by_page moved page) ∙ h in
-    joined _ _ _ _ (sym (ap (λ b. if b then pos target else code Enomem) unknown)) (ap (λ (ts : List Taken). (decide classes ts [] target).statuses) (append-nil moved) ∙ rest moved [])
+    joined _ _ _ _ (sym (ap (λ b. if b then pos target else code Enomem) unknown)) (ap (λ (ts : List PageMove). (decide classes ts [] target).statuses) (append-nil moved) ∙ rest moved [])
 new_status classes target rest page from moved (f ∷ front) h =
-    let t : Taken = record { page = page; from = from; to = f } in
+    let t : PageMove = record { page = page; from = from; to = f } in
     let met = pages_of moved in
     let new = map (λ (e : Page × ℕ). e.0) (take (length front) (new_pages (met ++ page ∷ []) classes)) in
     let known : is_one_of (met ++ page ∷ new) page ≡ true = one_of_both met (page ∷ new) page ∙ ap (λ b. is_one_of met page || (b || is_one_of new page)) (same_itself page) ∙ or_true (is_one_of met page) in
@@ -119,7 +119,7 @@ pub statuses_closed : (classes : List Class) (target : ℕ) → StatusesAre clas
 unfolding after_one from_one
 statuses_closed [] target moved front = refl
 statuses_closed (Status status ∷ classes) target moved front =
-    ap (λ (ss : List ℤ). status ∷ ss) (ap (λ (ts : List Taken). (decide classes ts front target).statuses) (append-nil moved) ∙ statuses_closed classes target moved front)
+    ap (λ (ss : List ℤ). status ∷ ss) (ap (λ (ts : List PageMove). (decide classes ts front target).statuses) (append-nil moved) ∙ statuses_closed classes target moved front)
 statuses_closed (Move page from ∷ classes) target moved front =
     elim (has_moved moved page) as (λ b. has_moved moved page ≡ b → (after_one b page from classes moved front target).statuses
     ≡ map (status_by (going (pages_of moved) (from_one b page from classes (pages_of moved)) front) target) (Move page from ∷ classes)) [

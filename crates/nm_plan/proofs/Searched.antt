@@ -15,7 +15,7 @@ use Rattle.std.specs.Prelude.{min}
 use Rattle.nm_types.proofs.Maps.{page_cmp_total}
 use Rattle.nm_types.specs.declared.page.Page.{Page}
 use Rattle.nm_types.specs.Map.{page_cmp, same_page}
-use Rattle.nm_types.specs.declared.taken.Taken.{Taken}
+use Rattle.nm_types.specs.declared.page_move.PageMove.{PageMove}
 use Rattle.nm_plan.specs.declared.search.Search.{Search}
 use Rattle.nm_model.specs.definitions.Decide.{has_moved}
 use Rattle.nm_plan.specs.Found.{Ascends, IsPast, Finds}
@@ -24,7 +24,7 @@ same_back : (p q : Page) → same_page p q ≡ same_page q p
 same_back = (eq_by_cmp_equiv page_cmp_total).symm
 
 -- the result of a search by halves, of moves whose pages ascend
-pub found_by_halves : (ts : List Taken) (p : Page) (r : Result ℕ ℕ) → Ascends ts → IsSearchInRange r (length ts) → IsBinarySearchResult (λ t. page_cmp t.page p) ts r → is_ok r ≡ has_moved ts p
+pub found_by_halves : (ts : List PageMove) (p : Page) (r : Result ℕ ℕ) → Ascends ts → IsSearchInRange r (length ts) → IsBinarySearchResult (λ t. page_cmp t.page p) ts r → is_ok r ≡ has_moved ts p
 found_by_halves [] p (Ok i) up l h = absurd (omega (arith, l))
 found_by_halves (t ∷ ts) p (Ok i) up l h = sym (list_any_at (λ u. same_page p u.page) (t ∷ ts) i t l (same_back p (get_or (t ∷ ts) i t).page ∙ ap is_eq (h t)))
 found_by_halves [] p (Err i) up l h = refl
@@ -40,7 +40,7 @@ lowest Equal low = absurd (omega (arith, low))
 lowest Greater low = absurd (omega (arith, low))
 
 -- a page past the last of moves whose pages ascend is among none of them
-pub past_all : (ts : List Taken) (p : Page) → Ascends ts → IsPast ts p → has_moved ts p ≡ false
+pub past_all : (ts : List PageMove) (p : Page) → Ascends ts → IsPast ts p → has_moved ts p ≡ false
 past_all [] p up past = refl
 past_all (t ∷ ts) p up past =
     let all = t ∷ ts in
@@ -64,29 +64,29 @@ rises x y p Greater low e = high (page_cmp x p)
     high Greater = omega arith
 
 -- one more move, whose page is past the last
-pub ascends_on : (ts : List Taken) (t : Taken) → Ascends ts → IsPast ts t.page → Ascends (ts ++ t ∷ [])
+pub ascends_on : (ts : List PageMove) (t : PageMove) → Ascends ts → IsPast ts t.page → Ascends (ts ++ t ∷ [])
 ascends_on ts t up past p = IsNonDecreasingBy-push (λ u. ordering_index (page_cmp u.page p)) ts t (up p) (λ d some. rises (get_or ts (length ts - 1) d).page t.page p (page_cmp t.page p) (past d some) refl)
 
 -- all moves, in three parts
-pub moved_in_parts : (ts : List Taken) (n : ℕ) (p : Page) → has_moved ts p ≡ (has_moved (take n ts) p || (has_moved (take 8 (drop n ts)) p || has_moved (drop 8 (drop n ts)) p))
+pub moved_in_parts : (ts : List PageMove) (n : ℕ) (p : Page) → has_moved ts p ≡ (has_moved (take n ts) p || (has_moved (take 8 (drop n ts)) p || has_moved (drop 8 (drop n ts)) p))
 moved_in_parts ts n p =
-    sym (ap (λ (us : List Taken). has_moved us p) (take-append-drop n ts)) ∙ list_any-append (λ t. same_page p t.page) (take n ts) (drop n ts)
-    ∙ ap (λ b. has_moved (take n ts) p || b) (sym (ap (λ (us : List Taken). has_moved us p) (take-append-drop 8 (drop n ts))) ∙ list_any-append (λ t. same_page p t.page) (take 8 (drop n ts)) (drop 8 (drop n ts)))
+    sym (ap (λ (us : List PageMove). has_moved us p) (take-append-drop n ts)) ∙ list_any-append (λ t. same_page p t.page) (take n ts) (drop n ts)
+    ∙ ap (λ b. has_moved (take n ts) p || b) (sym (ap (λ (us : List PageMove). has_moved us p) (take-append-drop 8 (drop n ts))) ∙ list_any-append (λ t. same_page p t.page) (take 8 (drop n ts)) (drop 8 (drop n ts)))
 
 -- the first few, where they are counted
-pub first_few : (ts : List Taken) (n : ℕ) → n ≡ min (length ts) 8 → take n ts ≡ take 8 ts
+pub first_few : (ts : List PageMove) (n : ℕ) → n ≡ min (length ts) 8 → take n ts ≡ take 8 ts
 first_few ts n e =
     ⊎_elim (λ few. ap (λ k. take k ts) (e ∙ min-eq_left (omega arith)) ∙ take_all (length ts) ts (omega arith) ∙ sym (take_all 8 ts (omega arith)))
     (λ many. ap (λ k. take k ts) (e ∙ min-eq_right many)) (cases_lt (length ts) 8)
 
 -- the moves past the few after the first n
-abbrev past_few : ℕ → List Taken → List Taken
+abbrev past_few : ℕ → List PageMove → List PageMove
 past_few n ts = drop 8 (drop n ts)
 
-few_past : (n : ℕ) (ts : List Taken) → length ts ≤ n + 8 → past_few n ts ≡ []
+few_past : (n : ℕ) (ts : List PageMove) → length ts ≤ n + 8 → past_few n ts ≡ []
 few_past n ts few = drop_all 8 (drop n ts) (omega (arith, length-drop n ts))
 
-module _ {A : Type 0} (s : Search A) (ts : List Taken) (t : Taken) (h : Finds s ts) where
+module _ {A : Type 0} (s : Search A) (ts : List PageMove) (t : PageMove) (h : Finds s ts) where
   longer : length (ts ++ t ∷ []) ≡ length ts + 1
   longer = length-append ts (t ∷ [])
 
@@ -98,7 +98,7 @@ module _ {A : Type 0} (s : Search A) (ts : List Taken) (t : Taken) (h : Finds s 
       record {
         within = omega (arith, all, longer);
         ascends = subst Ascends (sym more) (ascends_on ts t (subst Ascends whole h.ascends) past);
-        later = λ p. h.later p ∙ ap (λ (us : List Taken). has_moved us p) (few_past s.ascending ts (omega (arith, all)) ∙ sym (few_past (s.ascending + 1) (ts ++ t ∷ []) (omega (arith, all, longer))));
+        later = λ p. h.later p ∙ ap (λ (us : List PageMove). has_moved us p) (few_past s.ascending ts (omega (arith, all)) ∙ sym (few_past (s.ascending + 1) (ts ++ t ∷ []) (omega (arith, all, longer))));
       }
 
   first_kept : Ascends (take s.ascending (ts ++ t ∷ []))
@@ -109,7 +109,7 @@ module _ {A : Type 0} (s : Search A) (ts : List Taken) (t : Taken) (h : Finds s 
   one_of_few few = record {
     within = omega (arith, h.within, longer);
     ascends = first_kept;
-    later = λ p. h.later p ∙ ap (λ (us : List Taken). has_moved us p) (few_past s.ascending ts (omega arith) ∙ sym (few_past s.ascending (ts ++ t ∷ []) (omega (arith, longer))));
+    later = λ p. h.later p ∙ ap (λ (us : List PageMove). has_moved us p) (few_past s.ascending ts (omega arith) ∙ sym (few_past s.ascending (ts ++ t ∷ []) (omega (arith, longer))));
   }
 
   cond_or : (b h : Bool) → cond b true h ≡ (h || (b || false))
@@ -122,8 +122,8 @@ module _ {A : Type 0} (s : Search A) (ts : List Taken) (t : Taken) (h : Finds s 
   pub one_past_few : (new : BTreeSet Page) → s.ascending + 8 ≤ length ts → Updates page_cmp s.later new t.page true → Finds {A = A} (record { ascending = s.ascending; later = new }) (ts ++ t ∷ [])
   one_past_few new many updates =
       let behind = λ (p : Page).
-      ap (λ (us : List Taken). has_moved (drop 8 us) p) (drop-append-le s.ascending ts (t ∷ []) h.within)
-      ∙ ap (λ (us : List Taken). has_moved us p) (drop-append-le 8 (drop s.ascending ts) (t ∷ []) (omega (arith, length-drop s.ascending ts)))
+      ap (λ (us : List PageMove). has_moved (drop 8 us) p) (drop-append-le s.ascending ts (t ∷ []) h.within)
+      ∙ ap (λ (us : List PageMove). has_moved us p) (drop-append-le 8 (drop s.ascending ts) (t ∷ []) (omega (arith, length-drop s.ascending ts)))
       ∙ list_any-append (λ u. same_page p u.page) (past_few s.ascending ts) (t ∷ []) in
       record {
         within = omega (arith, h.within, longer);

@@ -7,7 +7,7 @@ use Rattle.nm_types.specs.Map.{same_page}
 use Rattle.nm_types.specs.declared.request.Class.{Class}
 use Rattle.nm_types.specs.declared.request.Class.TheVariants.{Status, Move}
 use Rattle.nm_model.specs.definitions.Status.{code}
-use Rattle.nm_types.specs.declared.taken.Taken.{Taken}
+use Rattle.nm_types.specs.declared.page_move.PageMove.{PageMove}
 
 -- whether a page is one of these
 abbrev pub is_one_of : List Page → Page → Bool
@@ -22,7 +22,7 @@ new_pages met (Move page from ∷ classes) =
     if is_one_of met page then new_pages met classes else (page, from) ∷ new_pages (met ++ page ∷ []) classes
 
 -- a page with the frame that it leaves and the frame that it takes
-abbrev pub taking : (Page × ℕ) × ℕ → Taken
+abbrev pub taking : (Page × ℕ) × ℕ → PageMove
 taking e = record { page = e.0.0; from = e.0.1; to = e.1 }
 
 -- the pages that move: of those that are to, as many as there are free frames

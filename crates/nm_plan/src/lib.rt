@@ -6,6 +6,6 @@ mod outcome;
 mod planning;
 mod search;
 
-pub use nm_types::Taken;
+pub use nm_types::PageMove;
 pub use outcome::Plan;
 pub use planning::plan;

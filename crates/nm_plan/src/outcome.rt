@@ -2,7 +2,7 @@
 
 ghost use Rattle.std.specs.Prelude.{◌≡◌};
 
-use crate::Taken;
+use crate::PageMove;
 use std::alloc::Allocator;
 use std::marker::Model;
 
@@ -10,7 +10,7 @@ use std::marker::Model;
 /// the first request that found no free frame.
 #[derive(Debug, Drop)]
 pub struct Plan<A: Allocator + Copy> {
-    pub(crate) moves: Vec<Taken, A>,
+    pub(crate) moves: Vec<PageMove, A>,
     pub(crate) statuses: Vec<i32, A>,
     pub(crate) shortage: Option<usize>,
 }
@@ -25,7 +25,7 @@ impl<A: Allocator + Copy> Model for Plan<A> {
 
 impl<A: Allocator + Copy> Plan<A> {
     /// The pages that move, in order, each once, with the frame that it leaves and the frame that it takes.
-    pub fn moves(&self) -> &[Taken]
+    pub fn moves(&self) -> &[PageMove]
         ensures { result.now ≡ self.now.taken }
     {
         self.moves.as_slice()

@@ -5,7 +5,7 @@ ghost use Rattle.std.specs.List.{zip};
 ghost use Rattle.nm_model.specs.definitions.Decide.{choose, is_short, plan_run};
 ghost use Rattle.nm_plan.specs.Found.{Finds};
 
-use crate::Taken;
+use crate::PageMove;
 use crate::outcome::Plan;
 use crate::search::Search;
 use nm_runs::Class;
@@ -20,7 +20,7 @@ fn choose<A: Allocator + Copy>(
     class: Class,
     free_front: &[FrameId],
     target: NodeId,
-    moves: &mut Vec<Taken, A>,
+    moves: &mut Vec<PageMove, A>,
     search: &mut Search<A>,
 ) -> Result<i32, AllocError>
     requires target { target < 2 ^ 31 }
@@ -65,7 +65,7 @@ fn choose<A: Allocator + Copy>(
         return Ok(-Errno::Enomem.number());
     };
     search.add(moves.as_slice(), page)?;
-    moves.push_reserved(Taken {
+    moves.push_reserved(PageMove {
         page,
         from,
         to: *to,

@@ -5,7 +5,7 @@ ghost use Rattle.std.specs.Bool.{OnTrue, OnFalse};
 ghost use Rattle.nm_model.specs.definitions.Decide.{has_moved};
 ghost use Rattle.nm_plan.specs.Found.{Ascends, IsPast, Finds};
 
-use crate::Taken;
+use crate::PageMove;
 use nm_types::Page;
 use std::alloc::{AllocError, Allocator};
 use std::collections::BTreeSet;
@@ -14,14 +14,14 @@ use std::collections::BTreeSet;
 const FEW: usize = 8;
 
 /// Whether one of these moves is the page's.
-fn is_among(moves: &[Taken], page: Page) -> bool
+fn is_among(moves: &[PageMove], page: Page) -> bool
     ensures { result ≡ has_moved moves.now page }
 {
     moves.iter().any(|taken| page.cmp(&taken.page).is_eq())
 }
 
 /// Whether a page comes after that of the last of these moves, or there are none.
-fn is_past(moves: &[Taken], page: Page) -> bool
+fn is_past(moves: &[PageMove], page: Page) -> bool
     ensures past { OnTrue result (IsPast moves.now page) }
     ensures otherwise { OnFalse result (IsPast moves.now page → ⊥) }
 {
@@ -30,7 +30,7 @@ fn is_past(moves: &[Taken], page: Page) -> bool
 
 /// Whether one of these moves, whose pages ascend, is the page's. Most runs name their pages in ascending order, so most
 /// pages come after all that have moved, which the last one shows.
-fn is_among_ascending(moves: &[Taken], page: Page) -> bool
+fn is_among_ascending(moves: &[PageMove], page: Page) -> bool
     requires { Ascends moves.now }
     ensures { result ≡ has_moved moves.now page }
 {
@@ -63,7 +63,7 @@ impl<A: Allocator + Copy> Search<A> {
     }
 
     /// Whether one of these moves is the page's.
-    pub(crate) fn has(&self, moves: &[Taken], page: Page) -> bool
+    pub(crate) fn has(&self, moves: &[PageMove], page: Page) -> bool
         requires { Finds self.now moves.now }
         ensures { result ≡ has_moved moves.now page }
     {
@@ -76,10 +76,10 @@ impl<A: Allocator + Copy> Search<A> {
 
     /// Notes a page that moves after these. An error means that the host is out of memory; after fewer than eight moves
     /// none is asked for.
-    pub(crate) fn add(&mut self, moves: &[Taken], page: Page) -> Result<(), AllocError>
+    pub(crate) fn add(&mut self, moves: &[PageMove], page: Page) -> Result<(), AllocError>
         requires { Finds self.old moves.now }
         ensures noted { OnOk result
-            ((taken : Taken) → taken.page ≡ page → Finds self.new (moves.now ++ taken ∷ [])) }
+            ((taken : PageMove) → taken.page ≡ page → Finds self.new (moves.now ++ taken ∷ [])) }
         ensures asked { OnErr result (8 ≤ length moves.now) }
     {
         let behind = moves.len() - self.ascending;

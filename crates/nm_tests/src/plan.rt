@@ -1,4 +1,4 @@
-use nm_plan::{Plan, Taken, laws, plan};
+use nm_plan::{Plan, PageMove, laws, plan};
 use nm_runs::Class;
 use nm_types::{FrameId, NodeId, Page};
 use std::alloc::{AllocError, Global};
@@ -18,8 +18,8 @@ fn leaves(index: u64, from: u16) -> Class {
 }
 
 /// A page of the first segment that moves from one frame to another.
-fn goes(index: u64, from: u16, to: u16) -> Taken {
-    Taken {
+fn goes(index: u64, from: u16, to: u16) -> PageMove {
+    PageMove {
         page: page(index),
         from: FrameId::new(from),
         to: FrameId::new(to),

@@ -18,7 +18,7 @@ mod process;
 mod request;
 mod seen;
 mod sight;
-mod taken;
+mod page_move;
 
 pub use access::Access;
 pub use area::{Area, Policy, Segment};
@@ -35,4 +35,4 @@ pub use process::ProcessInfo;
 pub use request::{Class, Request, Wanted};
 pub use seen::{PageView, Seen};
 pub use sight::Sight;
-pub use taken::Taken;
+pub use page_move::PageMove;

@@ -12,7 +12,7 @@ use Rattle.nm_types.specs.Map.{Map, get, page_cmp, same_page, with_values}
 use Rattle.nm_types.specs.State.{State}
 use Rattle.nm_types.proofs.Maps.{page_cmp_total, keys-values}
 use Rattle.nm_model.specs.definitions.Frames.{Store, IsHome, overwrite}
-use Rattle.nm_types.specs.declared.taken.Taken.{Taken}
+use Rattle.nm_types.specs.declared.page_move.PageMove.{PageMove}
 use Rattle.nm_spaces.specs.views.AddressSpaces.{AddressSpacesView, with_moved, table_of}
 use Rattle.nm_memory.specs.views.Populated.{IsPopulated}
 use Rattle.nm_memory.specs.views.Copies.{without_move, without_moves, with_copies, CanCopy, HasBoth}
@@ -89,7 +89,7 @@ all_inside (d ∷ dues) moved s due = (due.0.2, all_inside dues moved s due.1)
 no : true ≡ false → ⊥
 no e = cc
 
-moved_beside : (taken : List Taken) (y : AddressSpacesView) (p : Page) → list_any (same_page p) (pages_of taken) ≡ false → get page_cmp (all_moved y taken).place p ≡ get page_cmp y.place p
+moved_beside : (taken : List PageMove) (y : AddressSpacesView) (p : Page) → list_any (same_page p) (pages_of taken) ≡ false → get page_cmp (all_moved y taken).place p ≡ get page_cmp y.place p
 moved_beside [] y p other = refl
 moved_beside (t ∷ taken) y p other =
     moved_beside taken (with_moved y t.page t.to) p (neither (same_page p t.page) _ other)
@@ -105,13 +105,13 @@ one_here f = ap (λ b. cond b 1 0) (Rattle.std.proofs.Common.eq-eqb f f refl)
 none_here : (f g : ℕ) (xs : List ℕ) → times f (g ∷ xs) ≡ 0 → f ≢ g
 none_here f g xs none e = let one : here f g ≡ 1 = ap (here f) (sym e) ∙ one_here f in omega (arith, none, one, times_cons f g xs)
 
-populated_meanwhile : (taken : List Taken) (store : Store) (f : ℕ) → times f (frames_left taken) ≡ 0 → times f (frames_taken taken) ≡ 0 → IsPopulated store f → IsPopulated (without_moves store taken) f
+populated_meanwhile : (taken : List PageMove) (store : Store) (f : ℕ) → times f (frames_left taken) ≡ 0 → times f (frames_taken taken) ≡ 0 → IsPopulated store f → IsPopulated (without_moves store taken) f
 populated_meanwhile [] store f from to whole = whole
 populated_meanwhile (t ∷ taken) store f from to whole =
     populated_meanwhile taken (without_move store t) f (omega (arith, from, times_cons f t.from (frames_left taken))) (omega (arith, to, times_cons f t.to (frames_taken taken)))
     (stays_populated store t f (none_here f t.from (frames_left taken) from) (none_here f t.to (frames_taken taken) to) whole)
 
-home_meanwhile : (taken : List Taken) (store : Store) (f : ℕ) → times f (frames_left taken) ≡ 0 → times f (frames_taken taken) ≡ 0 → IsHome store f → IsHome (without_moves store taken) f
+home_meanwhile : (taken : List PageMove) (store : Store) (f : ℕ) → times f (frames_left taken) ≡ 0 → times f (frames_taken taken) ≡ 0 → IsHome store f → IsHome (without_moves store taken) f
 home_meanwhile [] store f from to home = home
 home_meanwhile (t ∷ taken) store f from to home =
     home_meanwhile taken (without_move store t) f (omega (arith, from, times_cons f t.from (frames_left taken))) (omega (arith, to, times_cons f t.to (frames_taken taken)))
@@ -127,7 +127,7 @@ placed_apart s l p f h placed = none_more (times f (values_of s.place)) (sum_by 
 
 -- ---- all at once
 
-module _ (y : AddressSpacesView) (k : FramesView) (online : List ℕ) (moved failed target : ℕ) (taken : List Taken) (dues : List PendingAccess) where
+module _ (y : AddressSpacesView) (k : FramesView) (online : List ℕ) (moved failed target : ℕ) (taken : List PageMove) (dues : List PendingAccess) where
   -- the frames as if those that are taken were still a node's
   abbrev pub given : FramesView
   given = record k { free = slice_set k.free target (frames_taken taken ++ free_on k target); vacated = [] }

@@ -1,7 +1,7 @@
 -- A run whose pages are on their way: how it begins, and what accesses make of it.
 use Rattle.std.proofs.Common.{◌≡◌, ℕ, List, [], ◌∷◌, map, length, refl, sym, ap, subst, ◌∙◌}
 use Rattle.std.specs.List.{AllByRecursion}
-use Rattle.nm_types.specs.declared.taken.Taken.{Taken}
+use Rattle.nm_types.specs.declared.page_move.PageMove.{PageMove}
 use Rattle.nm_types.specs.State.{State}
 use Rattle.nm_frames.specs.declared.job.CopyJob.{CopyJob}
 use Rattle.nm_frames.specs.Job.{job_after_copy}
@@ -26,7 +26,7 @@ use Rattle.nm_engine.proofs.InFlight.AfterCopy.{all_done_shows}
 use Rattle.nm_engine.proofs.InFlight.AllAtOnce.{all_made_sound}
 
 -- the frames of a run that has begun, once its bytes are home, are those with the pages copied
-module _ {A : Type 0} (k v w : FramesView) (moves : List Taken) (jobs : List (CopyJob A)) (left : v ≡ record k { vacated = frames_left moves })
+module _ {A : Type 0} (k v w : FramesView) (moves : List PageMove) (jobs : List (CopyJob A)) (left : v ≡ record k { vacated = frames_left moves })
     (out : w ≡ record v { frames = without_moves v.frames moves; room = w.room }) (laid : jobs ≡ jobs_of 0 v.frames moves) (can : CanCopy k.frames moves) where
   gone : w ≡ record k { frames = without_moves k.frames moves; vacated = frames_left moves; room = w.room }
   gone = out ∙ ap (λ (x : FramesView). record x { frames = without_moves x.frames moves; room = w.room }) left

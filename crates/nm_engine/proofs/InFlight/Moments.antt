@@ -8,7 +8,7 @@ use Rattle.nm_types.specs.State.{State}
 use Rattle.nm_types.specs.declared.entry.Entry.{Entry}
 use Rattle.nm_types.specs.declared.page.Page.{Page}
 use Rattle.nm_types.specs.declared.request.Wanted.{Wanted}
-use Rattle.nm_types.specs.declared.taken.Taken.{Taken}
+use Rattle.nm_types.specs.declared.page_move.PageMove.{PageMove}
 use Rattle.nm_frames.specs.declared.job.CopyJob.{CopyJob}
 use Rattle.nm_model.specs.definitions.Accesses.{after_access}
 use Rattle.nm_model.specs.definitions.BeforeCopy.{PendingAccess, after_copy, all_after_copy, answer_after_copy}
@@ -33,7 +33,7 @@ use Rattle.nm_memory.specs.definitions.AfterCopy.{CanDo, all_stored_after_copy, 
 use Rattle.nm_engine.specs.views.Flights.{Flight, AreOutIn, HoldsMovingPages, IsFlightOf, state_in_flight, with_store}
 use Rattle.nm_engine.proofs.InFlight.Flights.{answers_then, state_then}
 
-abbrev pub pages_of : List Taken → List Page
+abbrev pub pages_of : List PageMove → List Page
 pages_of moves = map (λ t. t.page) moves
 
 -- the frames that pages leave are the first ends of their jobs
@@ -41,7 +41,7 @@ first_ends : (jobs : List Job) → sources jobs ≡ map (λ (e : ℕ × ℕ). e.
 first_ends [] = refl
 first_ends (job ∷ jobs) = ap (λ fs. job.source.0 ∷ fs) (first_ends jobs)
 
-left_first : (moves : List Taken) → map (λ (e : ℕ × ℕ). e.0) (map (λ (t : Taken). (t.from, t.to)) moves) ≡ frames_left moves
+left_first : (moves : List PageMove) → map (λ (e : ℕ × ℕ). e.0) (map (λ (t : PageMove). (t.from, t.to)) moves) ≡ frames_left moves
 left_first [] = refl
 left_first (t ∷ moves) = ap (λ fs. t.from ∷ fs) (left_first moves)
 
@@ -63,9 +63,9 @@ module _ {A : Type 0} (m : RunMachine) (x : Flight) (jobs : List (CopyJob A)) wh
   begins target wanted p holds rest sound alike plan taken shows =
       let b = begun_is m target wanted rest sound alike in
       let moves : (each_request (state_of m) target wanted).taken ≡ x.moves = plan.agrees.taken ∙ taken in
-      at_moment x jobs (begin_run m target wanted) holds (subst (λ (ts : List Taken). IsInFlight (begin_run m target wanted) (pages_of ts)) moves b.midway)
+      at_moment x jobs (begin_run m target wanted) holds (subst (λ (ts : List PageMove). IsInFlight (begin_run m target wanted) (pages_of ts)) moves b.midway)
       (b.state ∙ plan.agrees.state ∙ ap (with_moves (state_of m) target) taken ∙ sym shows)
-      (b.ends ∙ ap (map (λ (t : Taken). (t.from, t.to))) moves)
+      (b.ends ∙ ap (map (λ (t : PageMove). (t.from, t.to))) moves)
 
   -- events of which none ends the run change bytes alone
   stays : (n : RunMachine) (store : Store) (given : List (CopyJob A)) → IsFlightOf m x jobs → IsInFlight n (pages_of x.moves) → state_of n ≡ state_in_flight (with_store x store) given → map frames_of_job n.jobs ≡ map frames_of_job m.jobs → IsFlightOf n (with_store x store) given
@@ -111,6 +111,6 @@ module _ {A : Type 0} (m : RunMachine) (x : Flight) (jobs : List (CopyJob A)) wh
       → state_of (end_run m) ≡ with_counts (with_all_free (state_in_flight x jobs) (frames_left x.moves)) (length x.moves) (failures statuses)
   ends statuses now all told =
       let left = first_ends m.jobs ∙ ap (map (λ (e : ℕ × ℕ). e.0)) now.ends ∙ left_first x.moves in
-      let count : length m.jobs ≡ length x.moves = sym (length-map m.jobs (λ (job : Job). job.source.0)) ∙ ap length left ∙ length-map x.moves (λ (t : Taken). t.from) in
+      let count : length m.jobs ≡ length x.moves = sym (length-map m.jobs (λ (job : Job). job.source.0)) ∙ ap length left ∙ length-map x.moves (λ (t : PageMove). t.from) in
       ended_is m (pages_of x.moves) now.midway all
       ∙ (λ i. with_counts (with_all_free (now.state i) (left i)) (count i) (failures (told i)))

@@ -3,7 +3,7 @@ use Rattle.std.proofs.Common.{◌≡◌, ℕ, ◌<◌, List, [], ◌++◌, lengt
 use Rattle.std.specs.Prelude.{slice_set, slice_index_or}
 use Rattle.std.proofs.lemmas.List.{get_or-set_same, set-set, set-get_or, take-append-drop}
 use Rattle.nm_types.specs.State.{State, free_list}
-use Rattle.nm_types.specs.declared.taken.Taken.{Taken}
+use Rattle.nm_types.specs.declared.page_move.PageMove.{PageMove}
 use Rattle.nm_spaces.specs.views.AddressSpaces.{AddressSpacesView}
 use Rattle.nm_model.specs.definitions.BeforeCopy.{without_fronts, with_fronts, frames_taken}
 use Rattle.nm_memory.specs.views.Frames.{FramesView, free_on}
@@ -15,7 +15,7 @@ use Rattle.nm_laws.proofs.Early.Fronts.{fronts_sound}
 use Rattle.nm_laws.proofs.Early.Phases.{tos_are}
 
 -- the machine is sound with the frames taken
-pub taken_kept : (y : AddressSpacesView) (k w : FramesView) (online : List ℕ) (moved failed target : ℕ) (moves : List Taken) → IsSoundMachine (shown_by y k online moved failed) k.vacated y.frames
+pub taken_kept : (y : AddressSpacesView) (k w : FramesView) (online : List ℕ) (moved failed target : ℕ) (moves : List PageMove) → IsSoundMachine (shown_by y k online moved failed) k.vacated y.frames
     → k.vacated ≡ [] → target < length k.free → CanMove (shown_by y k online moved failed) target moves
     → w ≡ record k { free = slice_set k.free target (drop (length moves) (free_on k target)); vacated = k.vacated ++ frames_taken moves }
     → IsSoundMachine (shown_by y w online moved failed) w.vacated y.frames
@@ -29,7 +29,7 @@ taken_kept y k w online moved failed target moves kept none inside can is =
     subst (λ (x : FramesView). IsSoundMachine (shown_by y x online moved failed) x.vacated y.frames) (sym there) (record { sound = known; as_many = kept.as_many })
 
 -- frames that are given back are where they were
-pub back_again : (s : State) (target : ℕ) (moves : List Taken) → target < length s.free → CanMove s target moves → with_fronts (without_fronts s target (length moves)) target (frames_taken moves) ≡ s
+pub back_again : (s : State) (target : ℕ) (moves : List PageMove) → target < length s.free → CanMove s target moves → with_fronts (without_fronts s target (length moves)) target (frames_taken moves) ≡ s
 back_again s target moves inside can =
     let l = free_list s target in
     let n = length moves in

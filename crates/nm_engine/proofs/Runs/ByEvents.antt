@@ -2,7 +2,7 @@
 use Rattle.std.proofs.Common.{◌≡◌, ℕ, List, true, cond, map, sym, subst, ap, ◌∙◌}
 use Rattle.std.specs.Prelude.{Bool, false, Option, Some, None, ◌&&◌}
 use Rattle.nm_types.specs.State.{State}
-use Rattle.nm_types.specs.declared.taken.Taken.{Taken}
+use Rattle.nm_types.specs.declared.page_move.PageMove.{PageMove}
 use Rattle.nm_frames.specs.declared.job.CopyJob.{CopyJob}
 use Rattle.nm_model.specs.definitions.Decide.{RunPlan}
 use Rattle.nm_model.specs.definitions.Events.{after, begin_run, is_moving, is_ready}
@@ -25,7 +25,7 @@ use Rattle.nm_engine.proofs.InFlight.Moments.{at_moment, pages_of}
 module _ {A : Type 0} where
   -- a machine at rest in the state before begins the run of the plan, comes to where the engine's run is while its jobs are
   -- done, and ends as that does
-  pub goes_by_events : (s : State) (asked : RunRequest) (p : RunPlan) (moves : List Taken) (x : Flight) (jobs : List (CopyJob A)) (ran : RunResult)
+  pub goes_by_events : (s : State) (asked : RunRequest) (p : RunPlan) (moves : List PageMove) (x : Flight) (jobs : List (CopyJob A)) (ran : RunResult)
       → IsSound s → HasOneAll asked.wanted → IsPlanOf s asked.target asked.wanted p → moves ≡ p.taken → x.moves ≡ moves → HoldsMovingPages x
       → state_in_flight x jobs ≡ (all_in_flight (with_moves s asked.target moves) (pages_of moves) asked.accesses).state
       → map pair_of jobs ≡ map (λ t. (t.from, t.to)) moves → EndsAs x jobs ran.statuses ran.state → ran ≡ result_of_run s asked → GoesByEvents s asked x jobs ran
@@ -45,11 +45,11 @@ module _ {A : Type 0} where
       let taken_is : (each_request (state_of m) t ws).taken ≡ moves = ap (λ (z : State). (each_request z t ws).taken) read.2 ∙ plan.agrees.taken ∙ sym taken in
       let begins : state_of k ≡ with_moves s t moves = first.state ∙ ap (λ (z : State). (each_request z t ws).state) read.2 ∙ plan.agrees.state ∙ ap (with_moves s t) (sym taken) in
       let accesses = last.accesses ∙ end.4 in
-      let midway : IsInFlight last.now (pages_of moves) = subst (λ (ts : List Taken). IsInFlight last.now (pages_of ts)) taken_is flown.midway in
+      let midway : IsInFlight last.now (pages_of moves) = subst (λ (ts : List PageMove). IsInFlight last.now (pages_of ts)) taken_is flown.midway in
       let state : state_of last.now ≡ state_in_flight x jobs = flown.state ∙ (λ i. (all_in_flight (begins i) (pages_of (taken_is i)) (accesses i)).state) ∙ sym shows in
-      let pair : List Taken → List (ℕ × ℕ) = map (λ t. (t.from, t.to)) in
+      let pair : List PageMove → List (ℕ × ℕ) = map (λ t. (t.from, t.to)) in
       let ends = flown.ends ∙ first.ends ∙ ap pair taken_is in
-      let moment = at_moment x jobs last.now held (subst (λ (ts : List Taken). IsInFlight last.now (pages_of ts)) (sym same) midway) state (ends ∙ ap pair (sym same)) in
+      let moment = at_moment x jobs last.now held (subst (λ (ts : List PageMove). IsInFlight last.now (pages_of ts)) (sym same) midway) state (ends ∙ ap pair (sym same)) in
       let law : IsRun end.1 ran = subst (IsRun end.1) ((λ i. run (read.2 i) t ws (end.4 i)) ∙ sym made) (every_order_is_the_run m t ws end.0 end.1 end.2 end.3) in
       let over = subst (λ (n : RunMachine). IsRun n ran) (sym last.over) law in
       record {

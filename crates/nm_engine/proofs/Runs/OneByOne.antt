@@ -19,7 +19,7 @@ use Rattle.nm_types.specs.declared.request.Wanted.TheVariants.{At as Spot, Whole
 use Rattle.nm_model.specs.definitions.Seen.{sight_in, look_in, look_at_place, look_behind, frame_and_pin, is_pinned}
 use Rattle.nm_runs.specs.Shown.{class_of_place, class_shown, HasFrameBelow, ShowsItsFrames}
 use Rattle.nm_model.specs.definitions.Status.{page_status, status_or_move}
-use Rattle.nm_types.specs.declared.taken.Taken.{Taken}
+use Rattle.nm_types.specs.declared.page_move.PageMove.{PageMove}
 use Rattle.nm_model.specs.definitions.Decide.{Choice, Decisions, has_moved, take_front, decide, shortage, RunPlan, plan_run}
 use Rattle.nm_model.specs.definitions.Run.{moved_page, decision, each_request, HasOneAll}
 use Rattle.nm_model.specs.definitions.Sound.{times, FramesAreOnce, OwnsItsFree}
@@ -39,7 +39,7 @@ page_can : (s : State) (target : ℕ) (p : Page) (from : ℕ) (ws : List Wanted)
     → CanMove s target ((moved_page s target p from front).taken ++ (each_request (moved_page s target p from front).state target ws).taken)
 page_can s target p from ws placed away later [] e = later s
 page_can s target p from ws placed away later (frame ∷ rest) e =
-    let t : Taken = record { page = p; from = from; to = frame } in
+    let t : PageMove = record { page = p; from = from; to = frame } in
     let after = λ (fs : List ℕ). record (with_move target s t) { free = slice_set s.free target fs } in (
       placed,
       ap (λ (fs : List ℕ). slice_get fs 0) e,
@@ -57,21 +57,21 @@ each_can [] target s = tt
 each_can (w ∷ ws) target s = class_can s target (status_or_move s target w) ws (status_placed s target w) (status_away s target w) (each_can ws target)
 
 -- as many frames as requests are enough
-after_few : Bool → Page → ℕ → List Class → List Taken → List ℕ → ℕ → Decisions
+after_few : Bool → Page → ℕ → List Class → List PageMove → List ℕ → ℕ → Decisions
 after_few b page from classes moved front target =
     let now : Choice = if b then record { status = pos target; taken = []; front = front } else take_front page from front target in
     let rest = decide classes (moved ++ now.taken) now.front target in
     record { statuses = now.status ∷ rest.statuses; taken = now.taken ++ rest.taken }
 
 abbrev FewSuffice : List Class → ℕ → Type 0
-FewSuffice classes target = (moved : List Taken) (front : List ℕ) (n : ℕ) → length classes ≤ n → decide classes moved (take n front) target ≡ decide classes moved front target
+FewSuffice classes target = (moved : List PageMove) (front : List ℕ) (n : ℕ) → length classes ≤ n → decide classes moved (take n front) target ≡ decide classes moved front target
 
-new_few : (classes : List Class) (target : ℕ) → FewSuffice classes target → (page : Page) (from : ℕ) (moved : List Taken) (front : List ℕ) (n : ℕ) → length classes ≤ n
+new_few : (classes : List Class) (target : ℕ) → FewSuffice classes target → (page : Page) (from : ℕ) (moved : List PageMove) (front : List ℕ) (n : ℕ) → length classes ≤ n
     → after_few false page from classes moved (take (suc n) front) target ≡ after_few false page from classes moved front target
 unfolding after_few
 new_few classes target rest page from moved [] n enough = refl
 new_few classes target rest page from moved (x ∷ front) n enough =
-    let t : Taken = record { page = page; from = from; to = x } in
+    let t : PageMove = record { page = page; from = from; to = x } in
     ap (λ (d : Decisions). record { statuses = pos target ∷ d.statuses; taken = t ∷ d.taken }) (rest (moved ++ t ∷ []) front n enough)
 
 pub few_suffice : (classes : List Class) (target : ℕ) → FewSuffice classes target

@@ -8,7 +8,7 @@ use Rattle.std.proofs.lemmas.List.Sums.{sum_by_more_le, sum_by-append}
 use Rattle.nm_types.specs.Layout.{Layout, frame_count, node_of}
 use Rattle.nm_types.specs.State.{State, free_list}
 use Rattle.nm_model.specs.definitions.Frames.{Store, IsHome, bytes_of}
-use Rattle.nm_types.specs.declared.taken.Taken.{Taken}
+use Rattle.nm_types.specs.declared.page_move.PageMove.{PageMove}
 use Rattle.nm_spaces.specs.views.AddressSpaces.{AddressSpacesView, with_moved, table_of}
 use Rattle.nm_memory.specs.views.Copies.{with_copy, with_copies, without_move, CanCopy}
 use Rattle.nm_memory.specs.views.Frames.{FramesView, HasAllFrames, free_on}
@@ -29,14 +29,14 @@ use Rattle.nm_engine.proofs.MidRun.RunPages.{move_shows, move_kept, some_front}
 use Rattle.nm_memory.proofs.FreeLists.Fronts.{fronts_list}
 
 -- the frames of one move, and of several
-abbrev carried : ℕ → FramesView → Taken → FramesView
+abbrev carried : ℕ → FramesView → PageMove → FramesView
 carried target k t = record k { frames = with_copy k.frames t; free = slice_set k.free target (drop 1 (free_on k target)); vacated = k.vacated ++ t.from ∷ [] }
 
-abbrev pub all_carried : ℕ → FramesView → List Taken → FramesView
+abbrev pub all_carried : ℕ → FramesView → List PageMove → FramesView
 all_carried target k taken = fold (carried target) k taken
 
 -- the frames of several moves, part by part
-pub by_parts : (taken : List Taken) (target : ℕ) (k : FramesView) → target < length k.free
+pub by_parts : (taken : List PageMove) (target : ℕ) (k : FramesView) → target < length k.free
     → all_carried target k taken ≡ record k { frames = with_copies k.frames taken; free = slice_set k.free target (drop (length taken) (free_on k target)); vacated = k.vacated ++ frames_left taken }
 by_parts [] target k inside =
     sym (ap (λ (f : List (List ℕ)). record k { free = f; vacated = k.vacated ++ [] }) (set-get_or k.free target []) ∙ ap (λ (v : List ℕ). record k { vacated = v }) (append-nil k.vacated))
@@ -46,7 +46,7 @@ by_parts (t ∷ taken) target k inside =
     ∙ ap (λ (f : List (List ℕ)). record k { frames = copies; free = f; vacated = (k.vacated ++ t.from ∷ []) ++ frames_left taken }) (fronts_list k.free target (length taken) (free_on k target) inside)
     ∙ ap (λ (v : List ℕ). record k { frames = copies; free = slice_set k.free target (drop (suc (length taken)) (free_on k target)); vacated = v }) (append_assoc k.vacated (t.from ∷ []) (frames_left taken))
 
-carried_shelf : (k : FramesView) (target : ℕ) (t : Taken) → HasAllFrames k → HasAllFrames (carried target k t)
+carried_shelf : (k : FramesView) (target : ℕ) (t : PageMove) → HasAllFrames k → HasAllFrames (carried target k t)
 carried_shelf k target t h = record {
   lists = length-set k.free target (drop 1 (free_on k target)) ∙ h.lists;
   buffers = length-set k.frames t.to (Some (bytes_of k.frames t.from)) ∙ h.buffers;
@@ -54,12 +54,12 @@ carried_shelf k target t h = record {
 }
 
 -- what moves make of address spaces and frames together
-pub record IsCarried (y : AddressSpacesView) (k : FramesView) (online : List ℕ) (moved failed target : ℕ) (taken : List Taken) : Type 0 where
+pub record IsCarried (y : AddressSpacesView) (k : FramesView) (online : List ℕ) (moved failed target : ℕ) (taken : List PageMove) : Type 0 where
   pub shown : shown_by (all_moved y taken) (all_carried target k taken) online moved failed ≡ with_moves (shown_by y k online moved failed) target taken
   pub kept : IsSoundMachine (shown_by (all_moved y taken) (all_carried target k taken) online moved failed) (all_carried target k taken).vacated (all_moved y taken).frames
   pub remap : CanRemap y taken
 
-pub is_carried : (taken : List Taken) (y : AddressSpacesView) (k : FramesView) (online : List ℕ) (moved failed target : ℕ) → IsSoundMachine (shown_by y k online moved failed) k.vacated y.frames → HasAllFrames k
+pub is_carried : (taken : List PageMove) (y : AddressSpacesView) (k : FramesView) (online : List ℕ) (moved failed target : ℕ) → IsSoundMachine (shown_by y k online moved failed) k.vacated y.frames → HasAllFrames k
     → CanMove (shown_by y k online moved failed) target taken → IsCarried y k online moved failed target taken
 is_carried [] y k online moved failed target kept shelf can = record { shown = refl; kept = kept; remap = tt }
 is_carried (t ∷ taken) y k online moved failed target kept shelf can =
@@ -85,10 +85,10 @@ is_carried (t ∷ taken) y k online moved failed target kept shelf can =
     }
 
 -- the frames that moves take
-abbrev tos : List Taken → List ℕ
+abbrev tos : List PageMove → List ℕ
 tos taken = map (λ t. t.to) taken
 
-pub tos_are : (taken : List Taken) (s : State) (target : ℕ) → CanMove s target taken → tos taken ≡ take (length taken) (free_list s target)
+pub tos_are : (taken : List PageMove) (s : State) (target : ℕ) → CanMove s target taken → tos taken ≡ take (length taken) (free_list s target)
 tos_are [] s target can = refl
 tos_are (t ∷ taken) s target can =
     let list = free_list s target in
@@ -97,7 +97,7 @@ tos_are (t ∷ taken) s target can =
     ∙ sym (ap (λ (l : List ℕ). take (suc (length taken)) l) front)
 
 -- frames, of which one is on another node and one on the target, and both are home
-abbrev IsFine : Store → Layout → ℕ → Taken → Type 0
+abbrev IsFine : Store → Layout → ℕ → PageMove → Type 0
 IsFine store g target t = (node_of g t.from ≢ target) × (node_of g t.to ≡ target) × IsHome store t.from × IsHome store t.to
 
 times_both : (f : ℕ) (xs ys : List ℕ) → times f (xs ++ ys) ≡ times f xs + times f ys
@@ -109,7 +109,7 @@ one_here f = ap (λ b. cond b 1 0) (eq-eqb f f refl)
 none_here : (f g : ℕ) (xs : List ℕ) → times f (g ∷ xs) ≡ 0 → g ≢ f
 none_here f g xs none e = let one : here f g ≡ 1 = ap (here f) e ∙ one_here f in omega (arith, none, one, times_cons f g xs)
 
-fine_rest : (us : List Taken) (store : Store) (g : Layout) (target : ℕ) (t : Taken) → node_of g t.from ≢ target → node_of g t.to ≡ target → AllByRecursion (IsFine store g target) us
+fine_rest : (us : List PageMove) (store : Store) (g : Layout) (target : ℕ) (t : PageMove) → node_of g t.from ≢ target → node_of g t.to ≡ target → AllByRecursion (IsFine store g target) us
     → times t.from (frames_left us) ≡ 0 → times t.to (tos us) ≡ 0 → AllByRecursion (IsFine (without_move store t) g target) us
 fine_rest [] store g target t away on all none nor = tt
 fine_rest (u ∷ us) store g target t away on all none nor =
@@ -123,7 +123,7 @@ fine_rest (u ∷ us) store g target t away on all none nor =
       fine_rest us store g target t away on all.1 (omega (arith, none, times_cons t.from u.from (frames_left us))) (omega (arith, nor, times_cons t.to u.to (tos us))),
     )
 
-can_copy : (taken : List Taken) (store : Store) (g : Layout) (target : ℕ) → AllByRecursion (IsFine store g target) taken → ((f : ℕ) → times f (frames_left taken) ≤ 1) → ((f : ℕ) → times f (tos taken) ≤ 1) → CanCopy store taken
+can_copy : (taken : List PageMove) (store : Store) (g : Layout) (target : ℕ) → AllByRecursion (IsFine store g target) taken → ((f : ℕ) → times f (frames_left taken) ≤ 1) → ((f : ℕ) → times f (tos taken) ≤ 1) → CanCopy store taken
 can_copy [] store g target all few once = tt
 can_copy (t ∷ taken) store g target all few once =
     let fine = all.0 in
@@ -136,7 +136,7 @@ can_copy (t ∷ taken) store g target all few once =
           (λ f. let a = few f in omega (arith, a, times_cons f t.from (frames_left taken))) (λ f. let a = once f in omega (arith, a, times_cons f t.to (tos taken))),
     )
 
-all_fine : (taken : List Taken) (s : State) (g : Layout) (k : FramesView) (target : ℕ) → s.layout ≡ g → k.layout ≡ g → HasAllFrames k → CanMove s target taken
+all_fine : (taken : List PageMove) (s : State) (g : Layout) (k : FramesView) (target : ℕ) → s.layout ≡ g → k.layout ≡ g → HasAllFrames k → CanMove s target taken
     → ((f : ℕ) → 1 ≤ times f (frames_left taken) → f < frame_count g) → ((f : ℕ) → 1 ≤ times f (tos taken) → f < frame_count g) → AllByRecursion (λ f. node_of g f ≡ target) (tos taken)
     → AllByRecursion (IsFine k.frames g target) taken
 all_fine [] s g k target e f shelf can below under on = tt
@@ -166,7 +166,7 @@ at_most a b c d true e part = omega (arith, e, part)
 at_most a b c d false e part = omega (arith, e, part)
 
 -- the frames of moves can be copied all at once
-pub carried_copy : (taken : List Taken) (y : AddressSpacesView) (k : FramesView) (online : List ℕ) (moved failed target : ℕ) → IsSoundMachine (shown_by y k online moved failed) k.vacated y.frames → HasAllFrames k → target < length k.free
+pub carried_copy : (taken : List PageMove) (y : AddressSpacesView) (k : FramesView) (online : List ℕ) (moved failed target : ℕ) → IsSoundMachine (shown_by y k online moved failed) k.vacated y.frames → HasAllFrames k → target < length k.free
     → CanMove (shown_by y k online moved failed) target taken → IsCarried y k online moved failed target taken → CanCopy k.frames taken
 carried_copy taken y k online moved failed target kept shelf inside can done =
     let g = k.layout in
@@ -197,7 +197,7 @@ each_in P [] h = tt
 each_in P (x ∷ xs) h = (h x (omega (arith, one_here x, times_cons x x xs)), each_in P xs (λ f some. h f (omega (arith, some, times_cons f x xs))))
 
 -- the frames that moves take are the machine's
-pub tos_below : (taken : List Taken) (s : State) (target : ℕ) (frames_left : List ℕ) → target < length s.free → FramesAreOnce s.layout s.place s.free frames_left → CanMove s target taken → AllByRecursion (λ f. f < frame_count s.layout) (tos taken)
+pub tos_below : (taken : List PageMove) (s : State) (target : ℕ) (frames_left : List ℕ) → target < length s.free → FramesAreOnce s.layout s.place s.free frames_left → CanMove s target taken → AllByRecursion (λ f. f < frame_count s.layout) (tos taken)
 tos_below taken s target frames_left inside once can =
     let n = length taken in
     let list = free_list s target in

@@ -5,7 +5,7 @@ use Rattle.std.specs.List.{AllByRecursion}
 use Rattle.std.specs.Ordering.{is_eq}
 use Rattle.std.specs.Cmp.{tied_itself}
 use Rattle.nm_types.specs.declared.page.Page.{Page}
-use Rattle.nm_types.specs.declared.taken.Taken.{Taken}
+use Rattle.nm_types.specs.declared.page_move.PageMove.{PageMove}
 use Rattle.nm_types.specs.Map.{Map, get, set, page_cmp}
 use Rattle.nm_types.specs.Layout.{node_of}
 use Rattle.nm_types.specs.State.{State}
@@ -45,10 +45,10 @@ placed : (m : Map Page ℕ) (p : Page) (v : ℕ) → get page_cmp (set page_cmp 
 placed m p v = get-set page_cmp_total m p v p ∙ ap (λ b. cond b (Some v) (get page_cmp m p)) (ap is_eq (tied_itself page_cmp_total p))
 
 -- the page of a move is in the frame that it leaves, which is on another node
-abbrev pub Leaves : State → ℕ → Taken → Type 0
+abbrev pub Leaves : State → ℕ → PageMove → Type 0
 Leaves s target t = (get page_cmp s.place t.page ≡ Some t.from) × (node_of s.layout t.from ≢ target)
 
-leave_before : (taken : List Taken) (s : State) (target : ℕ) (t : Taken) → node_of s.layout t.to ≡ target → AllByRecursion (Leaves (with_move target s t) target) taken → AllByRecursion (Leaves s target) taken
+leave_before : (taken : List PageMove) (s : State) (target : ℕ) (t : PageMove) → node_of s.layout t.to ≡ target → AllByRecursion (Leaves (with_move target s t) target) taken → AllByRecursion (Leaves s target) taken
 leave_before [] s target t there all = tt
 leave_before (u ∷ taken) s target t there all =
     let apart : u.page ≢ t.page = λ same.
@@ -56,15 +56,15 @@ leave_before (u ∷ taken) s target t there all =
     all.0.1 (ap (node_of s.layout) (sym to) ∙ there) in
     ((sym (beside s.place t.page u.page t.to apart) ∙ all.0.0, all.0.1), leave_before taken s target t there all.1)
 
-pub all_leave : (taken : List Taken) (s : State) (target : ℕ) → AllByRecursion (λ f. node_of s.layout f ≡ target) (frames_taken taken) → CanMove s target taken → AllByRecursion (Leaves s target) taken
+pub all_leave : (taken : List PageMove) (s : State) (target : ℕ) → AllByRecursion (λ f. node_of s.layout f ≡ target) (frames_taken taken) → CanMove s target taken → AllByRecursion (Leaves s target) taken
 all_leave [] s target on can = tt
 all_leave (t ∷ taken) s target on can = ((can.0, can.2), leave_before taken s target t on.0 (all_leave taken (with_move target s t) target on.1 can.3))
 
-pub left_populated : (taken : List Taken) (s : State) (target : ℕ) (store : Store) → AllByRecursion (λ e. length e.1 ≡ 4096) (bytes_in store s.place) → AllByRecursion (Leaves s target) taken → AllByRecursion (IsPopulated store) (frames_left taken)
+pub left_populated : (taken : List PageMove) (s : State) (target : ℕ) (store : Store) → AllByRecursion (λ e. length e.1 ≡ 4096) (bytes_in store s.place) → AllByRecursion (Leaves s target) taken → AllByRecursion (IsPopulated store) (frames_left taken)
 left_populated [] s target store whole all = tt
 left_populated (t ∷ taken) s target store whole all = (place_populated store s.place t.page t.from whole all.0.0, left_populated taken s target store whole all.1)
 
-pub both_populated : (taken : List Taken) (store : Store) → AllByRecursion (IsPopulated store) (frames_left taken) → AllByRecursion (IsPopulated store) (frames_taken taken) → AllByRecursion (HasBoth store) taken
+pub both_populated : (taken : List PageMove) (store : Store) → AllByRecursion (IsPopulated store) (frames_left taken) → AllByRecursion (IsPopulated store) (frames_taken taken) → AllByRecursion (HasBoth store) taken
 both_populated [] store froms fronts = tt
 both_populated (t ∷ taken) store froms fronts = ((froms.0, fronts.0), both_populated taken store froms.1 fronts.1)
 

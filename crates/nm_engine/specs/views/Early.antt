@@ -3,7 +3,7 @@ use Rattle.std.specs.Prelude.{◌≡◌, ℕ, ◌≤◌, List, map, length, vec_
 use Rattle.std.specs.List.{AllByRecursion}
 use Rattle.std.specs.declared.vec.Vec.{Vec}
 use Rattle.nm_types.specs.declared.page.Page.{Page}
-use Rattle.nm_types.specs.declared.taken.Taken.{Taken}
+use Rattle.nm_types.specs.declared.page_move.PageMove.{PageMove}
 use Rattle.nm_model.specs.definitions.BeforeCopy.{all_before_copy, before_copy, frames_taken, without_fronts}
 use Rattle.nm_model.specs.definitions.Touch.{Access}
 use Rattle.nm_memory.specs.declared.pending_access.PendingAccess.{PendingAccess as Left}
@@ -11,7 +11,7 @@ use Rattle.nm_memory.specs.views.Accesses.{HasRoom, pending_shown}
 use Rattle.nm_engine.specs.views.MidRun.{RunState, with_state}
 
 -- the run has the frames that these moves take from a node, and room for those that its pages leave
-pub record TakesFrames (old : RunState) (target : ℕ) (moves : List Taken) (new : RunState) : Type 0 where
+pub record TakesFrames (old : RunState) (target : ℕ) (moves : List PageMove) (new : RunState) : Type 0 where
   pub state : new.state ≡ without_fronts old.state target (length moves)
   pub left : new.left ≡ frames_taken moves
   pub room : length moves ≤ new.room
@@ -31,7 +31,7 @@ module _ {A : Type 0} where
     pub len : vec_len left ≡ length accesses
 
   -- a run of these moves to a node is prepared: first its frames are taken, and then the accesses are touched
-  pub record Prepares (old : RunState) (target : ℕ) (moves : List Taken) (accesses : List Access) (new : RunState)
+  pub record Prepares (old : RunState) (target : ℕ) (moves : List PageMove) (accesses : List Access) (new : RunState)
       (dues : Vec (Left A) A) : Type 0 where
     pub between : RunState
     pub frames : TakesFrames old target moves between

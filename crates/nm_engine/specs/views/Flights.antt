@@ -5,7 +5,7 @@ use Rattle.std.specs.declared.vec.Vec.{Vec}
 use Rattle.nm_types.specs.Map.{Map}
 use Rattle.nm_types.specs.declared.entry.Entry.TheVariants.{Held}
 use Rattle.nm_types.specs.declared.request.Wanted.{Wanted}
-use Rattle.nm_types.specs.declared.taken.Taken.{Taken}
+use Rattle.nm_types.specs.declared.page_move.PageMove.{PageMove}
 use Rattle.nm_types.specs.Layout.{node_count}
 use Rattle.nm_types.specs.State.{State}
 use Rattle.nm_frames.specs.declared.job.CopyJob.{CopyJob}
@@ -36,7 +36,7 @@ use Rattle.nm_engine.specs.views.MidRun.{RunState, IsSoundMachine}
 use Rattle.nm_engine.specs.views.Shown.{shown_by}
 
 -- the frames that these moves take from a node belong to the run, and it could make the moves if they were still the node's
-pub record IsReadyFor (x : RunState) (target : ℕ) (moves : List Taken) : Type 0 where
+pub record IsReadyFor (x : RunState) (target : ℕ) (moves : List PageMove) : Type 0 where
   pub node : target < node_count x.state.layout
   pub taken : x.left ≡ frames_taken moves
   pub sound : IsSound (with_fronts x.state target (frames_taken moves))
@@ -54,10 +54,10 @@ pub record Flight : Type 0 where
   pub moved : ℕ
   pub failed : ℕ
   -- the run's moves
-  pub moves : List Taken
+  pub moves : List PageMove
 
 -- these address spaces and frames while these pages are on their way
-abbrev pub flight_of : HeldView → FramesView → List ℕ → ℕ → ℕ → List Taken → Flight
+abbrev pub flight_of : HeldView → FramesView → List ℕ → ℕ → ℕ → List PageMove → Flight
 flight_of held frames online moved failed moves =
     record { tables = held.tables; spaces = held.spaces; frames = frames; online = online; moved = moved; failed = failed; moves = moves }
 
@@ -119,7 +119,7 @@ module _ {A : Type 0} where
     pub answers : map answer_shown told ≡ (all_stored_after_copy x.spaces.place x.frames.frames (map pending_shown dues)).answers
 
   -- a run machine that begins the run of a plan with these moves is then at this moment
-  abbrev pub BeginsSo : RunState → List Taken → Flight → List (CopyJob A) → Type 0
+  abbrev pub BeginsSo : RunState → List PageMove → Flight → List (CopyJob A) → Type 0
   BeginsSo prepared moves x jobs =
       (m : RunMachine) (target : ℕ) (wanted : List Wanted) (p : RunPlan) →
       IsAtRest m → HasOneAll wanted → IsReadyFor prepared target moves →

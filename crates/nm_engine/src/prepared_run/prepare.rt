@@ -20,7 +20,7 @@ use crate::prepared_run::undo::Undo;
 use crate::resolved_address::ResolvedAddress;
 use crate::touch::push_zeros;
 use nm_memory::{AccessAnswer, PendingAccess};
-use nm_plan::Taken;
+use nm_plan::PageMove;
 use nm_types::{Access, MachineError, NodeId, Page, Pid, Vpn};
 use std::alloc::{AllocError, Allocator};
 use std::collections::BTreeSet;
@@ -33,7 +33,7 @@ impl<A: Allocator + Copy> PreparedRun<A> {
     pub(crate) fn prepare<'d>(
         &mut self,
         target: NodeId,
-        moves: &[Taken],
+        moves: &[PageMove],
         accesses: &[&'d Access<A>],
     ) -> Result<Vec<PendingAccess<'d, A>, A>, AllocError>
         requires target { target < node_count self.old.state.layout }
@@ -58,7 +58,7 @@ impl<A: Allocator + Copy> PreparedRun<A> {
     /// Takes the frames of moves to a node: they leave the node's list and belong to the run until its pages are in
     /// them. Each gets its bytes in memory, and room is reserved for the frames that the pages leave. An error means that
     /// the host is out of memory, and that nothing has changed but that room.
-    fn take_frames(&mut self, target: NodeId, moves: &[Taken]) -> Result<(), AllocError>
+    fn take_frames(&mut self, target: NodeId, moves: &[PageMove]) -> Result<(), AllocError>
         requires target { target < node_count self.old.state.layout }
         requires none { self.old.left ≡ [] }
         requires moves { CanMove self.old.state target moves.now }
@@ -77,7 +77,7 @@ impl<A: Allocator + Copy> PreparedRun<A> {
     /// the host is out of memory, and that nothing has changed.
     fn touch_each<'d>(
         &mut self,
-        moves: &[Taken],
+        moves: &[PageMove],
         accesses: &[&'d Access<A>],
     ) -> Result<Vec<PendingAccess<'d, A>, A>, AllocError>
         ensures touched { IfOk result
@@ -203,7 +203,7 @@ impl<A: Allocator + Copy> PreparedRun<A> {
 }
 
 /// The pages of moves, in order.
-fn pages_of<A: Allocator + Copy>(alloc: A, moves: &[Taken]) -> Result<BTreeSet<Page, A>, AllocError>
+fn pages_of<A: Allocator + Copy>(alloc: A, moves: &[PageMove]) -> Result<BTreeSet<Page, A>, AllocError>
     ensures pages { IfOk result
         (λ pages. (p : Page) →
         list_any (same_page p) pages.keys

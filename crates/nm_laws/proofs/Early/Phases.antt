@@ -12,7 +12,7 @@ use Rattle.nm_types.specs.State.{State, free_list}
 use Rattle.nm_types.proofs.Maps.{page_cmp_total, get-set}
 use Rattle.nm_types.specs.declared.request.Class.TheVariants.{Move}
 use Rattle.nm_types.specs.declared.request.Wanted.{Wanted}
-use Rattle.nm_types.specs.declared.taken.Taken.{Taken}
+use Rattle.nm_types.specs.declared.page_move.PageMove.{PageMove}
 use Rattle.nm_model.specs.definitions.Decide.{RunPlan}
 use Rattle.nm_model.specs.definitions.Touch.{Access, all_in_flight}
 use Rattle.nm_laws.specs.Laws.{with_move, with_moves}
@@ -28,11 +28,11 @@ use Rattle.nm_laws.proofs.Early.Places.{places_too, pages_among, moves_are_place
 use Rattle.nm_laws.proofs.Early.Fronts.{fronts_sound, returned_sound, all_taken}
 use Rattle.nm_laws.proofs.Early.Ready.{all_due, all_layout}
 
-abbrev pub pages_of : List Taken → List Page
+abbrev pub pages_of : List PageMove → List Page
 pages_of taken = map (λ t. t.page) taken
 
 -- moves keep a machine sound
-pub moves_sound : (taken : List Taken) (s : State) (l : List ℕ) (target : ℕ) → IsSoundInFlight s l → CanMove s target taken → IsSoundInFlight (with_moves s target taken) (l ++ frames_left taken)
+pub moves_sound : (taken : List PageMove) (s : State) (l : List ℕ) (target : ℕ) → IsSoundInFlight s l → CanMove s target taken → IsSoundInFlight (with_moves s target taken) (l ++ frames_left taken)
 moves_sound [] s l target h can = subst (IsSoundInFlight s) (sym (append-nil l)) h
 moves_sound (t ∷ taken) s l target h can =
     let front = front_is (free_list s target) t.to can.1 in
@@ -40,7 +40,7 @@ moves_sound (t ∷ taken) s l target h can =
     subst (IsSoundInFlight (with_moves s target (t ∷ taken))) (append_assoc l (t.from ∷ []) (frames_left taken)) (moves_sound taken (with_move target s t) (l ++ t.from ∷ []) target now can.3)
 
 -- the frames that moves take are the front ones
-pub tos_are : (taken : List Taken) (s : State) (target : ℕ) → target < length s.free → CanMove s target taken → frames_taken taken ≡ take (length taken) (free_list s target)
+pub tos_are : (taken : List PageMove) (s : State) (target : ℕ) → target < length s.free → CanMove s target taken → frames_taken taken ≡ take (length taken) (free_list s target)
 tos_are [] s target inside can = refl
 tos_are (t ∷ taken) s target inside can =
     let list = free_list s target in
@@ -53,13 +53,13 @@ tos_are (t ∷ taken) s target inside can =
 abbrev Stands : State → State → Type 0
 Stands s t = (p : Page) (f : ℕ) → get page_cmp s.place p ≡ Some f → get page_cmp t.place p ≡ Some f
 
-still_stands : (s t : State) (target : ℕ) (m : Taken) → Stands s t → Stands (with_move target s m) (with_move target t m)
+still_stands : (s t : State) (target : ℕ) (m : PageMove) → Stands s t → Stands (with_move target s m) (with_move target t m)
 still_stands s t target m same p f e =
     get-set page_cmp_total t.place m.page m.to p
     ∙ elim (is_eq (page_cmp p m.page)) as (λ b. cond b (Some m.to) (get page_cmp s.place p) ≡ Some f → cond b (Some m.to) (get page_cmp t.place p) ≡ Some f) [ true ↦ λ e. e | false ↦ λ e. same p f e ]
     (sym (get-set page_cmp_total s.place m.page m.to p) ∙ e)
 
-can_still : (taken : List Taken) (s t : State) (target : ℕ) (rest : List ℕ) → CanMove s target taken → t.layout ≡ s.layout → Stands s t → target < length t.free → free_list t target ≡ frames_taken taken ++ rest → CanMove t target taken
+can_still : (taken : List PageMove) (s t : State) (target : ℕ) (rest : List ℕ) → CanMove s target taken → t.layout ≡ s.layout → Stands s t → target < length t.free → free_list t target ≡ frames_taken taken ++ rest → CanMove t target taken
 can_still [] s t target rest can nodes same inside front = tt
 can_still (m ∷ taken) s t target rest can nodes same inside front = (
   same m.page m.from can.0,
@@ -69,12 +69,12 @@ can_still (m ∷ taken) s t target rest can nodes same inside front = (
       (get_or-set_same t.free target (drop 1 (free_list t target)) [] inside ∙ ap (λ (l : List ℕ). drop 1 l) front),
 )
 
-drop_tos : (taken : List Taken) (rest : List ℕ) → drop (length taken) (frames_taken taken ++ rest) ≡ rest
+drop_tos : (taken : List PageMove) (rest : List ℕ) → drop (length taken) (frames_taken taken ++ rest) ≡ rest
 drop_tos [] rest = refl
 drop_tos (t ∷ taken) rest = drop_tos taken rest
 
 -- frames that went back and are taken again
-pub again_list : (taken : List Taken) (free : List (List ℕ)) (target : ℕ) → target < length free → let given = slice_set free target (frames_taken taken ++ slice_index_or free target []) in slice_set given target (drop (length taken) (slice_index_or given target [])) ≡ free
+pub again_list : (taken : List PageMove) (free : List (List ℕ)) (target : ℕ) → target < length free → let given = slice_set free target (frames_taken taken ++ slice_index_or free target []) in slice_set given target (drop (length taken) (slice_index_or given target [])) ≡ free
 again_list taken free target inside =
     let l = slice_index_or free target [] in
     let given = frames_taken taken ++ l in
@@ -82,11 +82,11 @@ again_list taken free target inside =
     ∙ ap (λ (xs : List ℕ). slice_set free target xs) (ap (λ (xs : List ℕ). drop (length taken) xs) (get_or-set_same free target given [] inside) ∙ drop_tos taken l)
     ∙ set-get_or free target []
 
-again : (taken : List Taken) (s : State) (target : ℕ) → target < length s.free → without_fronts (with_fronts s target (frames_taken taken)) target (length taken) ≡ s
+again : (taken : List PageMove) (s : State) (target : ℕ) → target < length s.free → without_fronts (with_fronts s target (frames_taken taken)) target (length taken) ≡ s
 again taken s target inside = ap (λ free. record s { free = free }) (again_list taken s.free target inside)
 
 -- a run with accesses in flight
-module _ (s : State) (target : ℕ) (taken : List Taken) (accesses : List Access) where
+module _ (s : State) (target : ℕ) (taken : List PageMove) (accesses : List Access) where
   -- once its frames are taken
   abbrev pub fronts_taken : State
   fronts_taken = without_fronts s target (length taken)

@@ -16,7 +16,7 @@ use Rattle.nm_types.specs.declared.entry.Entry.{Entry}
 use Rattle.nm_types.specs.declared.entry.Entry.TheVariants.{Zero, Frame, Held}
 use Rattle.nm_model.specs.definitions.Frames.{Store, bytes_of}
 use Rattle.nm_types.specs.declared.request.Wanted.{Wanted}
-use Rattle.nm_types.specs.declared.taken.Taken.{Taken}
+use Rattle.nm_types.specs.declared.page_move.PageMove.{PageMove}
 use Rattle.nm_model.specs.definitions.PageTables.{entry_at, process_of, sight_of, entry_of}
 use Rattle.nm_model.specs.definitions.Seen.{sight_at}
 use Rattle.nm_model.specs.definitions.Run.{Progress, HasOneAll, each_request, frames_left}
@@ -43,28 +43,28 @@ no e = cc
 -- ---- the jobs of moves
 
 module _ (buf : Store) where
-  sources_of : (taken : List Taken) → sources (jobs_of buf taken) ≡ frames_left taken
+  sources_of : (taken : List PageMove) → sources (jobs_of buf taken) ≡ frames_left taken
   sources_of [] = refl
   sources_of (t ∷ taken) = ap (λ xs. t.from ∷ xs) (sources_of taken)
 
-  targets_of : (taken : List Taken) → targets (jobs_of buf taken) ≡ map (λ t. t.to) taken
+  targets_of : (taken : List PageMove) → targets (jobs_of buf taken) ≡ map (λ t. t.to) taken
   targets_of [] = refl
   targets_of (t ∷ taken) = ap (λ xs. t.to ∷ xs) (targets_of taken)
 
-  ends_are : (taken : List Taken) → map frames_of_job (jobs_of buf taken) ≡ map (λ t. (t.from, t.to)) taken
+  ends_are : (taken : List PageMove) → map frames_of_job (jobs_of buf taken) ≡ map (λ t. (t.from, t.to)) taken
   ends_are [] = refl
   ends_are (t ∷ taken) = ap (λ xs. (t.from, t.to) ∷ xs) (ends_are taken)
 
-  count_of : (taken : List Taken) → length (jobs_of buf taken) ≡ length taken
+  count_of : (taken : List PageMove) → length (jobs_of buf taken) ≡ length taken
   count_of [] = refl
   count_of (t ∷ taken) = ap suc (count_of taken)
 
-  copied_of : (taken : List Taken) → AreCopied (jobs_of buf taken)
+  copied_of : (taken : List PageMove) → AreCopied (jobs_of buf taken)
   copied_of [] = tt
   copied_of (t ∷ taken) = (λ e. absurd (no e), copied_of taken)
 
   -- a job's source has the bytes that were in the frame
-  content_of : (other : Store) (taken : List Taken) (f : ℕ) → is_some (job_from (jobs_of buf taken) f) ≡ true → content other (jobs_of buf taken) f ≡ bytes_of buf f
+  content_of : (other : Store) (taken : List PageMove) (f : ℕ) → is_some (job_from (jobs_of buf taken) f) ≡ true → content other (jobs_of buf taken) f ≡ bytes_of buf f
   content_of other [] f h = absurd (no h)
   content_of other (t ∷ taken) f h =
       elim (t.from == f) as (λ b. (t.from == f) ≡ b → is_some (cond b (Some (laid_for buf t)) (job_from (jobs_of buf taken) f)) ≡ true
@@ -74,7 +74,7 @@ module _ (buf : Store) where
       ] refl h
 
 -- frames of one node are targets, and those of others are sources
-source_elsewhere : (g : ℕ → ℕ) (target : ℕ) (taken : List Taken) (f : ℕ) → AllByRecursion (λ t. (g t.from == target) ≡ false) taken → 1 ≤ times f (frames_left taken) → (g f == target) ≡ false
+source_elsewhere : (g : ℕ → ℕ) (target : ℕ) (taken : List PageMove) (f : ℕ) → AllByRecursion (λ t. (g t.from == target) ≡ false) taken → 1 ≤ times f (frames_left taken) → (g f == target) ≡ false
 source_elsewhere g target [] f all some = absurd (omega (arith, some))
 source_elsewhere g target (t ∷ taken) f all some =
     let s = times_cons f t.from (frames_left taken) in
@@ -83,10 +83,10 @@ source_elsewhere g target (t ∷ taken) f all some =
       | false ↦ λ b. let none : here f t.from ≡ 0 = ap (λ c. cond c 1 0) b in source_elsewhere g target taken f all.1 (omega (arith, none, s, some))
     ] refl
 
-target_there : (g : ℕ → ℕ) (target : ℕ) (taken : List Taken) (f : ℕ) → AllByRecursion (λ t. g t.to ≡ target) taken → 1 ≤ times f (map (λ (t : Taken). t.to) taken) → g f ≡ target
+target_there : (g : ℕ → ℕ) (target : ℕ) (taken : List PageMove) (f : ℕ) → AllByRecursion (λ t. g t.to ≡ target) taken → 1 ≤ times f (map (λ (t : PageMove). t.to) taken) → g f ≡ target
 target_there g target [] f all some = absurd (omega (arith, some))
 target_there g target (t ∷ taken) f all some =
-    let s = times_cons f t.to (map (λ (t : Taken). t.to) taken) in
+    let s = times_cons f t.to (map (λ (t : PageMove). t.to) taken) in
     elim (t.to == f) as (λ b. (t.to == f) ≡ b → g f ≡ target) [
       | true ↦ λ b. subst (λ x. g x ≡ target) (eqb-true t.to f b) all.0
       | false ↦ λ b. let none : here f t.to ≡ 0 = ap (λ c. cond c 1 0) b in target_there g target taken f all.1 (omega (arith, none, s, some))
@@ -178,7 +178,7 @@ module _ (m : RunMachine) (target : ℕ) (wanted : List Wanted) (rest : IsAtRest
   jobs = jobs_of m.buf p.taken
 
   -- the beginning by the moves and the statuses
-  abbrev laid : List Taken → List ℤ → RunMachine
+  abbrev laid : List PageMove → List ℤ → RunMachine
   laid taken statuses = record m {
     phase = Moving;
     tasks = with_entries (held_by (jobs_of m.buf taken)) m.tasks;
@@ -205,8 +205,8 @@ module _ (m : RunMachine) (target : ℕ) (wanted : List Wanted) (rest : IsAtRest
 
   target_times : (f : ℕ) → times f (targets jobs) ≤ sum_by (times f) m.free
   target_times f =
-      let few : times f (map (λ (t : Taken). t.to) p.taken) ≤ times f (slice_index_or m.free target []) = decided_here.few f in
-      let is : times f (targets jobs) ≡ times f (map (λ (t : Taken). t.to) p.taken) = ap (times f) (targets_of m.buf p.taken) in
+      let few : times f (map (λ (t : PageMove). t.to) p.taken) ≤ times f (slice_index_or m.free target []) = decided_here.few f in
+      let is : times f (targets jobs) ≡ times f (map (λ (t : PageMove). t.to) p.taken) = ap (times f) (targets_of m.buf p.taken) in
       let free = times_free m.free target f in
       omega (arith, few, is, free)
 
@@ -261,7 +261,7 @@ module _ (m : RunMachine) (target : ℕ) (wanted : List Wanted) (rest : IsAtRest
   once_each f =
       let d = decided_here in
       let s : times f (sources jobs) ≡ times f (frames_left p.taken) = ap (times f) (sources_of m.buf p.taken) in
-      let t : times f (targets jobs) ≡ times f (map (λ (t : Taken). t.to) p.taken) = ap (times f) (targets_of m.buf p.taken) in
+      let t : times f (targets jobs) ≡ times f (map (λ (t : PageMove). t.to) p.taken) = ap (times f) (targets_of m.buf p.taken) in
       let few = target_times f in
       let most = free_times f in
       let after : times f (values_of p.state.place) + sum_by (times f) p.state.free + times f (frames_left p.taken) ≤ 1 = one_at_most _ (nat_lt f (frame_count p.state.layout)) (sound_then.frames.once f) in
@@ -269,11 +269,11 @@ module _ (m : RunMachine) (target : ℕ) (wanted : List Wanted) (rest : IsAtRest
         | true ↦ λ b.
             let some : 1 ≤ times f (frames_left p.taken) = let lt = ltb-true 0 (times f (frames_left p.taken)) b in omega (arith, lt) in
             let off = source_elsewhere (node_of m.layout) target p.taken f d.from_elsewhere some in
-            elim (nat_lt 0 (times f (map (λ (t : Taken). t.to) p.taken))) as (λ c. nat_lt 0 (times f (map (λ (t : Taken). t.to) p.taken)) ≡ c → times f (sources jobs) + times f (targets jobs) ≤ 1) [
+            elim (nat_lt 0 (times f (map (λ (t : PageMove). t.to) p.taken))) as (λ c. nat_lt 0 (times f (map (λ (t : PageMove). t.to) p.taken)) ≡ c → times f (sources jobs) + times f (targets jobs) ≤ 1) [
               | true ↦ λ c.
-                  let some_too : 1 ≤ times f (map (λ (t : Taken). t.to) p.taken) = let lt = ltb-true 0 (times f (map (λ (t : Taken). t.to) p.taken)) c in omega (arith, lt) in
+                  let some_too : 1 ≤ times f (map (λ (t : PageMove). t.to) p.taken) = let lt = ltb-true 0 (times f (map (λ (t : PageMove). t.to) p.taken)) c in omega (arith, lt) in
                   absurd (no (sym off ∙ eq-eqb (node_of m.layout f) target (target_there (node_of m.layout) target p.taken f d.to_target some_too)))
-              | false ↦ λ c. let none = ltb-false 0 (times f (map (λ (t : Taken). t.to) p.taken)) c in omega (arith, none, s, t, after)
+              | false ↦ λ c. let none = ltb-false 0 (times f (map (λ (t : PageMove). t.to) p.taken)) c in omega (arith, none, s, t, after)
             ] refl
         | false ↦ λ b. let none = ltb-false 0 (times f (frames_left p.taken)) b in omega (arith, none, s, t, few, most)
       ] refl

@@ -16,7 +16,7 @@ use Rattle.nm_types.specs.declared.request.Class.{Class}
 use Rattle.nm_types.specs.declared.request.Class.TheVariants.{Status, Move}
 use Rattle.nm_types.specs.declared.request.Wanted.{Wanted}
 use Rattle.nm_model.specs.definitions.Status.{status_or_move}
-use Rattle.nm_types.specs.declared.taken.Taken.{Taken}
+use Rattle.nm_types.specs.declared.page_move.PageMove.{PageMove}
 use Rattle.nm_model.specs.definitions.Run.{Decision, Progress, moved_page, decision, each_request, frames_left}
 use Rattle.nm_model.specs.definitions.Sound.{times, IsSoundInFlight}
 use Rattle.nm_laws.proofs.Soundness.Frames.{here, times_cons}
@@ -32,7 +32,7 @@ use Rattle.nm_laws.proofs.InFlight.Values.{values_same}
 use Rattle.nm_laws.proofs.InFlight.Elsewhere.{IsElsewhere, status_elsewhere}
 
 -- the jobs of moves
-abbrev pub jobs_of : Store → List Taken → List Job
+abbrev pub jobs_of : Store → List PageMove → List Job
 jobs_of buf taken = map (laid_for buf) taken
 
 -- the job copies a page, out of another node
@@ -56,7 +56,7 @@ no : false ≡ true → ⊥
 no e = cc
 
 -- a frame on the target is no source
-pub stays_there : (g : ℕ → ℕ) (target : ℕ) (buf : Store) (taken : List Taken) (f : ℕ) → AllByRecursion (λ t. (g t.from == target) ≡ false) taken → g f ≡ target → is_some (job_from (jobs_of buf taken) f) ≡ false
+pub stays_there : (g : ℕ → ℕ) (target : ℕ) (buf : Store) (taken : List PageMove) (f : ℕ) → AllByRecursion (λ t. (g t.from == target) ≡ false) taken → g f ≡ target → is_some (job_from (jobs_of buf taken) f) ≡ false
 stays_there g target buf [] f all own = refl
 stays_there g target buf (t ∷ taken) f all own =
     elim (t.from == f) as (λ b. (t.from == f) ≡ b → is_some (cond b (Some (laid_for buf t)) (job_from (jobs_of buf taken) f)) ≡ false) [
@@ -89,7 +89,7 @@ module _ (s : State) (target : ℕ) (buf : Store) (ws : List Wanted) where
   -- nothing moves
   same_decided : (now : Decision) → now.state ≡ s → now.taken ≡ [] → IsDecided now.state target buf (each_request now.state target ws) → IsDecided s target buf (then_each now target ws)
   same_decided now e t d =
-      subst (λ (x : State × List Taken). IsDecided s target buf (record { state = (each_request x.0 target ws).state; statuses = now.status ∷ (each_request now.state target ws).statuses; taken = x.1 ++ (each_request x.0 target ws).taken }))
+      subst (λ (x : State × List PageMove). IsDecided s target buf (record { state = (each_request x.0 target ws).state; statuses = now.status ∷ (each_request now.state target ws).statuses; taken = x.1 ++ (each_request x.0 target ws).taken }))
       (λ j. (sym e j, sym t j))
       (let d : IsDecided s target buf (each_request s target ws) = subst (λ (x : State). IsDecided x target buf (each_request x target ws)) e d in
       record { place = d.place; state = d.state; pages = d.pages; copies = d.copies; from_elsewhere = d.from_elsewhere; to_target = d.to_target; few = d.few })
@@ -99,7 +99,7 @@ module _ (s : State) (target : ℕ) (buf : Store) (ws : List Wanted) where
     abbrev next : State
     next = record s { place = set page_cmp s.place p frame; free = slice_set s.free target rest }
 
-    abbrev move : Taken
+    abbrev move : PageMove
     move = record { page = p; from = from; to = frame }
 
     own : AllByRecursion (λ f. node_of s.layout f ≡ target) (frame ∷ rest)
@@ -147,9 +147,9 @@ module _ (s : State) (target : ℕ) (buf : Store) (ws : List Wanted) where
       source_other None ne = refl
       source_other (Some x) ne = sym (ap (λ b. is_some (cond b (Some (laid_for buf move)) (job_from js x))) (ne x refl))
 
-      pages_are : (q : Page) → (same_page q p || list_any (same_page q) (map (λ (t : Taken). t.page) after.taken)) ≡ is_source all (get page_cmp s.place q)
+      pages_are : (q : Page) → (same_page q p || list_any (same_page q) (map (λ (t : PageMove). t.page) after.taken)) ≡ is_source all (get page_cmp s.place q)
       pages_are q =
-          elim (is_eq (page_cmp q p)) as (λ b. is_eq (page_cmp q p) ≡ b → (b || list_any (same_page q) (map (λ (t : Taken). t.page) after.taken)) ≡ is_source all (get page_cmp s.place q)) [
+          elim (is_eq (page_cmp q p)) as (λ b. is_eq (page_cmp q p) ≡ b → (b || list_any (same_page q) (map (λ (t : PageMove). t.page) after.taken)) ≡ is_source all (get page_cmp s.place q)) [
             | true ↦ λ b. sym (ap (is_source all) (ap (get page_cmp s.place) (exact_page q p (equal _ b)) ∙ placed) ∙ ap (λ c. is_some (cond c (Some (laid_for buf move)) (job_from js from))) (eq-eqb from from refl))
             | false ↦ λ b.
                 d.pages q ∙ ap (is_source js) (get-set page_cmp_total s.place p frame q ∙ ap (λ c. cond c (Some frame) (get page_cmp s.place q)) b)
@@ -168,9 +168,9 @@ module _ (s : State) (target : ℕ) (buf : Store) (ws : List Wanted) where
             copies_still es c.1,
           )
 
-      few_are : (f : ℕ) → times f (frame ∷ map (λ (t : Taken). t.to) after.taken) ≤ times f (free_list s target)
+      few_are : (f : ℕ) → times f (frame ∷ map (λ (t : PageMove). t.to) after.taken) ≤ times f (free_list s target)
       few_are f =
-          let mine = times_cons f frame (map (λ (t : Taken). t.to) after.taken) in
+          let mine = times_cons f frame (map (λ (t : PageMove). t.to) after.taken) in
           let less = d.few f in
           let now : times f (free_list next target) ≡ times f rest = ap (times f) (list_now s.free target frame rest front) in
           let whole : times f (free_list s target) ≡ here f frame + times f rest = ap (times f) front ∙ times_cons f frame rest in

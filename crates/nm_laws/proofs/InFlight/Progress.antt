@@ -5,7 +5,7 @@ use Rattle.std.specs.Option.{unwrap_or, option_map}
 use Rattle.std.specs.List.{AllByRecursion, slice_get, list_any, list_all}
 use Rattle.nm_types.specs.declared.page.Page.{Page}
 use Rattle.nm_model.specs.definitions.Frames.{Store}
-use Rattle.nm_types.specs.declared.taken.Taken.{Taken}
+use Rattle.nm_types.specs.declared.page_move.PageMove.{PageMove}
 use Rattle.nm_model.specs.definitions.Touch.{Access}
 use Rattle.nm_model.specs.definitions.Run.{each_request}
 use Rattle.nm_model.specs.definitions.RunMachine.{RunMachine, Job, InHand, Moving, Ended, state_of}
@@ -112,7 +112,7 @@ copy_all (job ∷ ys) xs m k moving g l e =
       rest.2,
     )
 
-laid_jobs : (buf : Store) (taken : List Taken) → AreLaid (map (laid_for buf) taken)
+laid_jobs : (buf : Store) (taken : List PageMove) → AreLaid (map (laid_for buf) taken)
 unfolding AreLaid
 laid_jobs buf [] = tt
 laid_jobs buf (t ∷ taken) = (refl, laid_jobs buf taken)

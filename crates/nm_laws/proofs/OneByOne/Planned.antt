@@ -19,7 +19,7 @@ use Rattle.nm_types.specs.declared.request.Wanted.{Wanted}
 use Rattle.nm_types.specs.declared.request.Wanted.TheVariants.{At as Spot, Whole}
 use Rattle.nm_model.specs.definitions.Seen.{sight_at, users, is_pinned, look_at_page, look_under}
 use Rattle.nm_model.specs.definitions.Status.{code, status_or_move, class_of_look, class_of}
-use Rattle.nm_types.specs.declared.taken.Taken.{Taken}
+use Rattle.nm_types.specs.declared.page_move.PageMove.{PageMove}
 use Rattle.nm_model.specs.definitions.Decide.{Choice, Decisions, has_moved, take_front, choose, decide}
 use Rattle.nm_model.specs.definitions.Run.{Decision, Progress, moved_page, decision, each_request, moves_all, HasOneAll}
 use Rattle.nm_model.specs.definitions.Sound.{OwnsItsFree}
@@ -62,26 +62,26 @@ abbrev Stands : State → ℕ → Bool → Option ℕ → Option ℕ → Type 0
 Stands s target moved now before = MatchBool moved ((frame : ℕ) × (now ≡ Some frame) × (node_of s.layout frame ≡ target)) (now ≡ before)
 
 -- midway, a page has moved to the target or is where it was, and only pages move whose class says so
-record Midway (s : State) (target : ℕ) (all : Bool) (m : Map Page ℕ) (f : List (List ℕ)) (moved : List Taken) : Type 0 where
+record Midway (s : State) (target : ℕ) (all : Bool) (m : Map Page ℕ) (f : List (List ℕ)) (moved : List PageMove) : Type 0 where
   places : (q : Page) → Stands s target (has_moved moved q) (get page_cmp m q) (get page_cmp s.place q)
   classes : (q : Page) → has_moved moved q ≡ true → (from : ℕ) × (page_class s target all q (get page_cmp s.place q) ≡ Move q from)
   own : AllByRecursion (λ frame. node_of s.layout frame ≡ target) (slice_index_or f target [])
 
 -- the class midway of a request that has this class at the start
-Becomes : ℕ → List Taken → Class → Class → Type 0
+Becomes : ℕ → List PageMove → Class → Class → Type 0
 Becomes target moved (Status status) now = now ≡ Status status
 Becomes target moved (Move p from) now = MatchBool (has_moved moved p) (now ≡ Status (pos target)) (now ≡ Move p from)
 
-stays : (target : ℕ) (moved : List Taken) (p : Page) (c : Class) → OfPage p c → has_moved moved p ≡ false → Becomes target moved c c
+stays : (target : ℕ) (moved : List PageMove) (p : Page) (c : Class) → OfPage p c → has_moved moved p ≡ false → Becomes target moved c c
 unfolding OfPage Becomes
 stays target moved p (Status status) of e = refl
 stays target moved p (Move q from) of e = subst (λ b. MatchBool b (Move q from ≡ Status (pos target)) (Move q from ≡ Move q from)) (sym (ap (has_moved moved) of ∙ e)) refl
 
-arrives : (target : ℕ) (moved : List Taken) (p : Page) (from : ℕ) (now : Class) → has_moved moved p ≡ true → now ≡ Status (pos target) → Becomes target moved (Move p from) now
+arrives : (target : ℕ) (moved : List PageMove) (p : Page) (from : ℕ) (now : Class) → has_moved moved p ≡ true → now ≡ Status (pos target) → Becomes target moved (Move p from) now
 unfolding Becomes
 arrives target moved p from now e is = subst (λ b. MatchBool b (now ≡ Status (pos target)) (now ≡ Move p from)) (sym e) is
 
-page_becomes : (s : State) (target : ℕ) (all : Bool) (m : Map Page ℕ) (f : List (List ℕ)) (moved : List Taken) → Midway s target all m f moved → (p : Page)
+page_becomes : (s : State) (target : ℕ) (all : Bool) (m : Map Page ℕ) (f : List (List ℕ)) (moved : List PageMove) → Midway s target all m f moved → (p : Page)
     → Becomes target moved (page_class s target all p (get page_cmp s.place p)) (page_class s target all p (get page_cmp m p))
 page_becomes s target all m f moved i p =
     elim (has_moved moved p) as (λ b. has_moved moved p ≡ b → Stands s target b (get page_cmp m p) (get page_cmp s.place p) → Becomes target moved (page_class s target all p (get page_cmp s.place p)) (page_class s target all p (get page_cmp m p))) [
@@ -94,7 +94,7 @@ page_becomes s target all m f moved i p =
           (stays target moved p _ (of_page s target all p (get page_cmp s.place p)) e)
     ] refl (i.places p)
 
-seen_becomes : (s : State) (target : ℕ) (all : Bool) (m : Map Page ℕ) (f : List (List ℕ)) (moved : List Taken) → Midway s target all m f moved → (o : Option Page) (x : Option Sight)
+seen_becomes : (s : State) (target : ℕ) (all : Bool) (m : Map Page ℕ) (f : List (List ℕ)) (moved : List PageMove) → Midway s target all m f moved → (o : Option Page) (x : Option Sight)
     → Becomes target moved (class_of_look s.layout target all (look_under s o x)) (class_of_look s.layout target all (look_under (midway s m f) o x))
 unfolding Becomes
 seen_becomes s target all m f moved i None x = refl
@@ -102,7 +102,7 @@ seen_becomes s target all m f moved i (Some q) None = refl
 seen_becomes s target all m f moved i (Some q) (Some ZeroPage) = refl
 seen_becomes s target all m f moved i (Some q) (Some (Sees p)) = page_becomes s target all m f moved i p
 
-class_becomes : (s : State) (target : ℕ) (all : Bool) (m : Map Page ℕ) (f : List (List ℕ)) (moved : List Taken) → Midway s target all m f moved → (w : Wanted) → moves_all w ≡ all
+class_becomes : (s : State) (target : ℕ) (all : Bool) (m : Map Page ℕ) (f : List (List ℕ)) (moved : List PageMove) → Midway s target all m f moved → (w : Wanted) → moves_all w ≡ all
     → Becomes target moved (class_of s target w) (class_of (midway s m f) target w)
 class_becomes s target all m f moved i (Spot pid v b) e =
     subst (λ a. Becomes target moved (class_of s target (Spot pid v a)) (class_of (midway s m f) target (Spot pid v a))) (sym e)
@@ -139,7 +139,7 @@ list_now [] target frame rest e = cc
 list_now (x ∷ f) zero frame rest e = refl
 list_now (x ∷ f) (suc i) frame rest e = list_now f i frame rest e
 
-after_move : (s : State) (target : ℕ) (all : Bool) (m : Map Page ℕ) (f : List (List ℕ)) (moved : List Taken) → Midway s target all m f moved
+after_move : (s : State) (target : ℕ) (all : Bool) (m : Map Page ℕ) (f : List (List ℕ)) (moved : List PageMove) → Midway s target all m f moved
     → (p : Page) (from frame : ℕ) (rest : List ℕ) → page_class s target all p (get page_cmp s.place p) ≡ Move p from → slice_index_or f target [] ≡ frame ∷ rest
     → Midway s target all (set page_cmp m p frame) (slice_set f target rest) (record { page = p; from = from; to = frame } ∷ moved)
 after_move s target all m f moved i p from frame rest class front =
@@ -160,11 +160,11 @@ after_move s target all m f moved i p from frame rest class front =
     }
 
 -- at the end of the moves is as good as in front
-moved_at_end : (moved : List Taken) (t : Taken) (q : Page) → has_moved (t ∷ moved) q ≡ has_moved (moved ++ t ∷ []) q
+moved_at_end : (moved : List PageMove) (t : PageMove) (q : Page) → has_moved (t ∷ moved) q ≡ has_moved (moved ++ t ∷ []) q
 moved_at_end [] t q = refl
 moved_at_end (x ∷ moved) t q = or_swap (same_page q t.page) (same_page q x.page) (has_moved moved q) ∙ ap (λ b. same_page q x.page || b) (moved_at_end moved t q)
 
-midway_same : (s : State) (target : ℕ) (all : Bool) (m : Map Page ℕ) (f : List (List ℕ)) (xs ys : List Taken) → ((q : Page) → has_moved xs q ≡ has_moved ys q)
+midway_same : (s : State) (target : ℕ) (all : Bool) (m : Map Page ℕ) (f : List (List ℕ)) (xs ys : List PageMove) → ((q : Page) → has_moved xs q ≡ has_moved ys q)
     → Midway s target all m f xs → Midway s target all m f ys
 midway_same s target all m f xs ys same i =
     record {
@@ -183,7 +183,7 @@ then_each now target ws =
     let rest = each_request now.state target ws in
     record { state = rest.state; statuses = now.status ∷ rest.statuses; taken = now.taken ++ rest.taken }
 
-abbrev then_decide : Choice → List Class → List Taken → ℕ → Decisions
+abbrev then_decide : Choice → List Class → List PageMove → ℕ → Decisions
 then_decide now classes moved target =
     let rest = decide classes (moved ++ now.taken) now.front target in
     record { statuses = now.status ∷ rest.statuses; taken = now.taken ++ rest.taken }
@@ -191,10 +191,10 @@ then_decide now classes moved target =
 -- what holds of the requests that are left, at any point of the run
 abbrev Rest : State → ℕ → Bool → List Wanted → Type 0
 Rest s target all ws =
-    (m : Map Page ℕ) (f : List (List ℕ)) (moved : List Taken) → Midway s target all m f moved →
+    (m : Map Page ℕ) (f : List (List ℕ)) (moved : List PageMove) → Midway s target all m f moved →
     Agrees (midway s m f) target (each_request (midway s m f) target ws) (decide (map (status_or_move s target) ws) moved (slice_index_or f target []) target)
 
-module _ (s : State) (target : ℕ) (all : Bool) (ws : List Wanted) (rest : Rest s target all ws) (m : Map Page ℕ) (f : List (List ℕ)) (moved : List Taken) (i : Midway s target all m f moved) where
+module _ (s : State) (target : ℕ) (all : Bool) (ws : List Wanted) (rest : Rest s target all ws) (m : Map Page ℕ) (f : List (List ℕ)) (moved : List PageMove) (i : Midway s target all m f moved) where
   -- nothing moves
   no_move : (status : ℤ) → Agrees (midway s m f) target
       (then_each (record { state = midway s m f; status = status; taken = [] }) target ws)
@@ -208,7 +208,7 @@ module _ (s : State) (target : ℕ) (all : Bool) (ws : List Wanted) (rest : Rest
   takes p from class [] e =
       subst (λ l. Agrees (midway s m f) target (then_each (record { state = midway s m f; status = code Enomem; taken = [] }) target ws) (then_decide (record { status = code Enomem; taken = []; front = l }) (map (status_or_move s target) ws) moved target)) e (no_move (code Enomem))
   takes p from class (frame ∷ left) e =
-      let t : Taken = record { page = p; from = from; to = frame } in
+      let t : PageMove = record { page = p; from = from; to = frame } in
       let r = subst (λ l. Agrees (midway s (set page_cmp m p frame) (slice_set f target left)) target (each_request (midway s (set page_cmp m p frame) (slice_set f target left)) target ws) (decide (map (status_or_move s target) ws) (moved ++ t ∷ []) l target))
       (list_now f target frame left e)
       (rest (set page_cmp m p frame) (slice_set f target left) (moved ++ t ∷ [])

@@ -14,7 +14,7 @@ use Rattle.nm_types.specs.declared.page.Page.{Page}
 use Rattle.nm_types.specs.Map.{Map, get, set, page_cmp}
 use Rattle.nm_types.specs.Layout.{Layout, owner, node_of}
 use Rattle.nm_types.specs.State.{State, free_list}
-use Rattle.nm_types.specs.declared.taken.Taken.{Taken}
+use Rattle.nm_types.specs.declared.page_move.PageMove.{PageMove}
 use Rattle.nm_model.specs.definitions.Run.{moved_page, frames_left}
 use Rattle.nm_model.specs.definitions.Sound.{times, holders, FramesAreOnce}
 use Rattle.nm_types.proofs.Maps.{page_cmp_total}
@@ -90,7 +90,7 @@ moved_frames s l target p from (frame ∷ rest) h order placed e =
       own = own_set s.layout s.free target rest at h.own own.1;
     }
 
-pub left-append : (xs ys : List Taken) → frames_left (xs ++ ys) ≡ frames_left xs ++ frames_left ys
+pub left-append : (xs ys : List PageMove) → frames_left (xs ++ ys) ≡ frames_left xs ++ frames_left ys
 left-append [] ys = refl
 left-append (x ∷ xs) ys = ap (λ l. x.from ∷ l) (left-append xs ys)
 

@@ -9,7 +9,7 @@ use Rattle.nm_frames.specs.declared.job.CopyJob.{CopyJob}
 use Rattle.nm_frames.specs.Job.{job_after_copy}
 use Rattle.nm_memory.specs.views.Populated.{IsPopulated}
 use Rattle.nm_model.specs.definitions.Frames.{Store, IsHome, IsOut, bytes_of}
-use Rattle.nm_types.specs.declared.taken.Taken.{Taken}
+use Rattle.nm_types.specs.declared.page_move.PageMove.{PageMove}
 use Rattle.nm_memory.specs.views.Copies.{with_copy, with_copies, without_move, CanCopy, HasBoth, without_moves, with_buf, jobs_of, with_job, with_jobs_back, CanRefill}
 use Rattle.nm_memory.proofs.Copies.Home.{copied_frame, home_bytes}
 
@@ -36,7 +36,7 @@ not_home store f q out home e = none_some (sym (ap (at store) e ∙ out) ∙ hom
     none_some : {x : List ℕ} → None ≡ Some x → ⊥
     none_some e = cc
 
-module _ (store : Store) (t : Taken) where
+module _ (store : Store) (t : PageMove) where
   from_out : at (without_move store t) t.from ≡ None
   from_out = still_out (slice_set store t.from None) t.to t.from (none_out store t.from)
 
@@ -73,7 +73,7 @@ module _ (store : Store) (t : Taken) where
   stays_populated q a b whole = ap (λ (o : Option (List ℕ)). length (unwrap_or o [])) (untouched q a b) ∙ whole
 
 -- as many frames have a place while the bytes of some are out
-pub out_as_many : (taken : List Taken) (store : Store) → length (without_moves store taken) ≡ length store
+pub out_as_many : (taken : List PageMove) (store : Store) → length (without_moves store taken) ≡ length store
 out_as_many [] store = refl
 out_as_many (t ∷ taken) store = out_as_many taken (without_move store t) ∙ as_many store t
 
@@ -97,7 +97,7 @@ home_set store f q bytes home =
 abbrev Covers : Store → Store → Type 0
 Covers g h = (q : ℕ) → IsHome g q → IsHome h q
 
-pub can_where_more : (taken : List Taken) (g h : Store) → Covers g h → CanCopy g taken → CanCopy h taken
+pub can_where_more : (taken : List PageMove) (g h : Store) → Covers g h → CanCopy g taken → CanCopy h taken
 can_where_more [] g h covers can = tt
 can_where_more (t ∷ taken) g h covers can = (
   covers t.from can.0,
@@ -107,7 +107,7 @@ can_where_more (t ∷ taken) g h covers can = (
 )
 
 -- the frames of later moves keep their bytes in memory while those of one move are out
-pub both_without : (taken : List Taken) (store : Store) (t : Taken) → CanCopy (without_move store t) taken → AllByRecursion (HasBoth store) taken → AllByRecursion (HasBoth (without_move store t)) taken
+pub both_without : (taken : List PageMove) (store : Store) (t : PageMove) → CanCopy (without_move store t) taken → AllByRecursion (HasBoth store) taken → AllByRecursion (HasBoth (without_move store t)) taken
 both_without [] store t can both = tt
 both_without (u ∷ taken) store t can both =
     let g = without_move store t in (
@@ -118,22 +118,22 @@ both_without (u ∷ taken) store t can both =
       both_without taken store t (can_where_more taken (without_move g u) g (λ q home. was_home g u q home) can.3) both.1,
     )
 
-after_copy : (taken : List Taken) (store : Store) (t : Taken) → CanCopy (without_move store t) taken → CanCopy (with_copy store t) taken
+after_copy : (taken : List PageMove) (store : Store) (t : PageMove) → CanCopy (without_move store t) taken → CanCopy (with_copy store t) taken
 after_copy taken store t can =
     can_where_more taken (without_move store t) (with_copy store t) (λ q home. home_beside store t.to q (bytes_of store t.from) (not_to store t q home) (was_home store t q home)) can
 
 -- a frame that is out stays out while others are copied, and its bytes may come back before or after
-copies_keep : (taken : List Taken) (store : Store) (f : ℕ) → CanCopy store taken → at store f ≡ None → at (with_copies store taken) f ≡ None
+copies_keep : (taken : List PageMove) (store : Store) (f : ℕ) → CanCopy store taken → at store f ≡ None → at (with_copies store taken) f ≡ None
 copies_keep [] store f can out = out
 copies_keep (t ∷ taken) store f can out =
     copies_keep taken (with_copy store t) f (after_copy taken store t can.3)
     (get_or-set_other store t.to f (Some (bytes_of store t.from)) None (λ e. not_home store f t.to out can.1 (sym e)) ∙ out)
 
-pub copies_as_many : (taken : List Taken) (store : Store) → length (with_copies store taken) ≡ length store
+pub copies_as_many : (taken : List PageMove) (store : Store) → length (with_copies store taken) ≡ length store
 copies_as_many [] store = refl
 copies_as_many (t ∷ taken) store = copies_as_many taken (with_copy store t) ∙ length-set store t.to (Some (bytes_of store t.from))
 
-copies_set : (taken : List Taken) (store : Store) (f : ℕ) (v : Option (List ℕ)) → CanCopy store taken → at store f ≡ None → slice_set (with_copies store taken) f v ≡ with_copies (slice_set store f v) taken
+copies_set : (taken : List PageMove) (store : Store) (f : ℕ) (v : Option (List ℕ)) → CanCopy store taken → at store f ≡ None → slice_set (with_copies store taken) f v ≡ with_copies (slice_set store f v) taken
 copies_set [] store f v can out = refl
 copies_set (t ∷ taken) store f v can out =
     let bytes = bytes_of store t.from in
@@ -142,7 +142,7 @@ copies_set (t ∷ taken) store f v can out =
     ∙ ap (λ (s : Store). with_copies s taken) (set_comm store t.to f (Some bytes) v (not_home store f t.to out can.1) ∙ ap (λ (b : List ℕ). slice_set (slice_set store f v) t.to (Some b)) same)
 
 -- what goes out and is copied comes back copied
-pub refilled_is : (A : Type 0) (taken : List Taken) (k : ℕ) (store : Store) → CanCopy store taken → with_jobs_back (without_moves store taken) (map job_after_copy (jobs_of {A = A} k store taken)) ≡ with_copies store taken
+pub refilled_is : (A : Type 0) (taken : List PageMove) (k : ℕ) (store : Store) → CanCopy store taken → with_jobs_back (without_moves store taken) (map job_after_copy (jobs_of {A = A} k store taken)) ≡ with_copies store taken
 refilled_is A [] k store can = refl
 refilled_is A (t ∷ taken) k store can =
     let g = without_move store t in
@@ -156,7 +156,7 @@ refilled_is A (t ∷ taken) k store can =
     ∙ ap (λ (s : Store). with_copies s taken) (copied_frame store t.from t.to bytes can.2 (home_bytes store t.from can.0))
 
 -- and its frames are out until then
-pub can_refill : (A : Type 0) (taken : List Taken) (k : ℕ) (store : Store) → CanCopy store taken → CanRefill (without_moves store taken) (map job_after_copy (jobs_of {A = A} k store taken))
+pub can_refill : (A : Type 0) (taken : List PageMove) (k : ℕ) (store : Store) → CanCopy store taken → CanRefill (without_moves store taken) (map job_after_copy (jobs_of {A = A} k store taken))
 can_refill A [] k store can = tt
 can_refill A (t ∷ taken) k store can =
     let g = without_move store t in
@@ -173,7 +173,7 @@ can_refill A (t ∷ taken) k store can =
     )
 
 -- the jobs are in the order of their tickets
-pub tickets_from : (A : Type 0) (taken : List Taken) (k : ℕ) (store : Store) (t : ℕ) (job : CopyJob A) → slice_get (jobs_of {A = A} k store taken) t ≡ Some job → job.ticket ≡ k + t
+pub tickets_from : (A : Type 0) (taken : List PageMove) (k : ℕ) (store : Store) (t : ℕ) (job : CopyJob A) → slice_get (jobs_of {A = A} k store taken) t ≡ Some job → job.ticket ≡ k + t
 tickets_from A [] k store t job at = absurd (cc)
 tickets_from A (x ∷ taken) k store zero job at =
     let first : CopyJob A = record { source = (x.from, bytes_of store x.from); target = (x.to, bytes_of store x.to); ticket = k } in
@@ -182,7 +182,7 @@ tickets_from A (x ∷ taken) k store zero job at =
 tickets_from A (x ∷ taken) k store (suc t) job at = omega (arith, tickets_from A taken (k + 1) (without_move store x) t job at)
 
 -- every frame is home after copying as before
-pub copies_home : (taken : List Taken) (store : Store) (q : ℕ) → IsHome store q → IsHome (with_copies store taken) q
+pub copies_home : (taken : List PageMove) (store : Store) (q : ℕ) → IsHome store q → IsHome (with_copies store taken) q
 copies_home [] store q home = home
 copies_home (t ∷ taken) store q home = copies_home taken (with_copy store t) q (home_set store t.to q (bytes_of store t.from) home)
 

@@ -6,7 +6,7 @@ use Rattle.std.specs.List.{AllByRecursion}
 use Rattle.std.proofs.lemmas.Bool.{cases_eq}
 use Rattle.std.proofs.lemmas.List.{get_or-set_same, get_or-set_other}
 use Rattle.nm_types.specs.declared.page.Page.{Page}
-use Rattle.nm_types.specs.declared.taken.Taken.{Taken}
+use Rattle.nm_types.specs.declared.page_move.PageMove.{PageMove}
 use Rattle.nm_types.specs.Map.{Map}
 use Rattle.nm_memory.specs.views.Populated.{IsPopulated}
 use Rattle.nm_model.specs.definitions.Frames.{Store, IsHome, bytes_of, overwrite}
@@ -78,14 +78,14 @@ all_written (g ∷ fs) s f at new fits all = (written_populated s f g at new fit
 
 -- ---- pages are copied, and accesses are made
 
-froms_then : (taken : List Taken) (s : Store) (t : Taken) → IsPopulated s t.from → AllByRecursion (HasBoth s) taken → AllByRecursion (HasBoth (with_copy s t)) taken
+froms_then : (taken : List PageMove) (s : Store) (t : PageMove) → IsPopulated s t.from → AllByRecursion (HasBoth s) taken → AllByRecursion (HasBoth (with_copy s t)) taken
 froms_then [] s t from all = tt
 froms_then (u ∷ taken) s t from all = (
   (set_populated s t.to u.from (bytes_of s t.from) from all.0.0, set_populated s t.to u.to (bytes_of s t.from) from all.0.1),
   froms_then taken s t from all.1,
 )
 
-pub copies_populated : (taken : List Taken) (s : Store) (q : ℕ) → AllByRecursion (HasBoth s) taken → IsPopulated s q → IsPopulated (with_copies s taken) q
+pub copies_populated : (taken : List PageMove) (s : Store) (q : ℕ) → AllByRecursion (HasBoth s) taken → IsPopulated s q → IsPopulated (with_copies s taken) q
 copies_populated [] s q both whole = whole
 copies_populated (t ∷ taken) s q both whole =
     copies_populated taken (with_copy s t) q (froms_then taken s t both.0.0 both.1) (set_populated s t.to q (bytes_of s t.from) both.0.0 whole)
@@ -105,7 +105,7 @@ can_inside place s (ToRead page at len ∷ dues) can = (can.0.inside, can_inside
 can_inside place s (ToWrite page at new ∷ dues) can = (can.0.inside, can_inside place s dues can.1)
 
 -- frames that have their bytes in memory have them once pages are copied and accesses made
-pub after_populated : (fs : List ℕ) (place : Map Page ℕ) (dues : List PendingAccess) (taken : List Taken) (out s : Store) → AllByRecursion (HasBoth s) taken → AllByRecursion (CanDo place out) dues → AllByRecursion (IsPopulated s) fs
+pub after_populated : (fs : List ℕ) (place : Map Page ℕ) (dues : List PendingAccess) (taken : List PageMove) (out s : Store) → AllByRecursion (HasBoth s) taken → AllByRecursion (CanDo place out) dues → AllByRecursion (IsPopulated s) fs
     → AllByRecursion (IsPopulated (all_stored_after_copy place (with_copies s taken) dues).store) fs
 after_populated [] place dues taken out s both can all = tt
 after_populated (f ∷ fs) place dues taken out s both can all = (

@@ -9,7 +9,7 @@ use Rattle.nm_types.specs.Layout.{Layout, owner, node_of, frame_count}
 use Rattle.nm_types.specs.Nodes.{is_in}
 use Rattle.nm_types.specs.State.{State, free_list}
 use Rattle.nm_model.specs.definitions.Frames.{Pool, list_of, with_list, with_front}
-use Rattle.nm_types.specs.declared.taken.Taken.{Taken}
+use Rattle.nm_types.specs.declared.page_move.PageMove.{PageMove}
 use Rattle.nm_model.specs.definitions.BeforeCopy.{frames_taken, with_fronts}
 use Rattle.nm_model.specs.definitions.Sound.{times, IsSound}
 use Rattle.nm_laws.proofs.Soundness.Frames.{here, times_cons}
@@ -49,7 +49,7 @@ there_now p node others frame inside own apart =
     ap (λ n. is_in (slice_index_or (slice_set p.lists node others) n []) frame) own ∙ ap (λ (xs : List ℕ). is_in xs frame) (get_or-set_same p.lists node others [] inside) ∙ apart
 
 -- an item of those that are left
-pub tos_from : (taken : List Taken) (k : ℕ) (d : Taken) → k < length taken → drop k (frames_taken taken) ≡ (slice_index_or taken k d).to ∷ drop (suc k) (frames_taken taken)
+pub tos_from : (taken : List PageMove) (k : ℕ) (d : PageMove) → k < length taken → drop k (frames_taken taken) ≡ (slice_index_or taken k d).to ∷ drop (suc k) (frames_taken taken)
 tos_from [] k d lt = absurd (omega (arith, lt))
 tos_from (t ∷ taken) zero d lt = refl
 tos_from (t ∷ taken) (suc k) d lt = tos_from taken k d (omega (arith, lt))
@@ -91,11 +91,11 @@ sound_returns s node frames inside h =
     (front_part frames l s.layout node (subst (AllByRecursion (λ f. node_of s.layout f ≡ node)) there (h.frames.own node))))
 
 -- those that are left begin with the one that is put back next
-pub left_from : (moves : List Taken) (left : ℕ) (d : Taken) → 0 < left → left ≤ length moves → drop (left - 1) (frames_taken moves) ≡ (slice_index_or moves (left - 1) d).to ∷ drop left (frames_taken moves)
+pub left_from : (moves : List PageMove) (left : ℕ) (d : PageMove) → 0 < left → left ≤ length moves → drop (left - 1) (frames_taken moves) ≡ (slice_index_or moves (left - 1) d).to ∷ drop left (frames_taken moves)
 left_from moves left d some few =
     let n = left - 1 in
     let next : suc n ≡ left = omega (arith, some) in
     tos_from moves n d (omega (arith, some, few)) ∙ ap (λ k. (slice_index_or moves n d).to ∷ drop k (frames_taken moves)) next
 
-pub can_left : (moves : List Taken) (left : ℕ) (d : Taken) (p : Pool) (node : ℕ) → 0 < left → left ≤ length moves → CanReturn p node (frames_taken moves) → CanReturn p node ((slice_index_or moves (left - 1) d).to ∷ drop left (frames_taken moves))
+pub can_left : (moves : List PageMove) (left : ℕ) (d : PageMove) (p : Pool) (node : ℕ) → 0 < left → left ≤ length moves → CanReturn p node (frames_taken moves) → CanReturn p node ((slice_index_or moves (left - 1) d).to ∷ drop left (frames_taken moves))
 can_left moves left d p node some few can = subst (CanReturn p node) (left_from moves left d some few) (can_drop (left - 1) (frames_taken moves) p node can)

@@ -4,31 +4,31 @@ use Rattle.std.specs.List.{fold}
 use Rattle.nm_frames.specs.declared.job.CopyJob.{CopyJob}
 use Rattle.nm_memory.specs.views.Populated.{IsPopulated}
 use Rattle.nm_model.specs.definitions.Frames.{Store, IsHome, IsOut, bytes_of}
-use Rattle.nm_types.specs.declared.taken.Taken.{Taken}
+use Rattle.nm_types.specs.declared.page_move.PageMove.{PageMove}
 
 -- a page's bytes are copied to the frame that it takes
-abbrev pub with_copy : Store → Taken → Store
+abbrev pub with_copy : Store → PageMove → Store
 with_copy store t = slice_set store t.to (Some (bytes_of store t.from))
 
 -- one page after another is copied
-abbrev pub with_copies : Store → List Taken → Store
+abbrev pub with_copies : Store → List PageMove → Store
 with_copies store taken = fold with_copy store taken
 
 -- the store with the bytes of both frames out
-abbrev pub without_move : Store → Taken → Store
+abbrev pub without_move : Store → PageMove → Store
 without_move store t = slice_set (slice_set store t.from None) t.to None
 
 -- the frames of these moves are home, and none is named twice
-abbrev pub CanCopy : Store → List Taken → Type 0
+abbrev pub CanCopy : Store → List PageMove → Type 0
 CanCopy store [] = Unit {0}
 CanCopy store (t ∷ taken) = IsHome store t.from × IsHome store t.to × (t.from ≢ t.to) × CanCopy (without_move store t) taken
 
 -- both frames of a move have their bytes in memory
-abbrev pub HasBoth : Store → Taken → Type 0
+abbrev pub HasBoth : Store → PageMove → Type 0
 HasBoth store t = IsPopulated store t.from × IsPopulated store t.to
 
 -- the store while the bytes of all these moves are out
-abbrev pub without_moves : Store → List Taken → Store
+abbrev pub without_moves : Store → List PageMove → Store
 without_moves store taken = fold without_move store taken
 
 -- a frame's bytes are put back home
@@ -37,7 +37,7 @@ with_buf store buf = slice_set store buf.0 (Some buf.1)
 
 module _ {A : Type 0} where
   -- a job for each move, numbered from k on
-  abbrev pub jobs_of : ℕ → Store → List Taken → List (CopyJob A)
+  abbrev pub jobs_of : ℕ → Store → List PageMove → List (CopyJob A)
   jobs_of k store [] = []
   jobs_of k store (t ∷ taken) =
       record { source = (t.from, bytes_of store t.from); target = (t.to, bytes_of store t.to); ticket = k }

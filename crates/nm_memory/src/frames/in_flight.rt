@@ -11,7 +11,7 @@ ghost use Rattle.nm_memory.specs.views.Frames.{HasAllPlaces, in_memory};
 
 use crate::frames::{FrameParts, Frames, copy_bytes};
 use nm_frames::{CopyJob, FrameStore};
-use nm_types::{FrameId, Taken};
+use nm_types::{FrameId, PageMove};
 use std::alloc::Allocator;
 use std::marker::Model;
 
@@ -102,7 +102,7 @@ impl<A: Allocator + Copy> FramesInFlight<A> {
 /// Takes out the bytes of both frames of each move, as a job at the end of a list that has room for it.
 pub(super) fn take_out_each<A: Allocator + Copy>(
     frames: &mut FrameStore<A>,
-    moves: &[Taken],
+    moves: &[PageMove],
     jobs: &mut Vec<CopyJob<A>, A>,
 )
     requires can { CanCopy (in_memory frames.old) moves.now }

@@ -10,7 +10,7 @@ use Rattle.nm_types.specs.Map.{get, page_cmp, same_page, with_values}
 use Rattle.nm_types.specs.State.{State, free_list}
 use Rattle.nm_model.specs.definitions.Seen.{sight_at}
 use Rattle.nm_model.specs.definitions.Frames.{overwrite}
-use Rattle.nm_types.specs.declared.taken.Taken.{Taken}
+use Rattle.nm_types.specs.declared.page_move.PageMove.{PageMove}
 use Rattle.nm_model.specs.definitions.Memory.{stretch_of}
 use Rattle.nm_model.specs.definitions.Touch.{Access, Read, Write, AccessAnswer, Bytes, Done, Held, Refused, touch}
 use Rattle.nm_model.specs.definitions.Touch.{AccessResults, is_held, site_of_access}
@@ -106,11 +106,11 @@ all_after_copy s (d ∷ dues) =
     record { state = rest.state; answers = answer_after_copy s d ∷ rest.answers }
 
 -- a page is in the frame that it takes
-abbrev pub with_place : State → Taken → State
+abbrev pub with_place : State → PageMove → State
 with_place s t = record s { place = with_values (at_page t.page (λ from. t.to)) s.place }
 
 -- so are all of these
-abbrev pub with_places : State → List Taken → State
+abbrev pub with_places : State → List PageMove → State
 with_places s taken = fold with_place s taken
 
 -- the first `count` free frames of a node are taken
@@ -122,7 +122,7 @@ abbrev pub with_fronts : State → ℕ → List ℕ → State
 with_fronts s node frames = record s { free = slice_set s.free node (frames ++ free_list s node) }
 
 -- the frames that moves take
-abbrev pub frames_taken : List Taken → List ℕ
+abbrev pub frames_taken : List PageMove → List ℕ
 frames_taken taken = map (λ t. t.to) taken
 
 -- what is left to do concerns a page that has a frame, if any

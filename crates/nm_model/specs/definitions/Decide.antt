@@ -8,21 +8,21 @@ use Rattle.nm_types.specs.Map.{same_page}
 use Rattle.nm_types.specs.declared.request.Class.{Class}
 use Rattle.nm_types.specs.declared.request.Class.TheVariants.{Status, Move}
 use Rattle.nm_model.specs.definitions.Status.{code}
-use Rattle.nm_types.specs.declared.taken.Taken.{Taken}
+use Rattle.nm_types.specs.declared.page_move.PageMove.{PageMove}
 
 -- the decision on one request, and the free frames left for the next
 pub record Choice : Type 0 where
   pub status : ℤ
-  pub taken : List Taken
+  pub taken : List PageMove
   pub front : List ℕ
 
 -- the decisions on the requests of a run
 pub record Decisions : Type 0 where
   pub statuses : List ℤ
-  pub taken : List Taken
+  pub taken : List PageMove
 
 -- whether one of these moves is the page's
-abbrev pub has_moved : List Taken → Page → Bool
+abbrev pub has_moved : List PageMove → Page → Bool
 has_moved taken page = list_any (λ t. same_page page t.page) taken
 
 -- a page that has not moved yet takes the front frame
@@ -32,14 +32,14 @@ take_front page from (frame ∷ front) target =
     record { status = pos target; taken = record { page = page; from = from; to = frame } ∷ []; front = front }
 
 -- the decision on a request, after these moves
-abbrev pub choose : Class → List Taken → List ℕ → ℕ → Choice
+abbrev pub choose : Class → List PageMove → List ℕ → ℕ → Choice
 choose (Status status) moved front target = record { status = status; taken = []; front = front }
 choose (Move page from) moved front target =
     if has_moved moved page then record { status = pos target; taken = []; front = front }
     else take_front page from front target
 
 -- the decisions, one request after another, since each leaves less for the next
-abbrev pub decide : List Class → List Taken → List ℕ → ℕ → Decisions
+abbrev pub decide : List Class → List PageMove → List ℕ → ℕ → Decisions
 decide [] moved front target = record { statuses = []; taken = [] }
 decide (class ∷ classes) moved front target =
     let now = choose class moved front target in
@@ -62,7 +62,7 @@ shortage classes d = position is_short (zip classes d.statuses)
 -- a plan: the decisions on the requests, and the index of the first one whose page found no free frame
 pub record RunPlan : Type 0 where
   pub statuses : List ℤ
-  pub taken : List Taken
+  pub taken : List PageMove
   pub shortage : Option ℕ
 
 -- the plan of a run with these classes

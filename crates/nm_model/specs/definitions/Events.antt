@@ -11,7 +11,7 @@ use Rattle.nm_types.specs.declared.entry.Entry.TheVariants.{Zero, Frame, Held}
 use Rattle.nm_model.specs.definitions.Frames.{Store, bytes_of}
 use Rattle.nm_types.specs.declared.request.Wanted.{Wanted}
 use Rattle.nm_model.specs.definitions.Status.{status_or_move}
-use Rattle.nm_types.specs.declared.taken.Taken.{Taken}
+use Rattle.nm_types.specs.declared.page_move.PageMove.{PageMove}
 use Rattle.nm_model.specs.definitions.Decide.{Decisions, decide}
 use Rattle.nm_model.specs.definitions.PageTables.{Task}
 use Rattle.nm_model.specs.definitions.Touch.{Access}
@@ -38,7 +38,7 @@ plan m target wanted =
     let s = state_of m in decide (map (status_or_move s target) wanted) [] (free_list s target) target
 
 -- the job of a move
-abbrev pub laid_for : Store → Taken → Job
+abbrev pub laid_for : Store → PageMove → Job
 laid_for buf t = record { source = (t.from, bytes_of buf t.from); target = (t.to, bytes_of buf t.to); stage = Laid }
 
 -- both buffers of a job are taken out

@@ -12,7 +12,7 @@ use Rattle.nm_types.specs.declared.request.Class.TheVariants.{Status, Move}
 use Rattle.nm_types.specs.declared.request.Wanted.{Wanted}
 use Rattle.nm_types.specs.declared.request.Wanted.TheVariants.{At as Spot, Whole}
 use Rattle.nm_model.specs.definitions.Status.{code, status_or_move}
-use Rattle.nm_types.specs.declared.taken.Taken.{Taken}
+use Rattle.nm_types.specs.declared.page_move.PageMove.{PageMove}
 use Rattle.nm_model.specs.definitions.Touch.{Access, AccessAnswer, all_in_flight}
 use Rattle.std.specs.Prelude.{◌==◌}
 use Rattle.nm_model.specs.definitions.Cut.{Request, Stretch, cut_within}
@@ -21,7 +21,7 @@ use Rattle.nm_model.specs.definitions.Cut.{Request, Stretch, cut_within}
 pub record Decision : Type 0 where
   pub state : State
   pub status : ℤ
-  pub taken : List Taken
+  pub taken : List PageMove
 
 -- the page takes the front of the target's free list; the frame that it leaves is not free yet
 abbrev pub moved_page : State → ℕ → Page → ℕ → List ℕ → Decision
@@ -43,7 +43,7 @@ one_request s target w = decision s target (status_or_move s target w)
 pub record Progress : Type 0 where
   pub state : State
   pub statuses : List ℤ
-  pub taken : List Taken
+  pub taken : List PageMove
 
 -- one request after another
 abbrev pub each_request : State → ℕ → List Wanted → Progress
@@ -64,7 +64,7 @@ abbrev pub with_all_free : State → List ℕ → State
 with_all_free s frames = fold with_free s frames
 
 -- the frames that the moves leave, in order
-abbrev pub frames_left : List Taken → List ℕ
+abbrev pub frames_left : List PageMove → List ℕ
 frames_left taken = map (λ t. t.from) taken
 
 -- how many requests failed because of a pin or for lack of a free frame

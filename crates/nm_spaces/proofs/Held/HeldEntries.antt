@@ -15,7 +15,7 @@ use Rattle.nm_types.specs.declared.sight.Sight.TheVariants.{ZeroPage, Sees}
 use Rattle.nm_types.specs.Map.{Map, get, set, replace, page_cmp, same_page}
 use Rattle.nm_types.specs.declared.entry.Entry.{Entry}
 use Rattle.nm_types.specs.declared.entry.Entry.TheVariants.{Zero, Frame, Held}
-use Rattle.nm_types.specs.declared.taken.Taken.{Taken}
+use Rattle.nm_types.specs.declared.page_move.PageMove.{PageMove}
 use Rattle.nm_types.proofs.Cases.{some_is}
 use Rattle.nm_types.proofs.Keys.{All-get}
 use Rattle.nm_types.proofs.Maps.{agree, equal, exact_page, get-set, get-values, keys-values, page_cmp_total, with_values-replace}
@@ -268,10 +268,10 @@ module _ (place : Map Page ℕ) (pages : List Page) (page : Page) (from to : ℕ
       held_to false = refl
 
 -- a page that is none of those that move stays
-moved_beside : (moves : List Taken) (y : AddressSpacesView) (p : Page) → list_any (same_page p) (map (λ (t : Taken). t.page) moves) ≡ false → get page_cmp (all_moved y moves).place p ≡ get page_cmp y.place p
+moved_beside : (moves : List PageMove) (y : AddressSpacesView) (p : Page) → list_any (same_page p) (map (λ (t : PageMove). t.page) moves) ≡ false → get page_cmp (all_moved y moves).place p ≡ get page_cmp y.place p
 moved_beside [] y p h = refl
 moved_beside (t ∷ moves) y p h =
-    let both = or_both (same_page p t.page) (list_any (same_page p) (map (λ (t : Taken). t.page) moves)) h in
+    let both = or_both (same_page p t.page) (list_any (same_page p) (map (λ (t : PageMove). t.page) moves)) h in
     moved_beside moves (with_moved y t.page t.to) p both.1
     ∙ get-set page_cmp_total y.place t.page t.to p ∙ ap (λ c. cond c (Some t.to) (get page_cmp y.place p)) both.0
   where
@@ -280,12 +280,12 @@ moved_beside (t ∷ moves) y p h =
     or_both true b h = absurd (both_ways true h refl)
 
 -- a page that moves is in a frame that one of them takes
-moved_among : (moves : List Taken) (y : AddressSpacesView) (p : Page) (f : ℕ) → list_any (same_page p) (map (λ (t : Taken). t.page) moves) ≡ true
+moved_among : (moves : List PageMove) (y : AddressSpacesView) (p : Page) (f : ℕ) → list_any (same_page p) (map (λ (t : PageMove). t.page) moves) ≡ true
     → get page_cmp (all_moved y moves).place p ≡ Some f → is_taken moves f ≡ true
 moved_among [] y p f h at = cc
 moved_among (t ∷ moves) y p f h at =
     let z = with_moved y t.page t.to in
-    elim (list_any (same_page p) (map (λ (t : Taken). t.page) moves)) as (λ b. list_any (same_page p) (map (λ (t : Taken). t.page) moves) ≡ b → is_taken (t ∷ moves) f ≡ true) [
+    elim (list_any (same_page p) (map (λ (t : PageMove). t.page) moves)) as (λ b. list_any (same_page p) (map (λ (t : PageMove). t.page) moves) ≡ b → is_taken (t ∷ moves) f ≡ true) [
       | true ↦ λ b. or_right (t.to == f) (is_taken moves f) (moved_among moves z p f b at)
       | false ↦ λ b.
           let here : (same_page p t.page || false) ≡ true = ap (λ c. same_page p t.page || c) (sym b) ∙ h in
@@ -304,16 +304,16 @@ entry_to (Some g) true f h = (refl, ap Some (held_held h))
 entry_to (Some g) false f h = absurd (frame_is_held h)
 
 -- an entry that is held is on its way to a frame that one of the pages takes
-pub held_is_taken : (y : AddressSpacesView) (moves : List Taken) (o : Option Sight) (f : ℕ)
-    → option_map (entry_in_flight (all_moved y moves).place (map (λ (t : Taken). t.page) moves)) o ≡ Some (Held f) → is_taken moves f ≡ true
+pub held_is_taken : (y : AddressSpacesView) (moves : List PageMove) (o : Option Sight) (f : ℕ)
+    → option_map (entry_in_flight (all_moved y moves).place (map (λ (t : PageMove). t.page) moves)) o ≡ Some (Held f) → is_taken moves f ≡ true
 held_is_taken y moves None f h = cc
 held_is_taken y moves (Some ZeroPage) f h = absurd (zero_is_held (some_is h))
 held_is_taken y moves (Some (Sees p)) f h =
-    let both = entry_to (get page_cmp (all_moved y moves).place p) (list_any (same_page p) (map (λ (t : Taken). t.page) moves)) f (some_is h) in
+    let both = entry_to (get page_cmp (all_moved y moves).place p) (list_any (same_page p) (map (λ (t : PageMove). t.page) moves)) f (some_is h) in
     moved_among moves y p f both.0 both.1
 
 -- a frame that one of the pages takes, and not the first, is taken by another
-pub still_taken : (t : Taken) (moves : List Taken) (f : ℕ) → (t.to ≡ f → ⊥) → is_taken (t ∷ moves) f ≡ true → is_taken moves f ≡ true
+pub still_taken : (t : PageMove) (moves : List PageMove) (f : ℕ) → (t.to ≡ f → ⊥) → is_taken (t ∷ moves) f ≡ true → is_taken moves f ≡ true
 still_taken t moves f apart h =
     elim (t.to == f) as (λ b. (t.to == f) ≡ b → (b || is_taken moves f) ≡ true → is_taken moves f ≡ true) [
       | true ↦ λ b k. absurd (apart (eqb-true t.to f b))
@@ -339,10 +339,10 @@ module _ (tasks : Map ℕ Task) (m : Mapping) (r : Mappers) (t : IsTied tasks m 
 
 -- ---- the frames that pages take
 
-pub takes_below : (moves : List Taken) (y : AddressSpacesView) → CanRemap y moves → AllByRecursion (λ t. t.to < y.frames) moves
+pub takes_below : (moves : List PageMove) (y : AddressSpacesView) → CanRemap y moves → AllByRecursion (λ t. t.to < y.frames) moves
 takes_below [] y can = tt
 takes_below (t ∷ moves) y can = (can.1, takes_below moves (with_moved y t.page t.to) can.3)
 
-pub frames_stay : (moves : List Taken) (y : AddressSpacesView) → (all_moved y moves).frames ≡ y.frames
+pub frames_stay : (moves : List PageMove) (y : AddressSpacesView) → (all_moved y moves).frames ≡ y.frames
 frames_stay [] y = refl
 frames_stay (t ∷ moves) y = frames_stay moves (with_moved y t.page t.to)

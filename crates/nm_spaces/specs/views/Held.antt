@@ -4,7 +4,7 @@ use Rattle.std.specs.List.{list_any}
 use Rattle.std.specs.Option.{option_map}
 use Rattle.std.specs.Ordering.{nat_cmp}
 use Rattle.nm_types.specs.declared.page.Page.{Page}
-use Rattle.nm_types.specs.declared.taken.Taken.{Taken}
+use Rattle.nm_types.specs.declared.page_move.PageMove.{PageMove}
 use Rattle.nm_types.specs.Map.{Map, get}
 use Rattle.nm_laws.specs.Midway.{entry_in_flight}
 use Rattle.nm_model.specs.definitions.Areas.{Mapping}
@@ -31,5 +31,5 @@ HoldsPages h pages =
     entry_at h.tables pid v ≡ option_map (entry_in_flight h.spaces.place pages) (sight_in (get nat_cmp h.spaces.processes pid) v)
 
 -- whether one of the pages takes this frame
-abbrev pub is_taken : List Taken → ℕ → Bool
+abbrev pub is_taken : List PageMove → ℕ → Bool
 is_taken moves f = list_any (λ t. t.to == f) moves

@@ -19,7 +19,7 @@ use crate::address_spaces::{AddressSpaces, SpaceParts};
 use crate::process_table::ProcessTable;
 use nm_rmap::ReverseMap;
 use nm_tables::Entry;
-use nm_types::{FrameId, Page, Pid, Taken, Vpn};
+use nm_types::{FrameId, Page, Pid, PageMove, Vpn};
 use std::alloc::Allocator;
 use std::collections::BTreeSet;
 use std::marker::Model;
@@ -46,7 +46,7 @@ impl<A: Allocator + Copy> Model for HeldSpaces<A> {
 impl<A: Allocator + Copy> HeldSpaces<A> {
     /// Takes address spaces over and sends pages on their way to other frames: until `settle` every entry of such a page is
     /// held, whoever maps it. The new frame has the page, its mappers and its pins. Does not allocate.
-    pub fn hold(spaces: AddressSpaces<A>, moves: &[Taken]) -> Self
+    pub fn hold(spaces: AddressSpaces<A>, moves: &[PageMove]) -> Self
         requires moves { CanRemap spaces moves.now }
         ensures spaces { result.spaces ≡ all_moved spaces moves.now }
         ensures entries { HoldsPages result (map (λ t. t.page) moves.now) }
@@ -67,7 +67,7 @@ impl<A: Allocator + Copy> HeldSpaces<A> {
     }
 
     /// Sends pages on their way, one after another.
-    fn hold_pages(&mut self, moves: &[Taken])
+    fn hold_pages(&mut self, moves: &[PageMove])
         requires moves { CanRemap self.old.spaces moves.now }
         requires none { HoldsPages self.old [] }
         ensures spaces { self.new.spaces ≡ all_moved self.old.spaces moves.now }
@@ -101,7 +101,7 @@ impl<A: Allocator + Copy> HeldSpaces<A> {
 
     /// Gives the address spaces back once all pages that are on their way, which are among these, have arrived: each held
     /// entry names the new frame. Does not allocate.
-    pub fn settle(self, moves: &[Taken]) -> AddressSpaces<A>
+    pub fn settle(self, moves: &[PageMove]) -> AddressSpaces<A>
         requires below { AllByRecursion (λ t. t.to < self.spaces.frames) moves.now }
         requires among { (f pid v : ℕ) →
             entry_at self.tables pid v ≡ Some (OnItsWay f) →
@@ -116,7 +116,7 @@ impl<A: Allocator + Copy> HeldSpaces<A> {
 }
 
 /// Makes each held entry name the frame that its page was on its way to, which is one that these moves take.
-fn arrive<A: Allocator + Copy>(tasks: &mut ProcessTable<A>, rmap: &ReverseMap<A>, moves: &[Taken])
+fn arrive<A: Allocator + Copy>(tasks: &mut ProcessTable<A>, rmap: &ReverseMap<A>, moves: &[PageMove])
     requires order { AreInOrder (with_entries arrival_of tasks.old) }
     requires mappers { (f pid v : ℕ) →
         has_spot (mappers_of rmap.now f) (pid, v)

@@ -4,7 +4,7 @@ use Rattle.std.proofs.lemmas.List.{length-map}
 use Rattle.nm_types.specs.Layout.{node_count}
 use Rattle.nm_types.specs.State.{State}
 use Rattle.nm_types.specs.declared.request.Wanted.{Wanted}
-use Rattle.nm_types.specs.declared.taken.Taken.{Taken}
+use Rattle.nm_types.specs.declared.page_move.PageMove.{PageMove}
 use Rattle.nm_frames.specs.declared.job.CopyJob.{CopyJob}
 use Rattle.nm_frames.specs.Job.{job_after_copy}
 use Rattle.nm_laws.specs.Laws.{with_moves}
@@ -46,10 +46,10 @@ prepare-requires-clause-none g c = c.of-run.ensures.left
 pub prepare-requires-clause-moves : goal.prepare-requires-clause-moves
 prepare-requires-clause-moves g c =
     let t = c.args.planned.requests.now.target in
-    subst (λ (ms : List Taken). CanMove c.of-run.result.state t ms) (sym c.moves-moves.ensures) (subst (λ (x : State). CanMove x t c.args.planned.plan.taken) (sym c.of-run.ensures.state) c.requires.plan.can)
+    subst (λ (ms : List PageMove). CanMove c.of-run.result.state t ms) (sym c.moves-moves.ensures) (subst (λ (x : State). CanMove x t c.args.planned.plan.taken) (sym c.of-run.ensures.state) c.requires.plan.can)
 
 -- the run is ready to begin where its accesses have been touched
-ready_for : (x : RunState) (r s : State) (t : ℕ) (moves : List Taken) (accesses : List Access) → r ≡ s → t < node_count s.layout → x.left ≡ frames_taken moves → x.state ≡ (touched_all r t moves accesses).state
+ready_for : (x : RunState) (r s : State) (t : ℕ) (moves : List PageMove) (accesses : List Access) → r ≡ s → t < node_count s.layout → x.left ≡ frames_taken moves → x.state ≡ (touched_all r t moves accesses).state
     → IsSound (given_back r t moves accesses) → CanMove (given_back r t moves accesses) t moves → IsReadyFor x t moves
 ready_for x r s t moves accesses at inside taken touched back can =
     let nodes = ap (λ (z : State). node_count z.layout) at in
@@ -66,7 +66,7 @@ begin-run-requires-clause-ready g c κs within =
     let r = c.of-run.result.state in
     let t = c.args.planned.requests.now.target in
     let ws = c.args.planned.requests.now.wanted.items in
-    let moves : List Taken = c.moves-moves.result.now in
+    let moves : List PageMove = c.moves-moves.result.now in
     let accesses : List Access = accesses_shown {A = g.row.A.Denot} c.args.planned.accesses.now in
     let at = c.of-run.ensures.state in
     let ready = planned_phases r t moves accesses c.args.machine ws c.args.planned.plan at c.requires.plan c.moves-moves.ensures c.in-Ok.ensures.sound c.requires.target in
@@ -81,7 +81,7 @@ copy_beside-run-requires-clause-can g c κs within =
     let r = c.of-run.result.state in
     let t = c.args.planned.requests.now.target in
     let ws = c.args.planned.requests.now.wanted.items in
-    let moves : List Taken = c.moves-moves.result.now in
+    let moves : List PageMove = c.moves-moves.result.now in
     let accesses : List Access = accesses_shown {A = g.row.A.Denot} c.args.planned.accesses.now in
     let ready = planned_phases r t moves accesses c.args.machine ws c.args.planned.plan c.of-run.ensures.state c.requires.plan c.moves-moves.ensures c.in-Ok.ensures.sound c.requires.target in
     let many : length accesses ≡ length c.args.planned.accesses.now = length-map c.args.planned.accesses.now _ in
@@ -120,7 +120,7 @@ as_in_flight g c =
     let r = c.of-run.result.state in
     let t = c.args.planned.requests.now.target in
     let ws = c.args.planned.requests.now.wanted.items in
-    let moves : List Taken = c.moves-moves.result.now in
+    let moves : List PageMove = c.moves-moves.result.now in
     let accesses : List Access = accesses_shown {A = g.row.A.Denot} c.args.planned.accesses.now in
     let at = c.of-run.ensures.state in
     let touched = early_state c.of-run.result t moves accesses c.prepare.new.self c.in-Ok.dues c.in-Ok.ensures.prepared in
@@ -136,7 +136,7 @@ returns-in-Ok-clause-run g c =
     let r = c.of-run.result.state in
     let t = c.args.planned.requests.now.target in
     let ws = c.args.planned.requests.now.wanted.items in
-    let moves : List Taken = c.moves-moves.result.now in
+    let moves : List PageMove = c.moves-moves.result.now in
     let accesses : List Access = accesses_shown {A = g.row.A.Denot} c.args.planned.accesses.now in
     let at = c.of-run.ensures.state in
     let plan : IsPlanOf r t ws c.args.planned.plan = subst (λ (s : State). IsPlanOf s t ws c.args.planned.plan) (sym at) c.requires.plan in
@@ -145,7 +145,7 @@ returns-in-Ok-clause-run g c =
     let now = state_in_flight flown c.copy_beside-run.result.1.items in
     let state =
     c.finish-machine.ensures.state
-    ∙ ap (λ n. with_counts (with_all_free now (frames_left flown.moves)) n (failures c.statuses.result.now)) (sym (length-map flown.moves (λ (t : Taken). t.from)))
+    ∙ ap (λ n. with_counts (with_all_free now (frames_left flown.moves)) n (failures c.statuses.result.now)) (sym (length-map flown.moves (λ (t : PageMove). t.from)))
     ∙ run_state r t ws c.args.planned.plan moves accesses during plan c.moves-moves.ensures refl now (frames_left flown.moves) c.statuses.result.now
     (c.copy_beside-run.ensures.state ∙ ap (λ (x : AccessResults). x.state) (as_in_flight g c))
     (ap (λ (x : Flight). frames_left x.moves) c.copy_beside-run.ensures.run ∙ ap frames_left c.begin-run.ensures.moves) c.statuses.ensures
@@ -159,7 +159,7 @@ returns-in-Ok-clause-run g c =
 
 pub returns-in-Ok-clause-events : goal.returns-in-Ok-clause-events
 returns-in-Ok-clause-events g c =
-    let moves : List Taken = c.moves-moves.result.now in
+    let moves : List PageMove = c.moves-moves.result.now in
     let asked = asked_by c.args.planned.requests.now c.args.planned.accesses.now in
     let at = c.of-run.ensures.state in
     let x = c.copy_beside-run.result.0 in
@@ -176,8 +176,8 @@ returns-in-Ok-clause-events g c =
     )
 
 -- memory that is asked for moves, or for accesses, is asked for none where nothing is requested
-asked_for : (s : State) (t : ℕ) (ws : List Wanted) (p : RunPlan) (moves : List Taken) (n : ℕ) → IsPlanOf s t ws p → moves ≡ p.taken → 0 < length moves + n → 0 < length ws + n
-asked_for s t [] p moves n plan same h = subst (λ (ms : List Taken). 0 < length ms + n) (same ∙ ap (λ (q : RunPlan). q.taken) plan.planned) h
+asked_for : (s : State) (t : ℕ) (ws : List Wanted) (p : RunPlan) (moves : List PageMove) (n : ℕ) → IsPlanOf s t ws p → moves ≡ p.taken → 0 < length moves + n → 0 < length ws + n
+asked_for s t [] p moves n plan same h = subst (λ (ms : List PageMove). 0 < length ms + n) (same ∙ ap (λ (q : RunPlan). q.taken) plan.planned) h
 asked_for s t (w ∷ ws) p moves n plan same h = omega arith
 
 pub returns-in-Err-clause-asked : goal.returns-in-Err-clause-asked

@@ -1,6 +1,6 @@
 use Rattle.std.proofs.Common.{◌≡◌, List, [], ◌∷◌, ◌++◌, true, false, refl, sym, ap, subst, ◌∙◌, length, rules, w32}
 use mir.Val.{to_z, of_z}
-use Rattle.nm_types.specs.declared.taken.Taken.{Taken}
+use Rattle.nm_types.specs.declared.page_move.PageMove.{PageMove}
 use Rattle.nm_model.specs.definitions.Decide.{Choice}
 use Rattle.nm_plan.specs.Found.{Finds}
 use Rattle.nm_plan.proofs.Chosen.{known_moved, of_status, of_moved, of_short, of_new, none_taken, one_taken, none_left, front_after, node_fits, node_status, no_frame_fits, no_frame_status}
@@ -21,7 +21,7 @@ returns-in_default g c =
     }
 
 pub has-requires : goal.has-requires
-has-requires g c = subst (λ (ts : List Taken). Finds c.args.search.now ts) (sym c.as_slice.ensures.value) c.requires.found
+has-requires g c = subst (λ (ts : List PageMove). Finds c.args.search.now ts) (sym c.as_slice.ensures.value) c.requires.found
 
 pub overflow_cast-result : goal.overflow_cast-result
 overflow_cast-result g c = node_fits c.number.result c.args.target c.number.ensures c.requires.target
@@ -58,7 +58,7 @@ returns-in_default-get g c =
     }
 
 pub add-requires : goal.add-requires
-add-requires g c = subst (λ (ts : List Taken). Finds c.args.search.now ts) (sym c.as_slice-2.ensures.value) c.requires.found
+add-requires g c = subst (λ (ts : List PageMove). Finds c.args.search.now ts) (sym c.as_slice-2.ensures.value) c.requires.found
 
 pub push_reserved-requires : goal.push_reserved-requires
 push_reserved-requires g c = c.requires.room
@@ -69,7 +69,7 @@ overflow_cast-result-2 g c = node_fits c.number-2.result c.args.target c.number-
 pub returns : goal.returns
 returns g c =
     let ts = c.args.moves.now.items in
-    let t : Taken = record { page = c.in-Move.page; from = c.in-Move.from; to = c.in-Some.to.now } in
+    let t : PageMove = record { page = c.in-Move.page; from = c.in-Move.from; to = c.in-Some.to.now } in
     let known = known_moved c.args.moves.now.items c.as_slice.result.now c.in-Move.page c.has.result false c.as_slice.ensures.value c.has.ensures c.if-has.false in
     let found = c.in-Some.ensures.lookup in
     let is = of_new c.args.class c.args.moves.now.items c.args.free_front.now c.args.target c.in-Move.page c.in-Move.from c.in-Move.is c.len.result c.in-Some.to.now (c.len.ensures ∙ c.args.moves.now.ok.0) known found.3.0 found.1 in
@@ -77,7 +77,7 @@ returns g c =
       status = node_status c.number-2.result c.args.target c.number-2.ensures c.requires.target ∙ ap (λ (n : Choice). n.status) (sym is);
       moves = one_taken c.args.class c.args.moves.now.items c.args.free_front.now c.args.target t c.push_reserved.new.self.items made (ap (λ (n : Choice). n.taken) is);
       front = front_after c.args.class c.args.moves.now.items c.args.free_front.now c.args.target t c.push_reserved.new.self.items made (ap (λ (n : Choice). n.front) is);
-      found = subst (λ (us : List Taken). Finds c.add.new.self us) (ap (λ (us : List Taken). us ++ t ∷ []) c.as_slice-2.ensures.value ∙ sym made) (c.in_ok-add.ensures.noted t refl);
+      found = subst (λ (us : List PageMove). Finds c.add.new.self us) (ap (λ (us : List PageMove). us ++ t ∷ []) c.as_slice-2.ensures.value ∙ sym made) (c.in_ok-add.ensures.noted t refl);
       capacity = c.push_reserved.ensures.capacity;
       asked = tt;
       moving = tt;

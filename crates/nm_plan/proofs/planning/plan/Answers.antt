@@ -1,6 +1,6 @@
 use Rattle.std.proofs.Common.{◌≡◌, ℕ, ◌+◌, ◌-◌, ◌<◌, ◌≤◌, List, [], length, sym, ap, subst, arith, rules, w32}
 use mir.Val.{to_z, of_z}
-use Rattle.nm_types.specs.declared.taken.Taken.{Taken}
+use Rattle.nm_types.specs.declared.page_move.PageMove.{PageMove}
 use Rattle.nm_plan.specs.Found.{Finds}
 use Rattle.nm_plan.proofs.Chosen.{start_statuses, start_moves, next_statuses, next_moves, next_status_room, next_move_room, has_room, end_planned}
 use Rattle.nm_plan.proofs.planning.plan.Goals as goal
@@ -17,7 +17,7 @@ loop-class-init g c =
     let statuses = c.in_ok-statuses.ensures.items in record {
       statuses = start_statuses c.args.classes.now c.args.free_front.now c.args.target c.in_ok-statuses.statuses.items c.in_ok-moves.moves.items statuses moves;
       moves = start_moves c.args.classes.now c.args.free_front.now c.args.target c.in_ok-moves.moves.items moves;
-      found = subst (λ (ts : List Taken). Finds c.new-search.result ts) (sym moves) c.new-search.ensures;
+      found = subst (λ (ts : List PageMove). Finds c.new-search.result ts) (sym moves) c.new-search.ensures;
       status_room = room_at_first c.in_ok-statuses.statuses.items (length c.args.classes.now) c.in_ok-statuses.statuses.cap statuses c.in_ok-statuses.ensures.capacity;
       move_room = room_at_first c.in_ok-moves.moves.items (length c.args.classes.now) c.in_ok-moves.moves.cap moves c.in_ok-moves.ensures.capacity;
     }

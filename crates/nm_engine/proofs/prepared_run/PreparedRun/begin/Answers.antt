@@ -12,7 +12,7 @@ use Rattle.nm_model.specs.definitions.BeforeCopy.{with_fronts, frames_taken}
 use Rattle.nm_model.specs.definitions.Frames.{Store}
 use Rattle.nm_model.specs.definitions.Run.{frames_left}
 use Rattle.nm_model.specs.definitions.Sound.{IsSound}
-use Rattle.nm_types.specs.declared.taken.Taken.{Taken}
+use Rattle.nm_types.specs.declared.page_move.PageMove.{PageMove}
 use Rattle.nm_model.specs.definitions.Seen.{sight_in}
 use Rattle.nm_spaces.specs.definitions.Moves.{all_moved}
 use Rattle.nm_spaces.specs.views.AddressSpaces.{AddressSpacesView}
@@ -145,7 +145,7 @@ returns-clause-out g c =
     }
 
 -- the jobs of moves are between the frames that these name
-pairs_are : (A : Type 0) (moves : List Taken) (k : ℕ) (store : Store) → map (pair_of {A = A}) (jobs_of k store moves) ≡ map (λ t. (t.from, t.to)) moves
+pairs_are : (A : Type 0) (moves : List PageMove) (k : ℕ) (store : Store) → map (pair_of {A = A}) (jobs_of k store moves) ≡ map (λ t. (t.from, t.to)) moves
 pairs_are A [] k store = refl
 pairs_are A (t ∷ moves) k store = ap (λ ps. (t.from, t.to) ∷ ps) (pairs_are A moves (k + 1) (without_move store t))
 

@@ -12,7 +12,7 @@ use Rattle.nm_areas.proofs.Counted.{err_always}
 use Rattle.nm_model.specs.definitions.BeforeCopy.{frames_taken, without_fronts}
 use Rattle.nm_engine.specs.views.Shown.{shown_by}
 use Rattle.nm_types.specs.State.{State}
-use Rattle.nm_types.specs.declared.taken.Taken.{Taken}
+use Rattle.nm_types.specs.declared.page_move.PageMove.{PageMove}
 use Rattle.nm_engine.proofs.InFlight.TakenFrames.{taken_kept}
 use Rattle.nm_engine.proofs.Shown.Moves.{tos_below}
 use Rattle.nm_engine.proofs.Shown.PopulatedFrames.{same_shown, kept_again, view_again}
@@ -32,14 +32,14 @@ module _ (y : AddressSpacesView) (k r : FramesView) (online : List ℕ) (moved f
 
 -- the parts of a machine that has more room and whose frames have their bytes: it can still make these moves, which take
 -- the first frames of the node
-record IsReady (y : AddressSpacesView) (w : FramesView) (online : List ℕ) (moved failed : ℕ) (x : RunState) (target : ℕ) (moves : List Taken) : Type 0 where
+record IsReady (y : AddressSpacesView) (w : FramesView) (online : List ℕ) (moved failed : ℕ) (x : RunState) (target : ℕ) (moves : List PageMove) : Type 0 where
   kept : IsSoundMachine (shown_by y w online moved failed) w.vacated y.frames
   view : value_of y w online moved failed ≡ x
   below : target < length w.free
   can : CanMove (shown_by y w online moved failed) target moves
   front : frames_taken moves ≡ take (length moves) (free_on w target)
 
-populated : (y : AddressSpacesView) (k r w : FramesView) (online : List ℕ) (moved failed : ℕ) (x : RunState) (target : ℕ) (moves : List Taken) → r ≡ record k { room = r.room } → w ≡ record r { frames = w.frames } → KeepsBytes r.frames w.frames
+populated : (y : AddressSpacesView) (k r w : FramesView) (online : List ℕ) (moved failed : ℕ) (x : RunState) (target : ℕ) (moves : List PageMove) → r ≡ record k { room = r.room } → w ≡ record r { frames = w.frames } → KeepsBytes r.frames w.frames
     → IsSoundMachine (shown_by y k online moved failed) k.vacated y.frames → value_of y k online moved failed ≡ x → target < node_count x.state.layout → CanMove x.state target moves → IsReady y w online moved failed (record x { room = r.room }) target moves
 populated y k r w online moved failed x target moves room same keeps kept view inside can =
     let roomy = roomy_kept y k r online moved failed room kept in

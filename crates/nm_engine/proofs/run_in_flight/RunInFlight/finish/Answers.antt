@@ -2,7 +2,7 @@ use Rattle.std.proofs.Common.{◌≡◌, ℕ, List, length, map, sym, ap, subst,
 use Rattle.std.specs.List.{AllByRecursion}
 use Rattle.std.proofs.lemmas.List.{length-map}
 use Rattle.nm_types.specs.State.{State}
-use Rattle.nm_types.specs.declared.taken.Taken.{Taken}
+use Rattle.nm_types.specs.declared.page_move.PageMove.{PageMove}
 use Rattle.nm_frames.specs.declared.job.CopyJob.{CopyJob}
 use Rattle.nm_memory.specs.views.Populated.{IsPopulated}
 use Rattle.nm_model.specs.definitions.Run.{failures, frames_left, total_after, with_all_free, with_counts}
@@ -96,7 +96,7 @@ returns-clause-state g c =
     (c.after.ensures.moved ∙ ap (λ n. total_after i.totals.moved n) c.free_vacated-moved.ensures.count)
     (c.after.ensures.failed ∙ ap (λ n. total_after i.totals.failed n) c.failures-failed.ensures)
     ∙ (λ j. counted (shows j) (left j))
-    ∙ ap (λ n. with_counts (with_all_free now (map (λ (t : Taken). t.from) c.args.self.moves)) n (failures c.args.statuses.now)) (length-map c.args.self.moves (λ (t : Taken). t.from))
+    ∙ ap (λ n. with_counts (with_all_free now (map (λ (t : PageMove). t.from) c.args.self.moves)) n (failures c.args.statuses.now)) (length-map c.args.self.moves (λ (t : PageMove). t.from))
 
 pub returns-clause-event : goal.returns-clause-event
 returns-clause-event g c m now all told = ends m c.args.self c.args.jobs.items c.args.statuses.now now all told ∙ sym (returns-clause-state g c)

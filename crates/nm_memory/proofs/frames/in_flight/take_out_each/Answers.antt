@@ -7,7 +7,7 @@ use Rattle.std.proofs.lemmas.List.{append-nil, get_or-set_other}
 use Rattle.nm_frames.specs.declared.job.CopyJob.{CopyJob}
 use Rattle.nm_frames.specs.Stores.{StoreView, HasBuffer}
 use Rattle.nm_model.specs.definitions.Frames.{Store, IsHome, bytes_of}
-use Rattle.nm_types.specs.declared.taken.Taken.{Taken}
+use Rattle.nm_types.specs.declared.page_move.PageMove.{PageMove}
 use Rattle.nm_memory.specs.views.Copies.{without_move, CanCopy, HasBoth, without_moves, jobs_of}
 use Rattle.nm_memory.proofs.Copies.Copied.{both_without}
 use Rattle.nm_laws.proofs.Lists.{drop_item}
@@ -28,7 +28,7 @@ same_bytes : (store : Store) (f q : ℕ) → f ≢ q → bytes_of (slice_set sto
 same_bytes store f q apart = ap (λ (o : Option (List ℕ)). unwrap_or o []) (get_or-set_other store f q None None (λ e. apart (sym e)))
 
 -- what the frames of a move are before its bytes go out, and after those of the first
-module _ (store : StoreView) (t : Taken) where
+module _ (store : StoreView) (t : PageMove) where
   abbrev Both : Type 0
   Both = HasBoth (in_memory store) t
 
@@ -82,7 +82,7 @@ loop-taken-preserved g c =
     let n = vec_len c.loop-taken.jobs in
     let rest = drop (k + 1) moves in
     let at = drop_item moves k t c.loop-taken-test.true c.taken-item.is in
-    let less = ap (λ (ts : List Taken). length ts) at in
+    let less = ap (λ (ts : List PageMove). length ts) at in
     let can = subst (CanCopy store) at c.loop-taken.invariant.can in
     let both = subst (AllByRecursion (HasBoth store)) at c.loop-taken.invariant.populated in
     let has = target_has held t both.0 mid c.take_out-source.ensures.out can.2 in
@@ -106,7 +106,7 @@ loop-taken-preserved g c =
           ∙ ap (λ ticket. before ++ job source target ticket ∷ later) c.len-ticket.ensures
           ∙ ap (λ m. before ++ job source target n ∷ jobs_of {A = g.row.A.Denot} m (in_memory c.take_out-target.new.self) rest) c.push_reserved.ensures.len
           ∙ ap (λ (s : Store). before ++ job source target n ∷ jobs_of {A = g.row.A.Denot} (n + 1) s rest) now
-          ∙ ap (λ (ts : List Taken). before ++ jobs_of {A = g.row.A.Denot} n store ts) (sym at) ∙ c.loop-taken.invariant.jobs;
+          ∙ ap (λ (ts : List PageMove). before ++ jobs_of {A = g.row.A.Denot} n store ts) (sym at) ∙ c.loop-taken.invariant.jobs;
       fits = omega (arith, less, c.loop-taken.invariant.fits, c.push_reserved.ensures.len, c.push_reserved.ensures.capacity);
       room = c.push_reserved.ensures.capacity ∙ c.loop-taken.invariant.room;
     }
@@ -119,7 +119,7 @@ pub returns-clause-jobs : goal.returns-clause-jobs
 returns-clause-jobs g c =
     let jobs = c.loop-taken.jobs.items in
     sym (append-nil jobs)
-    ∙ ap (λ (ts : List Taken). jobs ++ jobs_of {A = g.row.A.Denot} (vec_len c.loop-taken.jobs) (in_memory c.loop-taken.frames) ts) (sym (drop_of_length-le c.args.moves.now c.loop-taken-test.false))
+    ∙ ap (λ (ts : List PageMove). jobs ++ jobs_of {A = g.row.A.Denot} (vec_len c.loop-taken.jobs) (in_memory c.loop-taken.frames) ts) (sym (drop_of_length-le c.args.moves.now c.loop-taken-test.false))
     ∙ c.loop-taken.invariant.jobs
 
 pub loop-taken-init : goal.loop-taken-init
@@ -134,5 +134,5 @@ loop-taken-init g c = record {
 
 pub push_reserved-requires : goal.push_reserved-requires
 push_reserved-requires g c =
-    let less = ap (λ (ts : List Taken). length ts) (drop_item c.args.moves.now c.loop-taken.taken-index c.taken-item.result c.loop-taken-test.true c.taken-item.is) in
+    let less = ap (λ (ts : List PageMove). length ts) (drop_item c.args.moves.now c.loop-taken.taken-index c.taken-item.result c.loop-taken-test.true c.taken-item.is) in
     omega (arith, less, c.loop-taken.invariant.fits)

@@ -3,7 +3,7 @@ use Rattle.std.specs.List.{AllByRecursion}
 use Rattle.std.proofs.Math.ListN.{drop_of_length-le}
 use Rattle.nm_types.specs.Map.{Map}
 use Rattle.nm_types.specs.declared.entry.Entry.TheVariants.{Frame}
-use Rattle.nm_types.specs.declared.taken.Taken.{Taken}
+use Rattle.nm_types.specs.declared.page_move.PageMove.{PageMove}
 use Rattle.nm_model.specs.definitions.Events.{arrival_of, with_entries}
 use Rattle.nm_model.specs.definitions.PageTables.{Task, entry_at}
 use Rattle.nm_rmap.specs.Mappers.{mappers_of}
@@ -43,7 +43,7 @@ loop-taken-preserved g c =
       among = λ f pid v h.
           let k = arrive_fewer tasks l t.to (named g c) f pid v (ap (λ (ts : Map ℕ Task). entry_at ts pid v) (sym is) ∙ h) in
           still_taken t (drop (c.loop-taken.taken-index + 1) c.args.moves.now) f k.1
-          (subst (λ (ts : List Taken). is_taken ts f ≡ true) at (c.loop-taken.invariant.among f pid v k.0));
+          (subst (λ (ts : List PageMove). is_taken ts f ≡ true) at (c.loop-taken.invariant.among f pid v k.0));
     }
 
 pub returns : goal.returns
@@ -51,5 +51,5 @@ returns g c =
     let tasks = c.loop-taken.tasks in
     let order = order_before tasks (subst AreInOrder (sym c.loop-taken.invariant.same) c.requires.order) in
     sym (all_arrived tasks order (λ f pid v h.
-    none_taken f (subst (λ (ts : List Taken). is_taken ts f ≡ true) (drop_of_length-le c.args.moves.now c.loop-taken-test.false) (c.loop-taken.invariant.among f pid v h))))
+    none_taken f (subst (λ (ts : List PageMove). is_taken ts f ≡ true) (drop_of_length-le c.args.moves.now c.loop-taken-test.false) (c.loop-taken.invariant.among f pid v h))))
     ∙ c.loop-taken.invariant.same

@@ -1,7 +1,7 @@
 use Rattle.std.proofs.Common.{[], ◌∷◌, ◌++◌, map, take, drop, ◌+◌, sym, subst, ap, ◌∙◌}
 use Rattle.std.proofs.lemmas.List.{map-append, take_more}
 use Rattle.nm_types.specs.declared.page.Page.{Page}
-use Rattle.nm_types.specs.declared.taken.Taken.{Taken}
+use Rattle.nm_types.specs.declared.page_move.PageMove.{PageMove}
 use Rattle.nm_laws.proofs.Lists.{drop_item}
 use Rattle.nm_spaces.specs.views.AddressSpaces.{AddressSpacesView}
 use Rattle.nm_spaces.specs.views.Held.{HoldsPages}
@@ -16,7 +16,7 @@ loop-taken-preserved g c =
     let rest = drop (k + 1) moves in
     let at = drop_item moves k t c.loop-taken-test.true c.taken-item.is in
     let is = c.hold_page.ensures.spaces in
-    let page : Taken → Page = λ t. t.page in
+    let page : PageMove → Page = λ t. t.page in
     let pages = ap (map page) (take_more moves k t c.loop-taken-test.true ∙ ap (λ u. take k moves ++ u ∷ []) (sym c.taken-item.is)) ∙ map-append page (take k moves) (t ∷ []) in
     record {
       can = subst (λ (z : AddressSpacesView). CanRemap z rest) (sym is) (subst (CanRemap c.loop-taken.self.spaces) at c.loop-taken.invariant.can).3;

@@ -4,7 +4,7 @@ use crate::{FrameId, Page};
 
 /// A page that moves.
 #[derive(Clone, Copy, Debug, PartialEq, Eq)]
-pub struct Taken {
+pub struct PageMove {
     /// The page.
     pub page: Page,
     /// The frame that it leaves: a number below 16,384.
