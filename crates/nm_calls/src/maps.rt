@@ -9,7 +9,7 @@ ghost use Rattle.nm_calls.specs.views.Tally.{comma, line_text, pages_of, told_on
 use crate::number_text::{push_address, push_number};
 use nm_areas::Area;
 use nm_engine::Machine;
-use nm_types::{Located, NodeId, NodeMask, Pid, Policy, Vpn};
+use nm_types::{LocatedPage, NodeId, NodeMask, Pid, Policy, Vpn};
 use std::alloc::{AllocError, Allocator};
 
 /// Removes from `rest` the nodes that follow `first` without a gap, and returns the last of them, or `first` if there
@@ -109,10 +109,10 @@ struct Tally {
 }
 
 /// Counts pages that processes see.
-fn tally_of<A: Allocator + Copy + Send + Sync>(machine: &Machine<A>, pages: &[Located]) -> Tally
+fn tally_of<A: Allocator + Copy + Send + Sync>(machine: &Machine<A>, pages: &[LocatedPage]) -> Tally
     requires placed { All
-        (λ (page : Located). get page_cmp machine.now.place page.page ≡ Some page.frame) pages.now }
-    requires nodes { All (λ (page : Located). page.node < node_count machine.now.layout) pages.now }
+        (λ (page : LocatedPage). get page_cmp machine.now.place page.page ≡ Some page.frame) pages.now }
+    requires nodes { All (λ (page : LocatedPage). page.node < node_count machine.now.layout) pages.now }
     ensures pages { result.pages ≡ length pages.now }
     ensures most { result.most ≡ most_users machine.now pages.now }
     ensures on { (node : ℕ) → node < 64 →

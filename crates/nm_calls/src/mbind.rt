@@ -19,7 +19,7 @@ use crate::stray_pages::{astray, some_stray, stray_from};
 use nm_areas::PageRange;
 use nm_engine::{Machine, RunCrew};
 use nm_steps::MbindRequest;
-use nm_types::{Errno, Located, MoveFlags, NodeId, NodeMask, Pid, Policy, ProcessInfo, Vpn};
+use nm_types::{Errno, LocatedPage, MoveFlags, NodeId, NodeMask, Pid, Policy, ProcessInfo, Vpn};
 use std::alloc::{AllocError, Allocator};
 
 // The modes of mbind(2), by their numbers.
@@ -244,7 +244,7 @@ fn listed<A: Allocator + Copy + Send + Sync>(
     machine: &Machine<A>,
     binding: &Binding,
     flags: MoveFlags,
-) -> Result<Vec<Located, A>, AllocError>
+) -> Result<Vec<LocatedPage, A>, AllocError>
     ensures list { IfOk result (λ pages. pages.items ≡ pages_to_bind machine.now binding.now flags) }
     ensures few { IfOk result (λ pages. length pages.items ≤ binding.now.end - binding.now.first) }
     ensures asked { OnErr result (has_move flags ≡ true) }
@@ -259,7 +259,7 @@ fn listed<A: Allocator + Copy + Send + Sync>(
 fn is_late<A: Allocator + Copy + Send + Sync>(
     machine: &Machine<A>,
     policy: &Policy,
-    pages: &[Located],
+    pages: &[LocatedPage],
     flags: MoveFlags,
 ) -> bool
     ensures { result ≡ (is_strict flags && list_any (is_stray machine.now policy.now) pages.now) }

@@ -18,7 +18,7 @@ use crate::turns::make_turns;
 use nm_engine::{Machine, RunCrew};
 use nm_policy::{Sent, first_touch_order, mbind_targets};
 use nm_runs::Wanted;
-use nm_types::{Located, NodeId, NodeMask, Pid, Policy, Vpn};
+use nm_types::{LocatedPage, NodeId, NodeMask, Pid, Policy, Vpn};
 use std::alloc::{AllocError, Allocator};
 
 /// How pages move.
@@ -49,7 +49,7 @@ fn spots<A: Allocator + Copy>(
     alloc: A,
     pid: Pid,
     all: bool,
-    pages: &[Located],
+    pages: &[LocatedPage],
 ) -> Result<Vec<Wanted, A>, AllocError>
     ensures { IfOk result (λ wanted. wanted.items ≡ requests_at pid all pages.now) }
 {
@@ -109,7 +109,7 @@ pub(crate) fn way_of<A: Allocator + Copy + Send + Sync>(
     home: NodeId,
     binding: &Binding,
     all: bool,
-    pages: &[Located],
+    pages: &[LocatedPage],
 ) -> Result<Placement<A>, AllocError>
     requires nodes { AllByRecursion (λ n. n < node_count (machine.now.layout))
         (nodes_named binding.now.policy) }

@@ -11,12 +11,12 @@ ghost use Rattle.nm_calls.specs.definitions.Migrate.{once};
 use crate::mbind::Binding;
 use nm_engine::Machine;
 use nm_policy::follows;
-use nm_types::{Located, Pid, Policy, Vpn};
+use nm_types::{LocatedPage, Pid, Policy, Vpn};
 use std::alloc::{AllocError, Allocator};
 use std::collections::BTreeSet;
 
 /// Whether a page is not where a policy wants it.
-fn is_astray(policy: &Policy, page: &Located) -> bool
+fn is_astray(policy: &Policy, page: &LocatedPage) -> bool
     ensures { result ≡ not (follows policy.now page.now.node) }
 {
     !follows(*policy, page.node)
@@ -41,7 +41,7 @@ pub(crate) fn stray_from<A: Allocator + Copy + Send + Sync>(
     first: Vpn,
     end: Vpn,
     policy: &Policy,
-) -> Option<Located>
+) -> Option<LocatedPage>
     ensures some { IfSome result
         (λ e. strays_between machine.now pid first end policy.now
         ≡ e ∷ strays_between machine.now pid (e.vpn + 1) end policy.now) }
@@ -69,11 +69,11 @@ pub(crate) fn stray_from<A: Allocator + Copy + Send + Sync>(
 fn strays_among<A: Allocator + Copy>(
     alloc: A,
     policy: &Policy,
-    pages: &[Located],
-) -> Result<Vec<Located, A>, AllocError>
+    pages: &[LocatedPage],
+) -> Result<Vec<LocatedPage, A>, AllocError>
     ensures { IfOk result
         (λ strays. strays.items
-        ≡ filter (λ (page : Located). not (follows policy.now page.node)) pages.now) }
+        ≡ filter (λ (page : LocatedPage). not (follows policy.now page.node)) pages.now) }
 {
     pages
         .iter()
@@ -83,14 +83,14 @@ fn strays_among<A: Allocator + Copy>(
 }
 
 /// Whether a page comes before another.
-fn is_before(page: &Located, next: &Located) -> bool
+fn is_before(page: &LocatedPage, next: &LocatedPage) -> bool
     ensures { result ≡ is_lt (page_cmp page.now.page next.now.page) }
 {
     page.page < next.page
 }
 
 /// Whether each of these pages comes before the next. Then none is there twice.
-fn are_ascending(pages: &[Located]) -> bool
+fn are_ascending(pages: &[LocatedPage]) -> bool
     ensures once { result ≡ true → once (λ l m. same_page l.page m.page) pages.now ≡ pages.now }
     ensures told { IsAllAdjacentAnswer (λ l m b. b ≡ is_lt (page_cmp l.page m.page)) pages.now result }
 {
@@ -99,7 +99,7 @@ fn are_ascending(pages: &[Located]) -> bool
 
 /// The pages without repetition, each at its first place. An error means that the host is out of memory; no pages take
 /// none.
-fn once<A: Allocator + Copy>(alloc: A, pages: &[Located]) -> Result<Vec<Located, A>, AllocError>
+fn once<A: Allocator + Copy>(alloc: A, pages: &[LocatedPage]) -> Result<Vec<LocatedPage, A>, AllocError>
     ensures list { IfOk result
         (λ all. all.items ≡ once (λ l m. same_page l.page m.page) pages.now) }
     ensures few { IfOk result (λ all. length all.items ≤ length pages.now) }
@@ -121,7 +121,7 @@ pub(crate) fn astray<A: Allocator + Copy + Send + Sync>(
     alloc: A,
     machine: &Machine<A>,
     binding: Binding,
-) -> Result<Vec<Located, A>, AllocError>
+) -> Result<Vec<LocatedPage, A>, AllocError>
     ensures list { IfOk result (λ pages. pages.items ≡ stray_pages machine.now binding) }
     ensures few { IfOk result (λ pages. length pages.items ≤ binding.end - binding.first) }
 {
@@ -148,7 +148,7 @@ pub(crate) fn astray<A: Allocator + Copy + Send + Sync>(
 fn strays_now<A: Allocator + Copy + Send + Sync>(
     machine: &Machine<A>,
     policy: &Policy,
-    found: &Located,
+    found: &LocatedPage,
 ) -> bool
     ensures { result ≡ is_stray machine.now policy.now found.now }
 {
@@ -162,7 +162,7 @@ fn strays_now<A: Allocator + Copy + Send + Sync>(
 pub(crate) fn some_stray<A: Allocator + Copy + Send + Sync>(
     machine: &Machine<A>,
     policy: &Policy,
-    pages: &[Located],
+    pages: &[LocatedPage],
 ) -> bool
     ensures { result ≡ list_any (is_stray machine.now policy.now) pages.now }
 {

@@ -3,7 +3,7 @@
 ghost use Rattle.std.specs.Prelude.{◌≡◌, ◌<◌, ◌==◌, ◌++◌, map, length, IfOk, OnOk, OnErr};
 ghost use Rattle.nm_policy.specs.Turns.{with_turn, sent_to, by_turns};
 
-use nm_types::{Located, NodeId, NodeMask, Vpn};
+use nm_types::{LocatedPage, NodeId, NodeMask, Vpn};
 use std::alloc::{AllocError, Allocator};
 
 /// A page that is to go to a node.
@@ -33,7 +33,7 @@ fn nodes_of<A: Allocator + Copy>(alloc: A, set: NodeMask) -> Result<Vec<NodeId, 
 fn dealt<A: Allocator + Copy>(
     alloc: A,
     nodes: &[NodeId],
-    pages: &[Located],
+    pages: &[LocatedPage],
 ) -> Result<Vec<Sent, A>, AllocError>
     requires { 0 < length nodes.now }
     ensures dealt { IfOk result (λ dealt. dealt.items ≡ map (with_turn nodes.now) pages.now) }
@@ -78,7 +78,7 @@ fn append_for<A: Allocator + Copy>(
 pub fn mbind_targets<A: Allocator + Copy>(
     alloc: A,
     nodes: NodeMask,
-    pages: &[Located],
+    pages: &[LocatedPage],
 ) -> Result<Vec<Sent, A>, AllocError>
     ensures targets { IfOk result (λ targets. targets.items ≡ by_turns nodes pages.now) }
     ensures asked { OnErr result ((0 < length nodes) × (0 < length pages.now)) }

@@ -1,7 +1,7 @@
 use nm_policy::{
     first_touch_node, first_touch_order, follows, laws, mbind_targets, pairs, zonelist,
 };
-use nm_types::{FrameId, Geometry, Located, NodeId, NodeMask, Page, Policy, Vpn};
+use nm_types::{FrameId, Geometry, LocatedPage, NodeId, NodeMask, Page, Policy, Vpn};
 use std::alloc::{AllocError, Global};
 use std::process::Abort;
 use std::test::Fail;
@@ -213,9 +213,9 @@ fn pairs_in_order(rt: HostRuntime) -> Result<(), Fail> {
 }
 
 /// Four pages of a segment, at page numbers from 16 on.
-fn four_pages(alloc: Global) -> Result<Vec<Located>, AllocError> {
+fn four_pages(alloc: Global) -> Result<Vec<LocatedPage>, AllocError> {
     (0..4u64)
-        .map(|index| Located {
+        .map(|index| LocatedPage {
             vpn: Vpn::new(16 + index),
             page: Page { segment: 0, index },
             frame: FrameId::new(0),

@@ -24,20 +24,20 @@ use Rattle.nm_model.specs.definitions.Sound.{IsSound, IsWhole}
 use Rattle.nm_types.specs.Layout.{node_count}
 use Rattle.nm_types.specs.Nodes.{up_from}
 use Rattle.nm_types.specs.State.{State, PlacedArea}
-use Rattle.nm_types.specs.declared.located.Located.{Located}
+use Rattle.nm_types.specs.declared.located_page.LocatedPage.{LocatedPage}
 use Rattle.nm_calls.specs.declared.maps.Tally.{Tally}
 use Rattle.nm_calls.specs.definitions.Maps.{told_from, node_text, most_users, numa_maps, area_text, pages_text}
 use Rattle.nm_calls.specs.views.Tally.{line_text, nodes_text, counts_text, tally_text}
 
 -- how many pages are on a node
-abbrev pub count_on : List Located → ℕ → ℕ
+abbrev pub count_on : List LocatedPage → ℕ → ℕ
 count_on pages node = count_by (λ p. p.node == node) pages
 
 same_up : (f g : ℕ → List ℕ) (n a : ℕ) → ((k : ℕ) → k < a + n → f k ≡ g k) → flat_map f (up_from a n) ≡ flat_map g (up_from a n)
 same_up f g zero a h = refl
 same_up f g (suc n) a h = ap (λ t. t ++ flat_map f (up_from (a + 1) n)) (h a (omega arith)) ∙ ap (λ t. g a ++ t) (same_up f g n (a + 1) (λ k lt. h k (omega (arith, lt))))
 
-pub nodes_told : (on : List ℕ) (pages : List Located) (n : ℕ) → ((node : ℕ) → node < n → slice_index on node ≡ count_on pages node) → nodes_text on n ≡ flat_map (node_text pages) (up_from 0 n)
+pub nodes_told : (on : List ℕ) (pages : List LocatedPage) (n : ℕ) → ((node : ℕ) → node < n → slice_index on node ≡ count_on pages node) → nodes_text on n ≡ flat_map (node_text pages) (up_from 0 n)
 nodes_told on pages n h =
     same_up (λ node. told_from 1 (codes " N" ++ decimal node ++ codes "=") (slice_index on node)) (node_text pages) n 0 (λ k lt. ap (told_from 1 (codes " N" ++ decimal k ++ codes "=")) (h k (omega (arith, lt))))
 
@@ -46,7 +46,7 @@ some_told : (n most : ℕ) (nodes : List ℕ) → counts_text (suc n) most nodes
 some_told n most nodes =
     ap (λ (b : Bool). if b then [] else (codes " anon=" ++ decimal (suc n)) ++ told_from 2 (codes " mapmax=") most ++ nodes ++ codes " kernelpagesize_kB=4") (ne_eqb (suc n) 0 (λ e. omega (arith, e)))
 
-pub tally_tells : (s : State) (pages : List Located) (t : Tally) → t.pages ≡ length pages → t.most ≡ most_users s pages → ((node : ℕ) → node < 64 → slice_index t.on node ≡ count_on pages node) → node_count s.layout ≤ 64
+pub tally_tells : (s : State) (pages : List LocatedPage) (t : Tally) → t.pages ≡ length pages → t.most ≡ most_users s pages → ((node : ℕ) → node < 64 → slice_index t.on node ≡ count_on pages node) → node_count s.layout ≤ 64
     → tally_text t (node_count s.layout) ≡ pages_text s pages
 tally_tells s [] t many most on few = ap (λ n. counts_text n t.most (nodes_text t.on (node_count s.layout))) many
 tally_tells s (p ∷ ps) t many most on few =
@@ -60,7 +60,7 @@ tally_tells s (p ∷ ps) t many most on few =
 abbrev one_if : Bool → ℕ
 one_if b = cond b 1 0
 
-count_one : (test : Located → Bool) (p : Located) (ps : List Located) → count_by test (p ∷ ps) ≡ one_if (test p) + count_by test ps
+count_one : (test : LocatedPage → Bool) (p : LocatedPage) (ps : List LocatedPage) → count_by test (p ∷ ps) ≡ one_if (test p) + count_by test ps
 count_one test p ps = sum_by-cons (λ x. cond (test x) 1 0) p ps
 
 here_is : (on : List ℕ) (i node : ℕ) → i < 64 → length on ≡ 64 → i ≡ node → slice_index (slice_set on i (slice_index_or on i 0 + 1)) node ≡ slice_index on node + 1
@@ -70,7 +70,7 @@ other_is : (on : List ℕ) (i node : ℕ) → (i ≡ node → ⊥) → slice_ind
 other_is on i node h = get_or-set_other on i node _ 0 (λ e. h (sym e))
 
 -- `pages` pages are counted, and these are left
-pub record Counted (s : State) (all rest : List Located) (pages most : ℕ) (on : List ℕ) : Type 0 where
+pub record Counted (s : State) (all rest : List LocatedPage) (pages most : ℕ) (on : List ℕ) : Type 0 where
   pub as_many : pages + length rest ≡ length all
   pub greatest : fold (λ most p. max most (length (users s.processes p.page))) most rest ≡ most_users s all
   pub nodes : length on ≡ 64
@@ -86,7 +86,7 @@ greater a b = elim (cases_order b a) [
   ]
 ]
 
-pub none_counted : (s : State) (all rest : List Located) → all ≡ rest → Counted s all rest 0 0 (replicate 64 0)
+pub none_counted : (s : State) (all rest : List LocatedPage) → all ≡ rest → Counted s all rest 0 0 (replicate 64 0)
 none_counted s all rest e = record {
   as_many = let n : length rest ≡ length all = ap length (sym e) in omega (arith, n);
   greatest = ap (λ ps. fold (λ most p. max most (length (users s.processes p.page))) 0 ps) (sym e);
@@ -95,7 +95,7 @@ none_counted s all rest e = record {
   on_each = λ node lt. let none : slice_index (replicate 64 0) node ≡ 0 = get_or-replicate 64 node 0 0 lt in let same : count_on rest node ≡ count_on all node = ap (λ ps. count_on ps node) (sym e) in omega (arith, none, same);
 }
 
-pub one_counted : (s : State) (all rest : List Located) (pages most : ℕ) (on : List ℕ) (p : Located) (behind : List Located) (most' : ℕ) → rest ≡ p ∷ behind → p.node < 64 → most' ≡ ord_max nat_cmp most (length (users s.processes p.page))
+pub one_counted : (s : State) (all rest : List LocatedPage) (pages most : ℕ) (on : List ℕ) (p : LocatedPage) (behind : List LocatedPage) (most' : ℕ) → rest ≡ p ∷ behind → p.node < 64 → most' ≡ ord_max nat_cmp most (length (users s.processes p.page))
     → Counted s all rest pages most on → Counted s all behind (pages + 1) most' (slice_set on p.node (slice_index_or on p.node 0 + 1))
 one_counted s all rest pages most on p behind most' e lt is h =
     let new = slice_set on p.node (slice_index_or on p.node 0 + 1) in

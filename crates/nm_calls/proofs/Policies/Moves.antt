@@ -12,7 +12,7 @@ use Rattle.nm_policy.specs.declared.targets.Sent.{Sent}
 use Rattle.nm_model.specs.definitions.Order.{zonelist}
 use Rattle.nm_policy.specs.Turns.{with_turn, sent_to, by_turns}
 use Rattle.nm_model.specs.definitions.Cut.{wanted_of}
-use Rattle.nm_types.specs.declared.located.Located.{Located}
+use Rattle.nm_types.specs.declared.located_page.LocatedPage.{LocatedPage}
 use Rattle.nm_model.specs.definitions.Effect.{with_areas_of}
 use Rattle.nm_model.specs.definitions.Run.{moves_all, HasOneAll}
 use Rattle.nm_calls.specs.definitions.Passes.{passes}
@@ -43,7 +43,7 @@ module _ (P : ℕ → Type 0) where
   asked_all pid all (t ∷ ts) h = (h.0, asked_all pid all ts h.1)
 
   -- pages that take turns go to nodes of the set ..
-  pub turns_go : (nodes : List ℕ) (pages : List Located) → AllByRecursion P nodes → AllByRecursion (λ t. P t.to) (by_turns nodes pages)
+  pub turns_go : (nodes : List ℕ) (pages : List LocatedPage) → AllByRecursion P nodes → AllByRecursion (λ t. P t.to) (by_turns nodes pages)
   turns_go nodes pages h = sent_all (map (with_turn nodes) pages) nodes h
 
   kept_all : (ns ks : List ℕ) → AllByRecursion P ns → AllByRecursion P (filter (is_in ns) ks)
@@ -71,19 +71,19 @@ turns_alike pid all ts = (all, each ts)
     each [] = tt
     each (t ∷ ts) = (refl, each ts)
 
-pub spots_alike : (pid : ℕ) (all : Bool) (ls : List Located) → HasOneAll (requests_at pid all ls)
+pub spots_alike : (pid : ℕ) (all : Bool) (ls : List LocatedPage) → HasOneAll (requests_at pid all ls)
 spots_alike pid all ls = (all, each ls)
   where
-    each : (ls : List Located) → AllByRecursion (λ w. moves_all w ≡ all) (requests_at pid all ls)
+    each : (ls : List LocatedPage) → AllByRecursion (λ w. moves_all w ≡ all) (requests_at pid all ls)
     each [] = tt
     each (l ∷ ls) = (refl, each ls)
 
-pub spots_length : (pid : ℕ) (all : Bool) (ls : List Located) → length (requests_at pid all ls) ≡ length ls
+pub spots_length : (pid : ℕ) (all : Bool) (ls : List LocatedPage) → length (requests_at pid all ls) ≡ length ls
 spots_length pid all [] = refl
 spots_length pid all (l ∷ ls) = ap suc (spots_length pid all ls)
 
 -- a policy other than INTERLEAVE has passes, whatever the areas
-pub passes_by : (s : State) (m : Mapping) (limit : ℕ) (policy : Policy) (home pid : ℕ) (all : Bool) (pages : List Located) → ((nodes : List ℕ) → policy ≡ Interleave nodes → ⊥)
+pub passes_by : (s : State) (m : Mapping) (limit : ℕ) (policy : Policy) (home pid : ℕ) (all : Bool) (pages : List LocatedPage) → ((nodes : List ℕ) → policy ≡ Interleave nodes → ⊥)
     → passes limit (with_areas_of s m) (nodes_tried s home policy) (requests_at pid all pages) ≡ runs_by limit (with_areas_of s m) policy home pid all pages
 passes_by s m limit Default home pid all pages h = refl
 passes_by s m limit (Preferred node) home pid all pages h = refl

@@ -24,7 +24,7 @@ use Rattle.nm_calls.specs.definitions.Migrate.{once}
 use Rattle.nm_calls.specs.definitions.Permission.{info_at, has_move_all}
 use Rattle.nm_calls.specs.definitions.Systems.{SystemState}
 use Rattle.nm_calls.specs.views.Runs.{Binds, Stops}
-use Rattle.nm_types.specs.declared.located.Located.{Located}
+use Rattle.nm_types.specs.declared.located_page.LocatedPage.{LocatedPage}
 use Rattle.nm_calls.proofs.Policies.Results.{binds_does}
 use Rattle.nm_calls.proofs.NodesOffline.Passes.{passes_none}
 
@@ -72,7 +72,7 @@ listed_moves s b flags some = elim (has_move flags) as (λ m. 0 < length (if m t
 ] some
 
 -- where a run is made, there are pages
-pub runs_some : (limit : ℕ) (s : State) (policy : Policy) (home pid : ℕ) (all : Bool) (pages : List Located) → 0 < length (runs_by limit s policy home pid all pages) → 0 < length pages
+pub runs_some : (limit : ℕ) (s : State) (policy : Policy) (home pid : ℕ) (all : Bool) (pages : List LocatedPage) → 0 < length (runs_by limit s policy home pid all pages) → 0 < length pages
 runs_some limit s policy home pid all [] some = absurd (omega (arith, some, ap (λ (rs : List Stretch). length rs) (no_moves limit s policy home pid all)))
 runs_some limit s policy home pid all (page ∷ pages) some = omega arith
 

@@ -9,24 +9,24 @@ use Rattle.std.proofs.lemmas.List.Folds.{list_any-append}
 use Rattle.std.proofs.lemmas.List.Elements.{filter-append}
 use Rattle.nm_types.specs.declared.page.Page.{Page}
 use Rattle.nm_types.specs.Map.{page_cmp, same_page}
-use Rattle.nm_types.specs.declared.located.Located.{Located}
+use Rattle.nm_types.specs.declared.located_page.LocatedPage.{LocatedPage}
 use Rattle.nm_types.specs.declared.area.Policy.{Policy}
 use Rattle.nm_model.specs.definitions.Order.{follows}
 use Rattle.nm_calls.specs.definitions.Migrate.{once}
 
 -- pages without repetition
-abbrev pub pages_once : List Located → List Located
+abbrev pub pages_once : List LocatedPage → List LocatedPage
 pages_once = once (λ l m. same_page l.page m.page)
 
 -- whether a page is among some
-abbrev pub is_listed : List Located → Page → Bool
+abbrev pub is_listed : List LocatedPage → Page → Bool
 is_listed ls p = list_any (λ l. same_page l.page p) ls
 
 -- one more, which is another page than the earlier ones, or is one of them and is left out
-once_more : (ls : List Located) (x : Located) → pages_once (ls ++ x ∷ []) ≡ pages_once ls ++ cond (is_listed ls x.page) [] (x ∷ [])
+once_more : (ls : List LocatedPage) (x : LocatedPage) → pages_once (ls ++ x ∷ []) ≡ pages_once ls ++ cond (is_listed ls x.page) [] (x ∷ [])
 once_more [] x = refl
 once_more (l ∷ ls) x =
-    let kept : Located → Bool = λ m. not (same_page l.page m.page) in
+    let kept : LocatedPage → Bool = λ m. not (same_page l.page m.page) in
     ap (λ ms. l ∷ filter kept ms) (once_more ls x)
     ∙ ap (λ ms. l ∷ ms) (filter-append kept (pages_once ls) (cond (is_listed ls x.page) [] (x ∷ [])))
     ∙ ap (λ ms. l ∷ filter kept (pages_once ls) ++ ms) (tail (same_page l.page x.page) (is_listed ls x.page) refl)
@@ -38,8 +38,8 @@ once_more (l ∷ ls) x =
     tail false false h = ap (λ c. cond (not c) (x ∷ []) []) h
 
 -- these of all pages are listed, and their names are known; the others are left
-pub record HaveListed (all left pages : List Located) (seen : BTreeSet Page) : Type 0 where
-  pub done : List Located
+pub record HaveListed (all left pages : List LocatedPage) (seen : BTreeSet Page) : Type 0 where
+  pub done : List LocatedPage
   pub joined : done ++ left ≡ all
   pub listed : pages ≡ pages_once done
   pub known : (p : Page) → contains page_cmp seen p ≡ is_listed done p
@@ -50,14 +50,14 @@ cond_or true false = refl
 cond_or false true = refl
 cond_or false false = refl
 
-more_known : (seen new : BTreeSet Page) (done : List Located) (x : Located) → Updates page_cmp seen new x.page true → ((p : Page) → contains page_cmp seen p ≡ is_listed done p) → (p : Page) → contains page_cmp new p ≡ is_listed (done ++ x ∷ []) p
+more_known : (seen new : BTreeSet Page) (done : List LocatedPage) (x : LocatedPage) → Updates page_cmp seen new x.page true → ((p : Page) → contains page_cmp seen p ≡ is_listed done p) → (p : Page) → contains page_cmp new p ≡ is_listed (done ++ x ∷ []) p
 more_known seen new done x updates known p =
     updates.0 p ∙ ap (λ b. cond (is_at (page_cmp x.page) p) true b) (known p)
     ∙ cond_or (is_at (page_cmp x.page) p) (is_listed done p)
     ∙ sym (list_any-append (λ l. same_page l.page p) done (x ∷ []))
 
 -- one that comes for the first time ..
-pub one_listed : (all left rest pages : List Located) (seen new : BTreeSet Page) (x : Located) → HaveListed all left pages seen → left ≡ x ∷ rest → Updates page_cmp seen new x.page true → contains page_cmp seen x.page ≡ false → HaveListed all rest (pages ++ x ∷ []) new
+pub one_listed : (all left rest pages : List LocatedPage) (seen new : BTreeSet Page) (x : LocatedPage) → HaveListed all left pages seen → left ≡ x ∷ rest → Updates page_cmp seen new x.page true → contains page_cmp seen x.page ≡ false → HaveListed all rest (pages ++ x ∷ []) new
 one_listed all left rest pages seen new x h is updates first =
     let fresh : is_listed h.done x.page ≡ false = sym (h.known x.page) ∙ first in
     record {
@@ -68,7 +68,7 @@ one_listed all left rest pages seen new x h is updates first =
     }
 
 -- .. and one that came already
-pub one_again : (all left rest pages : List Located) (seen new : BTreeSet Page) (x : Located) → HaveListed all left pages seen → left ≡ x ∷ rest → Updates page_cmp seen new x.page true → contains page_cmp seen x.page ≡ true → HaveListed all rest pages new
+pub one_again : (all left rest pages : List LocatedPage) (seen new : BTreeSet Page) (x : LocatedPage) → HaveListed all left pages seen → left ≡ x ∷ rest → Updates page_cmp seen new x.page true → contains page_cmp seen x.page ≡ true → HaveListed all rest pages new
 one_again all left rest pages seen new x h is updates again =
     let there : is_listed h.done x.page ≡ true = sym (h.known x.page) ∙ again in
     record {
@@ -79,7 +79,7 @@ one_again all left rest pages seen new x h is updates again =
     }
 
 -- none is left
-pub all_listed : (all left pages : List Located) (seen : BTreeSet Page) → HaveListed all left pages seen → left ≡ [] → pages ≡ pages_once all
+pub all_listed : (all left pages : List LocatedPage) (seen : BTreeSet Page) → HaveListed all left pages seen → left ≡ [] → pages ≡ pages_once all
 all_listed all left pages seen h none =
     h.listed ∙ ap pages_once (sym (append-nil h.done) ∙ ap (λ l. h.done ++ l) (sym none) ∙ h.joined)
 
@@ -97,17 +97,17 @@ if_listed (Ok x) f h = f x h
 if_listed (Err e) f h = tt
 
 -- no more pass a test than there are
-pub few_pass : (test : Located → Bool) (pages : List Located) → length (filter test pages) ≤ length pages
+pub few_pass : (test : LocatedPage → Bool) (pages : List LocatedPage) → length (filter test pages) ≤ length pages
 few_pass test [] = omega arith
 few_pass test (p ∷ pages) =
     let rest = few_pass test pages in
     elim (test p) as (λ b. length (cond b (p ∷ filter test pages) (filter test pages)) ≤ length (p ∷ pages)) [ true ↦ omega (arith, rest) | false ↦ omega (arith, rest) ]
 
 -- none passes a test that all fail
-none_passes : (test : Located → Bool) (pages : List Located) → ((page : Located) → test page ≡ false) → filter test pages ≡ []
+none_passes : (test : LocatedPage → Bool) (pages : List LocatedPage) → ((page : LocatedPage) → test page ≡ false) → filter test pages ≡ []
 none_passes test [] h = refl
 none_passes test (p ∷ pages) h = ap (λ b. cond b (p ∷ filter test pages) (filter test pages)) (h p) ∙ none_passes test pages h
 
 -- no page strays from a policy that all nodes follow
-pub none_strays : (policy : Policy) (pages : List Located) → ((node : ℕ) → follows policy node ≡ true) → filter (λ l. not (follows policy l.node)) pages ≡ []
+pub none_strays : (policy : Policy) (pages : List LocatedPage) → ((node : ℕ) → follows policy node ≡ true) → filter (λ l. not (follows policy l.node)) pages ≡ []
 none_strays policy pages h = none_passes (λ l. not (follows policy l.node)) pages (λ page. ap not (h page.node))

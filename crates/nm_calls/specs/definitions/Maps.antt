@@ -8,7 +8,7 @@ use Rattle.nm_types.specs.Layout.{node_count}
 use Rattle.nm_types.specs.Nodes.{up_from}
 use Rattle.nm_types.specs.State.{State, PlacedArea}
 use Rattle.nm_model.specs.definitions.Seen.{users}
-use Rattle.nm_types.specs.declared.located.Located.{Located}
+use Rattle.nm_types.specs.declared.located_page.LocatedPage.{LocatedPage}
 use Rattle.nm_model.specs.definitions.Seen.{located_between}
 
 -- a node extends the range after it, or is a range of its own
@@ -43,7 +43,7 @@ abbrev pub address_text : ℕ → List ℕ
 address_text vpn = let ds = digits 16 false vpn in replicate (5 - length ds) 48 ++ ds ++ codes "000"
 
 -- the greatest number of processes that see any of these pages
-abbrev pub most_users : State → List Located → ℕ
+abbrev pub most_users : State → List LocatedPage → ℕ
 most_users s pages = fold (λ most p. max most (length (users s.processes p.page))) 0 pages
 
 -- a word and a number, unless the number is too small to be shown
@@ -51,11 +51,11 @@ abbrev pub told_from : ℕ → List ℕ → ℕ → List ℕ
 told_from least word n = if nat_lt n least then [] else word ++ decimal n
 
 -- how many pages are on a node, if any are
-abbrev pub node_text : List Located → ℕ → List ℕ
+abbrev pub node_text : List LocatedPage → ℕ → List ℕ
 node_text ps node = told_from 1 (codes " N" ++ decimal node ++ codes "=") (count_by (λ p. p.node == node) ps)
 
 -- what is shown of the pages in an area, if there are any
-abbrev pub pages_text : State → List Located → List ℕ
+abbrev pub pages_text : State → List LocatedPage → List ℕ
 pages_text s [] = []
 pages_text s (p ∷ ps) =
     (codes " anon=" ++ decimal (length (p ∷ ps))) ++ told_from 2 (codes " mapmax=") (most_users s (p ∷ ps))

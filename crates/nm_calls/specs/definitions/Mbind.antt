@@ -18,7 +18,7 @@ use Rattle.nm_types.specs.declared.request.Wanted.TheVariants.{At}
 use Rattle.nm_model.specs.definitions.Cut.{Request, Stretch}
 use Rattle.nm_model.specs.definitions.Cut.{cut_within}
 use Rattle.nm_runs.specs.Targets.{earlier}
-use Rattle.nm_types.specs.declared.located.Located.{Located}
+use Rattle.nm_types.specs.declared.located_page.LocatedPage.{LocatedPage}
 use Rattle.nm_types.specs.declared.process.ProcessInfo.{ProcessInfo}
 use Rattle.nm_model.specs.definitions.Seen.{located_between}
 use Rattle.nm_model.specs.definitions.Effect.{page_count, policy_refusal, set_policy}
@@ -62,11 +62,11 @@ is_bad_set s allowed mode nodes =
     nat_le 5 mode || is_misfit mode nodes || names_missing_node s nodes || (not (is_none nodes) && is_none (usable s allowed nodes))
 
 -- the pages seen from one page number up to another that do not follow a policy, in order of page number
-abbrev pub strays_between : State → ℕ → ℕ → ℕ → Policy → List Located
+abbrev pub strays_between : State → ℕ → ℕ → ℕ → Policy → List LocatedPage
 strays_between s pid first end policy = filter (λ l. not (follows policy l.node)) (located_between s pid first end)
 
 -- the pages seen in the range that do not follow the policy, in address order, each at its lowest address
-abbrev pub stray_pages : State → Binding → List Located
+abbrev pub stray_pages : State → Binding → List LocatedPage
 stray_pages s b = once (λ l m. same_page l.page m.page) (strays_between s b.pid b.first b.end b.policy)
 
 -- the policy that a caller asks for: it keeps those of its nodes that are online and allowed
@@ -108,7 +108,7 @@ mbind_refusal s caller address len mode nodes flags =
     earlier (mode_refusal s (info_at s caller) mode nodes flags) range
 
 -- requests for pages, each at the page number where a process sees it
-abbrev pub requests_at : ℕ → Bool → List Located → List Wanted
+abbrev pub requests_at : ℕ → Bool → List LocatedPage → List Wanted
 requests_at pid all pages = map (λ l. At pid l.vpn all) pages
 
 -- requests for page numbers, each with its node
@@ -122,13 +122,13 @@ nodes_tried s home (Bind nodes) = filter (is_in nodes) (zonelist s.layout s.onli
 nodes_tried s home policy = []
 
 -- the runs that bring pages to where a policy wants them: by turns for INTERLEAVE, in passes for the others
-abbrev pub runs_by : ℕ → State → Policy → ℕ → ℕ → Bool → List Located → List Stretch
+abbrev pub runs_by : ℕ → State → Policy → ℕ → ℕ → Bool → List LocatedPage → List Stretch
 runs_by limit s (Interleave nodes) home pid all pages =
     cut_within limit (each_to pid all (by_turns nodes pages))
 runs_by limit s policy home pid all pages = passes limit s (nodes_tried s home policy) (requests_at pid all pages)
 
 -- the pages to move: none without a flag to move
-abbrev pub pages_to_bind : State → Binding → ℕ → List Located
+abbrev pub pages_to_bind : State → Binding → ℕ → List LocatedPage
 pages_to_bind s b flags = if has_move flags then stray_pages s b else []
 
 -- the runs of a call
@@ -137,7 +137,7 @@ mbind_runs limit s b flags =
     runs_by limit s b.policy (home_of (info_at s b.pid)) b.pid (has_move_all flags) (pages_to_bind s b flags)
 
 -- whether a listed page, where it is in this state, does not follow the policy
-abbrev pub is_stray : State → Policy → Located → Bool
+abbrev pub is_stray : State → Policy → LocatedPage → Bool
 is_stray s policy l =
     unwrap_or (option_map (λ frame. not (follows policy (node_of s.layout frame))) (get page_cmp s.place l.page)) false
 

@@ -4,7 +4,7 @@ use Rattle.std.specs.List.{flat_map}
 use Rattle.nm_types.specs.Nodes.{up_from}
 use Rattle.nm_calls.specs.declared.maps.Tally.{Tally}
 use Rattle.nm_types.specs.State.{State, PlacedArea}
-use Rattle.nm_types.specs.declared.located.Located.{Located}
+use Rattle.nm_types.specs.declared.located_page.LocatedPage.{LocatedPage}
 use Rattle.nm_areas.specs.declared.lines.Area.{Area as Listed}
 use Rattle.nm_model.specs.definitions.Seen.{located_between}
 use Rattle.nm_calls.specs.definitions.Maps.{area_text, told_from}
@@ -14,7 +14,7 @@ abbrev pub placed_of : ℕ → Listed → PlacedArea
 placed_of pid line = ((pid, line.first), record { pages = line.pages; policy = line.policy; page = line.page })
 
 -- the pages that the process sees in it
-abbrev pub pages_of : State → ℕ → Listed → List Located
+abbrev pub pages_of : State → ℕ → Listed → List LocatedPage
 pages_of s pid line = located_between s pid line.first (line.first + line.pages)
 
 -- the same as text

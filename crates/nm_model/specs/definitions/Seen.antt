@@ -16,7 +16,7 @@ use Rattle.nm_types.specs.declared.sight.Sight.TheVariants.{ZeroPage, Sees}
 use Rattle.nm_types.specs.State.{Process, State, page_at, area_over}
 use Rattle.std.specs.Prelude.{◌≡◌, ◌+◌, ◌^◌, ◌≤◌, ◌<◌, ◌==◌, ◌∷◌}
 use Rattle.nm_types.specs.Layout.{Layout, node_of}
-use Rattle.nm_types.specs.declared.located.Located.{Located}
+use Rattle.nm_types.specs.declared.located_page.LocatedPage.{LocatedPage}
 
 -- what a process sees at a page number, if there is such a process
 abbrev pub sight_in : Option Process → ℕ → Option Sight
@@ -119,21 +119,21 @@ abbrev pub sights : Map ℕ Process → ℕ → Map ℕ Sight
 sights processes pid = unwrap_or (option_map (λ (p : Process). p.sees) (get nat_cmp processes pid)) []
 
 -- a page seen at a page number, if it has a frame
-abbrev pub in_frame : Layout → ℕ → Page → Option ℕ → List Located
+abbrev pub in_frame : Layout → ℕ → Page → Option ℕ → List LocatedPage
 in_frame g v p None = []
 in_frame g v p (Some frame) = record { vpn = v; page = p; frame = frame; node = node_of g frame } ∷ []
 
 -- what is seen at a page number, if it is a page with a frame
-abbrev pub locate : Layout → Map Page ℕ → ℕ → Sight → List Located
+abbrev pub locate : Layout → Map Page ℕ → ℕ → Sight → List LocatedPage
 locate g place v ZeroPage = []
 locate g place v (Sees p) = in_frame g v p (get page_cmp place p)
 
 -- the pages with a frame among what is seen, with their frames and nodes
-abbrev pub located_in : Layout → Map Page ℕ → Map ℕ Sight → List Located
+abbrev pub located_in : Layout → Map Page ℕ → Map ℕ Sight → List LocatedPage
 located_in g place sees = flat_map (λ e. locate g place e.0 e.1) sees
 
 -- the pages that a process sees from one page number up to another, by page number, with their frames and nodes
-abbrev pub located_between : State → ℕ → ℕ → ℕ → List Located
+abbrev pub located_between : State → ℕ → ℕ → ℕ → List LocatedPage
 located_between s pid first end = located_in s.layout s.place (between first end (sights s.processes pid))
 
 -- the pages on a node, by segment and index

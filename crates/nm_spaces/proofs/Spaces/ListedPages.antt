@@ -20,7 +20,7 @@ use Rattle.nm_types.specs.declared.entry.Entry.{Entry}
 use Rattle.nm_model.specs.definitions.Areas.{Mapping}
 use Rattle.nm_rmap.specs.Mappers.{Mappers}
 use Rattle.nm_tables.specs.Lists.{IsCutShort}
-use Rattle.nm_types.specs.declared.located.Located.{Located}
+use Rattle.nm_types.specs.declared.located_page.LocatedPage.{LocatedPage}
 use Rattle.nm_spaces.specs.views.AddressSpaces.{AddressSpacesView, spaces_view}
 use Rattle.nm_model.specs.definitions.PageTables.{sight_of, page_here}
 use Rattle.nm_model.specs.definitions.Seen.{locate, located_in, in_frame}
@@ -31,7 +31,7 @@ use Rattle.nm_spaces.specs.definitions.Tied.{IsTied}
 use Rattle.nm_spaces.proofs.Spaces.Walks.{found_in, sorted_of, range_shown, few_between, next_sight, no_sight}
 
 -- the pages behind entries of a process
-abbrev pub pages_in : Layout → Map Page ℕ → Map (ℕ × ℕ) Area → ℕ → Map ℕ Entry → List Located
+abbrev pub pages_in : Layout → Map Page ℕ → Map (ℕ × ℕ) Area → ℕ → Map ℕ Entry → List LocatedPage
 pages_in g place areas pid es = located_in g place (with_values (sight_of areas pid) es)
 
 -- ---- one entry after another
@@ -45,7 +45,7 @@ module _ (g : Layout) (place : Map Page ℕ) (areas : Map (ℕ × ℕ) Area) (pi
         ∙ flat_map-cons (λ (x : ℕ × _). locate g place x.0 x.1) (e.0, sight_of areas pid e.0 e.1) (with_values (sight_of areas pid) (drop (k + 1) es))
 
     -- an entry with these pages behind it
-    pub step : (pages done all : List Located) → locate g place e.0 (sight_of areas pid e.0 e.1) ≡ pages → done ++ pages_in g place areas pid (drop k es) ≡ all → (done ++ pages) ++ pages_in g place areas pid (drop (k + 1) es) ≡ all
+    pub step : (pages done all : List LocatedPage) → locate g place e.0 (sight_of areas pid e.0 e.1) ≡ pages → done ++ pages_in g place areas pid (drop k es) ≡ all → (done ++ pages) ++ pages_in g place areas pid (drop (k + 1) es) ≡ all
     step pages done all here before =
         append_assoc done pages (pages_in g place areas pid (drop (k + 1) es))
         ∙ ap (λ xs. done ++ (xs ++ pages_in g place areas pid (drop (k + 1) es))) (sym here)
@@ -53,12 +53,12 @@ module _ (g : Layout) (place : Map Page ℕ) (areas : Map (ℕ × ℕ) Area) (pi
         ∙ before
 
     -- an entry without a page
-    pub step_over : (done all : List Located) → locate g place e.0 (sight_of areas pid e.0 e.1) ≡ [] → done ++ pages_in g place areas pid (drop k es) ≡ all → done ++ pages_in g place areas pid (drop (k + 1) es) ≡ all
+    pub step_over : (done all : List LocatedPage) → locate g place e.0 (sight_of areas pid e.0 e.1) ≡ [] → done ++ pages_in g place areas pid (drop k es) ≡ all → done ++ pages_in g place areas pid (drop (k + 1) es) ≡ all
     step_over done all here before =
         ap (λ xs. done ++ (xs ++ pages_in g place areas pid (drop (k + 1) es))) (sym here) ∙ ap (λ xs. done ++ xs) (sym next) ∙ before
 
   -- no entry is left
-  pub ended : (done all : List Located) → length es ≤ k → done ++ pages_in g place areas pid (drop k es) ≡ all → done ≡ all
+  pub ended : (done all : List LocatedPage) → length es ≤ k → done ++ pages_in g place areas pid (drop k es) ≡ all → done ≡ all
   ended done all past before =
       sym (append-nil done) ∙ ap (λ xs. done ++ pages_in g place areas pid xs) (sym (drop_all k es past)) ∙ before
 
@@ -78,7 +78,7 @@ module _ (g : Layout) (place : Map Page ℕ) where
       ∙ length-append (locate g place e.0 x) (pages_in g place areas pid es) in
       omega (arith, all, one_at_most e.0 x, few_behind areas pid es)
 
-  all_both : (P : Located → Type 0) (xs ys : List Located) → AllByRecursion P xs → AllByRecursion P ys → AllByRecursion P (xs ++ ys)
+  all_both : (P : LocatedPage → Type 0) (xs ys : List LocatedPage) → AllByRecursion P xs → AllByRecursion P ys → AllByRecursion P (xs ++ ys)
   all_both P [] ys h k = k
   all_both P (x ∷ xs) ys h k = (h.0, all_both P xs ys h.1 k)
 
@@ -142,7 +142,7 @@ module _ (y : AddressSpacesView) (tasks : Map ℕ Task) (m : Mapping) (r : Mappe
         ap (in_frame g v (page_here y.areas pid v)) (ap (λ o. get page_cmp y.place (unwrap_or o (record { segment = 0; index = 0 }))) s.1 ∙ s.2)
 
   -- the pages of a range begin with what stands behind its first entry
-  pub next_located : (g : Layout) (first end v : ℕ) (e : Entry) (pages : List Located) → first ≤ v → v < end → entry_at tasks pid v ≡ Some e → ((w : ℕ) → first ≤ w → w < v → entry_at tasks pid w ≡ None)
+  pub next_located : (g : Layout) (first end v : ℕ) (e : Entry) (pages : List LocatedPage) → first ≤ v → v < end → entry_at tasks pid v ≡ Some e → ((w : ℕ) → first ≤ w → w < v → entry_at tasks pid w ≡ None)
       → locate g y.place v (sight_of y.areas pid v e) ≡ pages
       → located_in g y.place (between first end (sights y.processes pid)) ≡ pages ++ located_in g y.place (between (v + 1) end (sights y.processes pid))
   next_located g first end v e pages low high there none here =

@@ -13,7 +13,7 @@ ghost use Rattle.nm_types.specs.declared.page.Page.{Page};
 
 use crate::address_spaces::AddressSpaces;
 use crate::entry::frame_named;
-use nm_types::{Area, FrameId, Geometry, Located, Page, Pid, Vpn};
+use nm_types::{Area, FrameId, Geometry, LocatedPage, Page, Pid, Vpn};
 use std::alloc::{AllocError, Allocator};
 
 impl<A: Allocator + Copy> AddressSpaces<A> {
@@ -26,7 +26,7 @@ impl<A: Allocator + Copy> AddressSpaces<A> {
         pid: Pid,
         first: Vpn,
         end: Vpn,
-    ) -> Result<Vec<Located, A>, AllocError>
+    ) -> Result<Vec<LocatedPage, A>, AllocError>
         requires { self.now.frames ≡ frame_count geometry.now }
 
         // On success
@@ -66,7 +66,7 @@ impl<A: Allocator + Copy> AddressSpaces<A> {
         first: Vpn,
         end: Vpn,
         last: &mut Option<(Vpn, Area)>,
-    ) -> Option<Located>
+    ) -> Option<LocatedPage>
         requires frames { self.now.frames ≡ frame_count geometry.now }
         requires last { IfSome last.old (IsOver self.now.areas pid) }
 
@@ -106,7 +106,7 @@ impl<A: Allocator + Copy> AddressSpaces<A> {
         vpn: Vpn,
         frame: FrameId,
         last: &mut Option<(Vpn, Area)>,
-    ) -> Located
+    ) -> LocatedPage
         requires known { frame < frame_count geometry.now }
         requires last { IfSome last.old (IsOver self.now.areas pid) }
         requires seen { (p : Page) × (page_at self.now.areas pid vpn ≡ Some p)
@@ -127,7 +127,7 @@ impl<A: Allocator + Copy> AddressSpaces<A> {
         let page = page_in(*start, area, vpn);
         let node = geometry.node_of(frame);
         *last = near;
-        Located {
+        LocatedPage {
             vpn,
             page,
             frame,

@@ -3,7 +3,7 @@ use Rattle.std.specs.Prelude.{Some}
 use Rattle.std.specs.Ordering.{nat_cmp, ord_max}
 use Rattle.nm_types.specs.Layout.{node_count}
 use Rattle.nm_types.specs.Map.{get, page_cmp}
-use Rattle.nm_types.specs.declared.located.Located.{Located}
+use Rattle.nm_types.specs.declared.located_page.LocatedPage.{LocatedPage}
 use Rattle.nm_model.specs.definitions.Seen.{users}
 use Rattle.nm_spaces.specs.views.AddressSpaces.{AddressSpacesView}
 use Rattle.nm_calls.proofs.Lines.Tallies.{Counted, none_counted, one_counted}
@@ -15,7 +15,7 @@ loop-page-init g c = none_counted c.args.machine.now _ _ refl
 pub users_in-users-requires : goal.users_in-users-requires
 users_in-users-requires g c =
     let p = c.page-item.result in
-    let placed = subst (λ (q : Located). get page_cmp c.args.machine.now.place q.page ≡ Some q.frame) (sym c.page-item.is) (c.requires.placed c.loop-page.page-index p c.loop-page-test.true) in
+    let placed = subst (λ (q : LocatedPage). get page_cmp c.args.machine.now.place q.page ≡ Some q.frame) (sym c.page-item.is) (c.requires.placed c.loop-page.page-index p c.loop-page-test.true) in
     (p.page, subst (λ (y : AddressSpacesView). get page_cmp y.place p.page ≡ Some p.frame) (sym c.spaces.ensures) placed)
 
 pub loop-page-preserved : goal.loop-page-preserved
@@ -26,10 +26,10 @@ loop-page-preserved g c =
     let p = c.page-item.result in
     let low = c.loop-page-test.true in
     let more : suc k ≡ k + 1 = omega arith in
-    let rest = drop-cons all k p low ∙ ap (λ (x : Located). x ∷ drop (suc k) all) (sym c.page-item.is) ∙ ap (λ j. p ∷ drop j all) more in
-    let below = subst (λ (q : Located). q.node < node_count s.layout) (sym c.page-item.is) (c.requires.nodes k p low) in
+    let rest = drop-cons all k p low ∙ ap (λ (x : LocatedPage). x ∷ drop (suc k) all) (sym c.page-item.is) ∙ ap (λ j. p ∷ drop j all) more in
+    let below = subst (λ (q : LocatedPage). q.node < node_count s.layout) (sym c.page-item.is) (c.requires.nodes k p low) in
     let small : p.node < 64 = omega (arith, below, c.node_count.ensures.machine.few_nodes, ap node_count c.geometry.ensures.geometry) in
-    let placed = subst (λ (q : Located). get page_cmp s.place q.page ≡ Some q.frame) (sym c.page-item.is) (c.requires.placed k p low) in
+    let placed = subst (λ (q : LocatedPage). get page_cmp s.place q.page ≡ Some q.frame) (sym c.page-item.is) (c.requires.placed k p low) in
     let lent = subst (λ (y : AddressSpacesView). get page_cmp y.place p.page ≡ Some p.frame) (sym c.spaces.ensures) placed in
     let seen = c.users_in-users.ensures p.page lent ∙ ap (λ (y : AddressSpacesView). length (users y.processes p.page)) c.spaces.ensures in
     let most = c.max-most.ensures ∙ ap (ord_max nat_cmp c.loop-page.most) seen in

@@ -2,16 +2,16 @@ use Rattle.std.proofs.Common.{◌≡◌, ℕ, ◌+◌, ◌<◌, List, [], ◌∷
 use Rattle.std.proofs.lemmas.List.{take_all, map_more, get_or_read}
 use Rattle.std.proofs.lemmas.Result.{IfOk-from_err}
 use Rattle.nm_policy.specs.declared.targets.Sent.{Sent}
-use Rattle.nm_types.specs.declared.located.Located.{Located}
+use Rattle.nm_types.specs.declared.located_page.LocatedPage.{LocatedPage}
 use Rattle.nm_model.specs.definitions.Order.{turn}
 use Rattle.nm_policy.specs.Turns.{with_turn}
 use Rattle.nm_policy.proofs.targets.dealt.Goals as goal
 
-one_more : (nodes : List ℕ) (pages : List Located) (i t : ℕ) (e : Located) (ds ns : List Sent) → i < length pages → e ≡ get_or pages i e → t ≡ turn nodes e.page.index → ds ≡ map (with_turn nodes) (take i pages)
+one_more : (nodes : List ℕ) (pages : List LocatedPage) (i t : ℕ) (e : LocatedPage) (ds ns : List Sent) → i < length pages → e ≡ get_or pages i e → t ≡ turn nodes e.page.index → ds ≡ map (with_turn nodes) (take i pages)
     → ns ≡ ds ++ record { vpn = e.vpn; to = t } ∷ [] → ns ≡ map (with_turn nodes) (take (i + 1) pages)
 one_more nodes pages i t e ds ns lt at is had now =
     now ∙ (ap (λ l. l ++ record { vpn = e.vpn; to = t } ∷ []) had ∙ (ap (λ (z : ℕ). map (with_turn nodes) (take i pages) ++ record { vpn = e.vpn; to = z } ∷ []) is
-    ∙ (ap (λ (z : Located). map (with_turn nodes) (take i pages) ++ with_turn nodes z ∷ []) at ∙ sym (map_more (with_turn nodes) pages i e lt))))
+    ∙ (ap (λ (z : LocatedPage). map (with_turn nodes) (take i pages) ++ with_turn nodes z ∷ []) at ∙ sym (map_more (with_turn nodes) pages i e lt))))
 
 pub returns-in_err-dealt-clause-dealt : goal.returns-in_err-dealt-clause-dealt
 returns-in_err-dealt-clause-dealt g c = IfOk-from_err _ _ c.from_residual.ensures.0

@@ -4,7 +4,7 @@ use Rattle.std.proofs.lemmas.Bool.{eqb-true, false≢true}
 use Rattle.std.proofs.lemmas.List.{take_all, take_more, flat_map_more}
 use Rattle.std.proofs.lemmas.Result.{IfOk-from_err}
 use Rattle.nm_policy.specs.declared.targets.Sent.{Sent}
-use Rattle.nm_types.specs.declared.located.Located.{Located}
+use Rattle.nm_types.specs.declared.located_page.LocatedPage.{LocatedPage}
 use Rattle.nm_policy.specs.Turns.{with_turn, sent_to, by_turns}
 use Rattle.nm_policy.proofs.targets.mbind_targets.Goals.{then-is_empty-via-then-is_empty, then-is_empty-via-else-is_empty+then-is_empty-2}
 use Rattle.nm_policy.proofs.targets.mbind_targets.Goals as goal
@@ -17,7 +17,7 @@ one_more : (f : ℕ → List Sent) (xs : List ℕ) (i x : ℕ) (ts ns : List Sen
 one_more f xs i x ts ns lt at had now =
     now ∙ (ap (λ l. l ++ f x) had ∙ (flat_map_more f [] (take i xs) x ∙ ap (flat_map f) (ap (λ z. take i xs ++ z ∷ []) at ∙ sym (take_more xs i x lt))))
 
-by_all : (pages : List Located) (nodes order xs : List ℕ) (ds ts : List Sent) (i : ℕ) → ts ≡ flat_map (sent_to ds) (take i xs) → length xs ≤ i → xs ≡ nodes → ds ≡ map (with_turn order) pages → order ≡ nodes → ts ≡ by_turns nodes pages
+by_all : (pages : List LocatedPage) (nodes order xs : List ℕ) (ds ts : List Sent) (i : ℕ) → ts ≡ flat_map (sent_to ds) (take i xs) → length xs ≤ i → xs ≡ nodes → ds ≡ map (with_turn order) pages → order ≡ nodes → ts ≡ by_turns nodes pages
 by_all pages nodes order xs ds ts i h le ex ed ea =
     h ∙ (ap (flat_map (sent_to ds)) (take_all i xs le ∙ ex) ∙ ap (λ l. flat_map (sent_to l) nodes) (ed ∙ ap (λ n. map (with_turn n) pages) ea))
 
@@ -29,7 +29,7 @@ no_turns : (nodes : List ℕ) → flat_map (sent_to []) nodes ≡ []
 no_turns [] = refl
 no_turns (n ∷ nodes) = no_turns nodes
 
-no_pages : (nodes : List ℕ) (pages : List Located) → (length pages == 0) ≡ true → by_turns nodes pages ≡ []
+no_pages : (nodes : List ℕ) (pages : List LocatedPage) → (length pages == 0) ≡ true → by_turns nodes pages ≡ []
 no_pages nodes [] none = no_turns nodes
 no_pages nodes (p ∷ pages) none = let len : length (p ∷ pages) ≡ 0 = eqb-true _ 0 none in absurd (omega (arith, len))
 

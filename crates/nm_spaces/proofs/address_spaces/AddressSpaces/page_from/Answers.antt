@@ -1,5 +1,5 @@
 use Rattle.std.proofs.Common.{◌+◌, ◌<◌, ℕ, List, [], ◌∷◌, ap, subst, sym, ◌∙◌, arith}
-use Rattle.nm_types.specs.declared.located.Located.{Located}
+use Rattle.nm_types.specs.declared.located_page.LocatedPage.{LocatedPage}
 use Rattle.nm_model.specs.definitions.PageTables.{entry_at}
 use Rattle.nm_model.specs.definitions.Seen.{locate, located_in, between, sights}
 use Rattle.nm_spaces.proofs.Boxed.{seen, tied}
@@ -31,7 +31,7 @@ seen_in-requires-clause-seen g c =
     let named = names_it _ f (sym c.frame_named.ensures ∙ c.in-Some-frame_named.is) in
     page_behind c.args.self.now x.tasks x.areas x.rmap c.args.pid (seen c.deref-parts.ensures c.self.view_is) (tied c.deref-parts.ensures c.self.invariant) _ f _ some.1 named
 
-abbrev vpn_of_first : List Located → ℕ
+abbrev vpn_of_first : List LocatedPage → ℕ
 vpn_of_first [] = 0
 vpn_of_first (page ∷ pages) = page.vpn
 

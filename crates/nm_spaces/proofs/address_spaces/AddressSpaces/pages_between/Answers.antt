@@ -7,7 +7,7 @@ use Rattle.std.specs.Prelude.{All, Some, IfSome}
 use Rattle.nm_model.specs.definitions.Seen.{IsOver, locate}
 use Rattle.nm_spaces.proofs.Boxed.{seen, tied}
 use Rattle.nm_spaces.proofs.ProcessTable.NamedFrames.{names_it, sees_page_there, sees_zeros}
-use Rattle.nm_types.specs.declared.located.Located.{Located}
+use Rattle.nm_types.specs.declared.located_page.LocatedPage.{LocatedPage}
 use Rattle.nm_spaces.proofs.ProcessTable.Changes.{on_any}
 use Rattle.nm_spaces.proofs.Spaces.ListedPages.{pages_in, found_between, page_behind, frame_behind, located_behind, all_listed, few_listed, all_in_place, all_at, some_seen, step, step_over, ended}
 use Rattle.nm_spaces.proofs.address_spaces.AddressSpaces.pages_between.Goals as goal
@@ -42,7 +42,7 @@ loop-vpn-preserved g c =
     let e = c.loop-vpn-item.result in
     let range = c.deref-vpn-items.ensures.value ∙ c.in_ok-entries.ensures.entries in
     let there = found_between y x.tasks x.areas x.rmap c.args.pid (seen c.deref-parts.ensures c.self.view_is) (tied c.deref-parts.ensures c.self.invariant) c.args.first c.args.end c.loop-vpn.vpn-index es e range c.loop-vpn-test.true c.loop-vpn-item.is in
-    let rest : List Located = pages_in geometry y.place y.areas c.args.pid (drop (c.loop-vpn.vpn-index + 1) es) in
+    let rest : List LocatedPage = pages_in geometry y.place y.areas c.args.pid (drop (c.loop-vpn.vpn-index + 1) es) in
     elim c.match-frame_named.branch [
       | in_default w ↦ record {
         pages = ap (λ v. v.items ++ rest) w.pages-is
@@ -86,7 +86,7 @@ returns-clause-placed g c =
     let is =
     ended c.args.geometry.now y.place y.areas c.args.pid es c.loop-vpn.vpn-index c.loop-vpn.pages.items _ c.loop-vpn-test.false c.loop-vpn.invariant.pages
     ∙ all_listed y x.tasks x.areas x.rmap c.args.pid (seen c.deref-parts.ensures c.self.view_is) (tied c.deref-parts.ensures c.self.invariant) c.args.geometry.now c.args.first c.args.end es range in
-    let P : Located → Type 0 = λ e. get page_cmp y.place e.page ≡ Some e.frame in
+    let P : LocatedPage → Type 0 = λ e. get page_cmp y.place e.page ≡ Some e.frame in
     subst (All P) (sym is) (λ k d low. all_at P _ k d (all_in_place c.args.geometry.now y.place (between c.args.first c.args.end (sights y.processes c.args.pid))) low)
 
 pub returns-clause-few : goal.returns-clause-few

@@ -4,7 +4,7 @@ use crate::{FrameId, NodeId, Page, Vpn};
 
 /// A page that a process sees, and where it is.
 #[derive(Clone, Copy, Debug, PartialEq, Eq)]
-pub struct Located {
+pub struct LocatedPage {
     /// The page number at which the process sees it: below 2^35.
     pub vpn: Vpn,
     /// The page.
