@@ -16,7 +16,7 @@ use crate::mbind::Binding;
 use crate::passes::{later, make_passes};
 use crate::turns::make_turns;
 use nm_engine::{Machine, RunCrew};
-use nm_policy::{Sent, first_touch_order, mbind_targets};
+use nm_policy::{Destination, first_touch_order, mbind_targets};
 use nm_runs::Wanted;
 use nm_types::{LocatedPage, NodeId, NodeMask, Pid, Policy, Vpn};
 use std::alloc::{AllocError, Allocator};
@@ -33,7 +33,7 @@ pub(crate) enum Placement<A: Allocator + Copy> {
     Turns {
         pid: Pid,
         all: bool,
-        sent: Vec<Sent, A>,
+        sent: Vec<Destination, A>,
     },
 }
 

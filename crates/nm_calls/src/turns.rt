@@ -13,13 +13,13 @@ ghost use Rattle.nm_calls.specs.views.Turns.{same_node};
 use crate::call_error::CallError;
 use crate::passes::make_runs;
 use nm_engine::{Machine, RunCrew};
-use nm_policy::Sent;
+use nm_policy::Destination;
 use nm_runs::{Run, Wanted};
 use nm_types::Pid;
 use std::alloc::{AllocError, Allocator};
 
 /// How many pages at the front go to the same node as the first.
-fn same_node(sent: &[Sent]) -> usize
+fn same_node(sent: &[Destination]) -> usize
     requires { 0 < length sent.now }
     ensures front { result ≡ same_node sent.now }
     ensures some { 0 < result }
@@ -30,7 +30,7 @@ fn same_node(sent: &[Sent]) -> usize
 }
 
 /// What is asked of a page at the page number at which a process sees it.
-fn asked(pid: Pid, all: bool, page: &Sent) -> Wanted
+fn asked(pid: Pid, all: bool, page: &Destination) -> Wanted
     ensures { result ≡ At pid page.now.vpn all }
 {
     Wanted::At {
@@ -45,7 +45,7 @@ fn all_asked<A: Allocator + Copy>(
     alloc: A,
     pid: Pid,
     all: bool,
-    sent: &[Sent],
+    sent: &[Destination],
 ) -> Result<Vec<Wanted, A>, AllocError>
     ensures { IfOk result (λ wanted. wanted.items ≡ map (λ page. At pid page.vpn all) sent.now) }
 {
@@ -57,7 +57,7 @@ fn first_run<A: Allocator + Copy>(
     alloc: A,
     pid: Pid,
     all: bool,
-    sent: &[Sent],
+    sent: &[Destination],
 ) -> Result<Run<A>, AllocError>
     requires { 0 < length sent.now }
 
@@ -81,7 +81,7 @@ fn cut_sent<A: Allocator + Copy>(
     alloc: A,
     pid: Pid,
     all: bool,
-    sent: &[Sent],
+    sent: &[Destination],
     limit: usize,
 ) -> Result<Vec<Run<A>, A>, AllocError>
     requires { 0 < limit }
@@ -109,7 +109,7 @@ pub(crate) fn make_turns<A: Allocator + Copy + Send + Sync, C: RunCrew<A>>(
     machine: &mut Machine<A>,
     pid: Pid,
     all: bool,
-    sent: &[Sent],
+    sent: &[Destination],
     limit: usize,
 ) -> Result<Vec<i32, A>, CallError>
     requires some { 0 < limit }

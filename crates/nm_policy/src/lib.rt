@@ -9,5 +9,5 @@ mod zones;
 
 pub use first_touch::{first_touch_node, first_touch_order, follows};
 pub use pairing::{Pair, pairs};
-pub use targets::{Sent, mbind_targets};
+pub use targets::{Destination, mbind_targets};
 pub use zones::zonelist;

@@ -8,7 +8,7 @@ use std::alloc::{AllocError, Allocator};
 
 /// A page that is to go to a node.
 #[derive(Clone, Copy, Debug, PartialEq, Eq)]
-pub struct Sent {
+pub struct Destination {
     /// A page number at which a process sees it: below 2^35.
     pub vpn: Vpn,
     /// The number of the node: below 64.
@@ -34,7 +34,7 @@ fn dealt<A: Allocator + Copy>(
     alloc: A,
     nodes: &[NodeId],
     pages: &[LocatedPage],
-) -> Result<Vec<Sent, A>, AllocError>
+) -> Result<Vec<Destination, A>, AllocError>
     requires { 0 < length nodes.now }
     ensures dealt { IfOk result (λ dealt. dealt.items ≡ map (with_turn nodes.now) pages.now) }
     ensures asked { OnErr result (0 < length pages.now) }
@@ -43,7 +43,7 @@ fn dealt<A: Allocator + Copy>(
     let mut dealt = Vec::with_capacity(alloc, pages.len())?;
     for found in pages {
         let turn = found.page.index % count;
-        dealt.push(Sent {
+        dealt.push(Destination {
             vpn: found.vpn,
             to: nodes[turn as usize],
         })?;
@@ -55,8 +55,8 @@ fn dealt<A: Allocator + Copy>(
 /// takes none.
 fn append_for<A: Allocator + Copy>(
     node: NodeId,
-    dealt: &[Sent],
-    targets: &mut Vec<Sent, A>,
+    dealt: &[Destination],
+    targets: &mut Vec<Destination, A>,
 ) -> Result<(), AllocError>
     ensures ok { OnOk result (targets.new.items ≡ targets.old.items ++ sent_to dealt.now node) }
     ensures asked { OnErr result (0 < length dealt.now) }
@@ -79,7 +79,7 @@ pub fn mbind_targets<A: Allocator + Copy>(
     alloc: A,
     nodes: NodeMask,
     pages: &[LocatedPage],
-) -> Result<Vec<Sent, A>, AllocError>
+) -> Result<Vec<Destination, A>, AllocError>
     ensures targets { IfOk result (λ targets. targets.items ≡ by_turns nodes pages.now) }
     ensures asked { OnErr result ((0 < length nodes) × (0 < length pages.now)) }
 {

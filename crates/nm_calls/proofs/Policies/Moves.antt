@@ -8,7 +8,7 @@ use Rattle.nm_types.specs.declared.area.Policy.TheVariants.{Default, Preferred, 
 use Rattle.nm_types.specs.Nodes.{is_in}
 use Rattle.nm_types.specs.State.{State}
 use Rattle.nm_model.specs.definitions.Areas.{Mapping}
-use Rattle.nm_policy.specs.declared.targets.Sent.{Sent}
+use Rattle.nm_policy.specs.declared.targets.Destination.{Destination}
 use Rattle.nm_model.specs.definitions.Order.{zonelist}
 use Rattle.nm_policy.specs.Turns.{with_turn, sent_to, by_turns}
 use Rattle.nm_model.specs.definitions.Cut.{wanted_of}
@@ -21,7 +21,7 @@ use Rattle.nm_calls.specs.views.Runs.{nodes_named}
 use Rattle.nm_calls.proofs.PageLists.Pairs.{of_member}
 
 module _ (P : ℕ → Type 0) where
-  sent_there : (all : List Sent) (node : ℕ) → P node → AllByRecursion (λ t. P t.to) (sent_to all node)
+  sent_there : (all : List Destination) (node : ℕ) → P node → AllByRecursion (λ t. P t.to) (sent_to all node)
   sent_there [] node h = tt
   sent_there (t ∷ ts) node h =
       let rest = sent_there ts node h in
@@ -30,15 +30,15 @@ module _ (P : ℕ → Type 0) where
         | false ↦ λ e. rest
       ] refl
 
-  both : (ts us : List Sent) → AllByRecursion (λ t. P t.to) ts → AllByRecursion (λ t. P t.to) us → AllByRecursion (λ t. P t.to) (ts ++ us)
+  both : (ts us : List Destination) → AllByRecursion (λ t. P t.to) ts → AllByRecursion (λ t. P t.to) us → AllByRecursion (λ t. P t.to) (ts ++ us)
   both [] us h k = k
   both (t ∷ ts) us h k = (h.0, both ts us h.1 k)
 
-  sent_all : (all : List Sent) (nodes : List ℕ) → AllByRecursion P nodes → AllByRecursion (λ t. P t.to) (flat_map (sent_to all) nodes)
+  sent_all : (all : List Destination) (nodes : List ℕ) → AllByRecursion P nodes → AllByRecursion (λ t. P t.to) (flat_map (sent_to all) nodes)
   sent_all all [] h = tt
   sent_all all (node ∷ nodes) h = both (sent_to all node) (flat_map (sent_to all) nodes) (sent_there all node h.0) (sent_all all nodes h.1)
 
-  pub asked_all : (pid : ℕ) (all : Bool) (ts : List Sent) → AllByRecursion (λ t. P t.to) ts → AllByRecursion (λ e. P e.target) (each_to pid all ts)
+  pub asked_all : (pid : ℕ) (all : Bool) (ts : List Destination) → AllByRecursion (λ t. P t.to) ts → AllByRecursion (λ e. P e.target) (each_to pid all ts)
   asked_all pid all [] h = tt
   asked_all pid all (t ∷ ts) h = (h.0, asked_all pid all ts h.1)
 
@@ -64,10 +64,10 @@ module _ (P : ℕ → Type 0) where
   tried_all s home Local h = tt
 
 -- .. and have one `all`
-pub turns_alike : (pid : ℕ) (all : Bool) (ts : List Sent) → HasOneAll (wanted_of (each_to pid all ts))
+pub turns_alike : (pid : ℕ) (all : Bool) (ts : List Destination) → HasOneAll (wanted_of (each_to pid all ts))
 turns_alike pid all ts = (all, each ts)
   where
-    each : (ts : List Sent) → AllByRecursion (λ w. moves_all w ≡ all) (wanted_of (each_to pid all ts))
+    each : (ts : List Destination) → AllByRecursion (λ w. moves_all w ≡ all) (wanted_of (each_to pid all ts))
     each [] = tt
     each (t ∷ ts) = (refl, each ts)
 

@@ -10,7 +10,7 @@ use Rattle.nm_types.specs.Map.{get, page_cmp, same_page}
 use Rattle.nm_types.specs.Layout.{node_of}
 use Rattle.nm_types.specs.Nodes.{is_in}
 use Rattle.nm_types.specs.State.{State}
-use Rattle.nm_policy.specs.declared.targets.Sent.{Sent}
+use Rattle.nm_policy.specs.declared.targets.Destination.{Destination}
 use Rattle.nm_model.specs.definitions.Order.{zonelist, follows}
 use Rattle.nm_policy.specs.Turns.{by_turns}
 use Rattle.nm_types.specs.declared.request.Wanted.{Wanted}
@@ -112,7 +112,7 @@ abbrev pub requests_at : ℕ → Bool → List LocatedPage → List Wanted
 requests_at pid all pages = map (λ l. At pid l.vpn all) pages
 
 -- requests for page numbers, each with its node
-abbrev pub each_to : ℕ → Bool → List Sent → List Request
+abbrev pub each_to : ℕ → Bool → List Destination → List Request
 each_to pid all targets = map (λ t. record { target = t.to; wanted = At pid t.vpn all }) targets
 
 -- the nodes that a policy tries one after another for all pages; for BIND by distance from a home node

@@ -1,6 +1,6 @@
 use Rattle.std.proofs.Common.{◌≡◌, ◌++◌, ◌∷◌, [], List, length, min, ◌∙◌, refl, sym, ap, subst, append-nil, arith, take, drop, ◌+◌}
 use Rattle.std.proofs.lemmas.List.{length-take, length-drop, take-map, drop-map, at_drop_all}
-use Rattle.nm_policy.specs.declared.targets.Sent.{Sent}
+use Rattle.nm_policy.specs.declared.targets.Destination.{Destination}
 use Rattle.nm_runs.specs.Stretches.{stretches_of}
 use Rattle.nm_model.specs.definitions.Cut.{Request, cut_within, IsFirst}
 use Rattle.nm_runs.proofs.Pieces.{one_more}
@@ -27,7 +27,7 @@ loop-at-preserved g c =
     let taken = length-take room behind in
     let taken_all = length-take room rest in
     let same : each_to c.args.pid c.args.all (take room behind) ≡ take room rest =
-    ap (λ (ps : List Sent). each_to c.args.pid c.args.all (take room ps)) c.split_at.ensures.back
+    ap (λ (ps : List Destination). each_to c.args.pid c.args.all (take room ps)) c.split_at.ensures.back
     ∙ sym (take-map asks room (drop at sent))
     ∙ sym (ap (take room) (drop-map asks at sent)) in
     let first = subst (λ (l : List Request). IsFirst l run.target run.wanted.items) same ran.first in

@@ -3,25 +3,25 @@ use Rattle.std.specs.Prelude.{Result, Ok, Err, OnErr}
 use Rattle.std.proofs.lemmas.List.{append-nil, take_all}
 use Rattle.std.proofs.lemmas.List.Elements.{filter_more}
 use Rattle.std.proofs.lemmas.Result.{IfOk-from_err}
-use Rattle.nm_policy.specs.declared.targets.Sent.{Sent}
+use Rattle.nm_policy.specs.declared.targets.Destination.{Destination}
 use Rattle.nm_policy.specs.Turns.{sent_to}
 use Rattle.nm_policy.proofs.targets.append_for.Goals.{then-eq+in_ok-push, else-eq}
 use Rattle.nm_policy.proofs.targets.append_for.Goals as goal
 
-one_more : (all : List Sent) (node i : ℕ) (x : Sent) (bs ts ns : List Sent) → i < length all → x ≡ get_or all i x → ts ≡ bs ++ sent_to (take i all) node → ns ≡ ts ++ cond (x.to == node) (x ∷ []) [] → ns ≡ bs ++ sent_to (take (i + 1) all) node
+one_more : (all : List Destination) (node i : ℕ) (x : Destination) (bs ts ns : List Destination) → i < length all → x ≡ get_or all i x → ts ≡ bs ++ sent_to (take i all) node → ns ≡ ts ++ cond (x.to == node) (x ∷ []) [] → ns ≡ bs ++ sent_to (take (i + 1) all) node
 one_more all node i x bs ts ns lt at had now =
     now ∙ (ap (λ l. l ++ cond (x.to == node) (x ∷ []) []) had ∙ (append_assoc bs (sent_to (take i all) node) (cond (x.to == node) (x ∷ []) [])
-    ∙ ap (λ l. bs ++ l) (ap (λ (z : Sent). sent_to (take i all) node ++ cond (z.to == node) (z ∷ []) []) at ∙ sym (filter_more (λ s. s.to == node) all i x lt))))
+    ∙ ap (λ l. bs ++ l) (ap (λ (z : Destination). sent_to (take i all) node ++ cond (z.to == node) (z ∷ []) []) at ∙ sym (filter_more (λ s. s.to == node) all i x lt))))
 
 on_error : {T E : Type 0} (r : Result T E) (P : Type 0) → P → OnErr r P
 on_error (Ok x) P p = tt
 on_error (Err e) P p = p
 
-some_after : (b : Bool) (y : Sent) (ys : List Sent) → 0 < length ys → 0 < length (cond b (y ∷ ys) ys)
+some_after : (b : Bool) (y : Destination) (ys : List Destination) → 0 < length ys → 0 < length (cond b (y ∷ ys) ys)
 some_after true y ys some = omega (arith, some)
 some_after false y ys some = some
 
-some_more : (all : List Sent) (node i : ℕ) (x : Sent) → i < length all → x ≡ get_or all i x → (x.to == node) ≡ true → 0 < length (sent_to all node)
+some_more : (all : List Destination) (node i : ℕ) (x : Destination) → i < length all → x ≡ get_or all i x → (x.to == node) ≡ true → 0 < length (sent_to all node)
 some_more [] node i x lt at is = absurd (omega (arith, lt))
 some_more (y ∷ ys) node zero x lt at is = rw (sym at, is) (omega arith)
 some_more (y ∷ ys) node (suc i) x lt at is = some_after (y.to == node) y (sent_to ys node) (some_more ys node i x (omega (arith, lt)) at is)

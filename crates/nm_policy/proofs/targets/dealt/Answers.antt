@@ -1,13 +1,13 @@
 use Rattle.std.proofs.Common.{◌≡◌, ℕ, ◌+◌, ◌<◌, List, [], ◌∷◌, ◌++◌, map, length, take, get_or, sym, ap, ◌∙◌, arith}
 use Rattle.std.proofs.lemmas.List.{take_all, map_more, get_or_read}
 use Rattle.std.proofs.lemmas.Result.{IfOk-from_err}
-use Rattle.nm_policy.specs.declared.targets.Sent.{Sent}
+use Rattle.nm_policy.specs.declared.targets.Destination.{Destination}
 use Rattle.nm_types.specs.declared.located_page.LocatedPage.{LocatedPage}
 use Rattle.nm_model.specs.definitions.Order.{turn}
 use Rattle.nm_policy.specs.Turns.{with_turn}
 use Rattle.nm_policy.proofs.targets.dealt.Goals as goal
 
-one_more : (nodes : List ℕ) (pages : List LocatedPage) (i t : ℕ) (e : LocatedPage) (ds ns : List Sent) → i < length pages → e ≡ get_or pages i e → t ≡ turn nodes e.page.index → ds ≡ map (with_turn nodes) (take i pages)
+one_more : (nodes : List ℕ) (pages : List LocatedPage) (i t : ℕ) (e : LocatedPage) (ds ns : List Destination) → i < length pages → e ≡ get_or pages i e → t ≡ turn nodes e.page.index → ds ≡ map (with_turn nodes) (take i pages)
     → ns ≡ ds ++ record { vpn = e.vpn; to = t } ∷ [] → ns ≡ map (with_turn nodes) (take (i + 1) pages)
 one_more nodes pages i t e ds ns lt at is had now =
     now ∙ (ap (λ l. l ++ record { vpn = e.vpn; to = t } ∷ []) had ∙ (ap (λ (z : ℕ). map (with_turn nodes) (take i pages) ++ record { vpn = e.vpn; to = z } ∷ []) is

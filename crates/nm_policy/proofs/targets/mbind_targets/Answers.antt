@@ -3,7 +3,7 @@ use Rattle.std.specs.List.{flat_map}
 use Rattle.std.proofs.lemmas.Bool.{eqb-true, false≢true}
 use Rattle.std.proofs.lemmas.List.{take_all, take_more, flat_map_more}
 use Rattle.std.proofs.lemmas.Result.{IfOk-from_err}
-use Rattle.nm_policy.specs.declared.targets.Sent.{Sent}
+use Rattle.nm_policy.specs.declared.targets.Destination.{Destination}
 use Rattle.nm_types.specs.declared.located_page.LocatedPage.{LocatedPage}
 use Rattle.nm_policy.specs.Turns.{with_turn, sent_to, by_turns}
 use Rattle.nm_policy.proofs.targets.mbind_targets.Goals.{then-is_empty-via-then-is_empty, then-is_empty-via-else-is_empty+then-is_empty-2}
@@ -13,11 +13,11 @@ some_there : (xs : List ℕ) (b : Bool) → (xs ≡ [] → IsTrue b) → b ≡ f
 some_there [] b h e = absurd (false≢true (sym e ∙ h refl))
 some_there (x ∷ xs) b h e = omega arith
 
-one_more : (f : ℕ → List Sent) (xs : List ℕ) (i x : ℕ) (ts ns : List Sent) → i < length xs → x ≡ get_or xs i x → ts ≡ flat_map f (take i xs) → ns ≡ ts ++ f x → ns ≡ flat_map f (take (i + 1) xs)
+one_more : (f : ℕ → List Destination) (xs : List ℕ) (i x : ℕ) (ts ns : List Destination) → i < length xs → x ≡ get_or xs i x → ts ≡ flat_map f (take i xs) → ns ≡ ts ++ f x → ns ≡ flat_map f (take (i + 1) xs)
 one_more f xs i x ts ns lt at had now =
     now ∙ (ap (λ l. l ++ f x) had ∙ (flat_map_more f [] (take i xs) x ∙ ap (flat_map f) (ap (λ z. take i xs ++ z ∷ []) at ∙ sym (take_more xs i x lt))))
 
-by_all : (pages : List LocatedPage) (nodes order xs : List ℕ) (ds ts : List Sent) (i : ℕ) → ts ≡ flat_map (sent_to ds) (take i xs) → length xs ≤ i → xs ≡ nodes → ds ≡ map (with_turn order) pages → order ≡ nodes → ts ≡ by_turns nodes pages
+by_all : (pages : List LocatedPage) (nodes order xs : List ℕ) (ds ts : List Destination) (i : ℕ) → ts ≡ flat_map (sent_to ds) (take i xs) → length xs ≤ i → xs ≡ nodes → ds ≡ map (with_turn order) pages → order ≡ nodes → ts ≡ by_turns nodes pages
 by_all pages nodes order xs ds ts i h le ex ed ea =
     h ∙ (ap (flat_map (sent_to ds)) (take_all i xs le ∙ ex) ∙ ap (λ l. flat_map (sent_to l) nodes) (ed ∙ ap (λ n. map (with_turn n) pages) ea))
 
