@@ -22,19 +22,19 @@ use std::alloc::Allocator;
 
 /// What a touch gives back.
 #[derive(Clone, Copy)]
-pub(crate) struct Touched {
+pub(crate) struct TouchOutcome {
     /// The frame of the page that the process then sees. None if that is the page of zeros.
     pub(crate) frame: Option<FrameId>,
     /// How to undo the touch. None if the process saw the same before.
     pub(crate) undo: Option<Undo>,
 }
 
-impl Touched {
+impl TouchOutcome {
     /// The process sees the page shown there, which got this frame, in place of nothing or of the page of zeros.
     fn placed(pid: Pid, vpn: Vpn, zero: bool, page: Page, frame: FrameId) -> Self
         ensures { result ≡ touched_at pid vpn zero (Some frame) (Some (page, frame)) }
     {
-        Touched {
+        TouchOutcome {
             frame: Some(frame),
             undo: Some(Undo {
                 pid,
@@ -49,7 +49,7 @@ impl Touched {
     fn seen(pid: Pid, vpn: Vpn, frame: Option<FrameId>) -> Self
         ensures { result ≡ touched_at pid vpn false frame None }
     {
-        Touched {
+        TouchOutcome {
             frame,
             undo: Some(Undo {
                 pid,
@@ -72,7 +72,7 @@ impl ResolvedAddress {
         online: NodeMask,
         alloc: A,
         writes: bool,
-    ) -> Result<Touched, MachineError>
+    ) -> Result<TouchOutcome, MachineError>
         requires site { HasSite spaces.old.processes spaces.old.areas self }
         requires kept { AreKept spaces.old frames.old online }
 
@@ -102,16 +102,16 @@ impl ResolvedAddress {
         let ResolvedAddress { pid, vpn, page, .. } = self;
         match spaces.sight(pid, vpn, page) {
             Some(seen) => match seen.sight {
-                Sight::Sees(_) => Ok(Touched {
+                Sight::Sees(_) => Ok(TouchOutcome {
                     frame: seen.frame,
                     undo: None,
                 }),
                 Sight::ZeroPage => {
                     if writes {
                         let frame = self.fill(spaces, frames, online, alloc)?;
-                        Ok(Touched::placed(pid, vpn, true, page, frame))
+                        Ok(TouchOutcome::placed(pid, vpn, true, page, frame))
                     } else {
-                        Ok(Touched {
+                        Ok(TouchOutcome {
                             frame: None,
                             undo: None,
                         })
@@ -123,10 +123,10 @@ impl ResolvedAddress {
                     self.join(spaces, frames, online, alloc)
                 } else if writes {
                     let frame = self.fill(spaces, frames, online, alloc)?;
-                    Ok(Touched::placed(pid, vpn, false, page, frame))
+                    Ok(TouchOutcome::placed(pid, vpn, false, page, frame))
                 } else {
                     spaces.see_zero(pid, vpn)?;
-                    Ok(Touched::seen(pid, vpn, None))
+                    Ok(TouchOutcome::seen(pid, vpn, None))
                 }
             }
         }
@@ -139,7 +139,7 @@ impl ResolvedAddress {
         frames: &mut Frames<A>,
         online: NodeMask,
         alloc: A,
-    ) -> Result<Touched, MachineError>
+    ) -> Result<TouchOutcome, MachineError>
         requires touched { HasSite spaces.old.processes spaces.old.areas self }
         requires kept { AreKept spaces.old frames.old online }
         requires unseen { seen_by spaces.old self ≡ None }
@@ -164,10 +164,10 @@ impl ResolvedAddress {
         let ResolvedAddress { pid, vpn, page, .. } = self;
         let Some(frame) = spaces.areas().page_frame(page) else {
             let frame = self.fill(spaces, frames, online, alloc)?;
-            return Ok(Touched::placed(pid, vpn, false, page, frame));
+            return Ok(TouchOutcome::placed(pid, vpn, false, page, frame));
         };
         spaces.see(pid, vpn, page, frame)?;
-        Ok(Touched::seen(pid, vpn, Some(frame)))
+        Ok(TouchOutcome::seen(pid, vpn, Some(frame)))
     }
 
     /// Gives the page the front frame of the first node in order that has one, and makes the process see it.

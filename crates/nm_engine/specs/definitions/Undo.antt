@@ -10,12 +10,12 @@ use Rattle.nm_types.specs.State.{Process, State}
 use Rattle.nm_model.specs.definitions.Seen.{sight_at}
 use Rattle.nm_model.specs.definitions.Frames.{with_front}
 use Rattle.nm_engine.specs.declared.prepared_run.undo.Undo.{Undo}
-use Rattle.nm_engine.specs.declared.touch.Touched.{Touched}
+use Rattle.nm_engine.specs.declared.touch.TouchOutcome.{TouchOutcome}
 use Rattle.nm_model.specs.definitions.Effect.{seeing_before}
 use Rattle.nm_model.specs.definitions.Sound.{IsSoundInFlight}
 
 -- a touch of a process at a page number, where it saw the page of zeros or nothing; the page got a frame, or none was given
-abbrev pub touched_at : ℕ → ℕ → Bool → Option ℕ → Option (Page × ℕ) → Touched
+abbrev pub touched_at : ℕ → ℕ → Bool → Option ℕ → Option (Page × ℕ) → TouchOutcome
 touched_at pid v zero frame given =
     record { frame = frame; undo = Some (record { pid = pid; vpn = v; zero = zero; given = given }) }
 

@@ -14,7 +14,7 @@ ghost use Rattle.nm_engine.specs.definitions.Undo.{CanUndo, IsUndoable, IsStillU
 
 use crate::prepared_run::PreparedRun;
 use crate::resolved_address::ResolvedAddress;
-use crate::touch::Touched;
+use crate::touch::TouchOutcome;
 use nm_types::{FrameId, MachineError, Page, Pid, Vpn};
 use std::alloc::Allocator;
 
@@ -60,7 +60,7 @@ impl<A: Allocator + Copy> PreparedRun<A> {
         ensures back { IsStillUndone self.old.left self.old.state undos.old.items self.new.state undos.new.items }
     {
         undos.reserve(1)?;
-        let Touched { frame, undo } = t.touch(
+        let TouchOutcome { frame, undo } = t.touch(
             &mut self.spaces,
             &mut self.frames,
             self.online,

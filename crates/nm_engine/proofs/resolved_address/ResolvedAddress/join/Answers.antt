@@ -9,7 +9,7 @@ use Rattle.nm_model.specs.definitions.Seen.{frame_of, sight_in}
 use Rattle.nm_model.specs.definitions.Areas.{Mapping}
 use Rattle.nm_model.specs.definitions.Touch.{share_page, with_sight}
 use Rattle.nm_spaces.specs.views.AddressSpaces.{AddressSpacesView, table_of, with_seen}
-use Rattle.nm_engine.specs.declared.touch.Touched.{Touched}
+use Rattle.nm_engine.specs.declared.touch.TouchOutcome.{TouchOutcome}
 use Rattle.nm_engine.specs.definitions.Undo.{given_now}
 use Rattle.nm_engine.specs.views.MidRun.{IsSoundMachine}
 use Rattle.nm_engine.specs.views.Parts.{access_site}
@@ -49,7 +49,7 @@ returns-clause-frame g c =
     let t = c.args.self in
     let touched = c.requires.touched.2 in
     let is = c.in_ok-see.ensures.ok c.requires.touched.0 touched.known in
-    ap (λ (x : Touched). x.frame) c.seen.ensures
+    ap (λ (x : TouchOutcome). x.frame) c.seen.ensures
     ∙ sym (ap (λ (z : AddressSpacesView). frame_of z.place (sight_in (get nat_cmp z.processes t.pid) t.vpn)) is
     ∙ ap (frame_of y.place) (sees_now y.processes (table_of y) (paged_frames y c.args.frames.now) c.args.online 0 0 _ t c.requires.touched.0 c.requires.touched.1 (c.requires.kept 0 0) touched (Sees t.page) (with_seen y t.pid c.requires.touched.0 t.vpn (Sees t.page)).processes refl)
     ∙ sym (c.page_frame.ensures ∙ ap (λ (m : Mapping). get page_cmp m.place t.page) c.areas.ensures.areas) ∙ c.in-Some.is)
@@ -76,7 +76,7 @@ returns-in_default-clause-touches g c m f p a touched =
     ap (share_page (shown_by c.args.spaces.now c.args.frames.now c.args.online m f) (access_site c.args.self p a)) none ∙ c.in_ok-frame.ensures.touches m f p a touched
 
 pub returns-in_default-clause-frame : goal.returns-in_default-clause-frame
-returns-in_default-clause-frame g c = ap (λ (x : Touched). x.frame) c.placed.ensures ∙ sym c.in_ok-frame.ensures.frame
+returns-in_default-clause-frame g c = ap (λ (x : TouchOutcome). x.frame) c.placed.ensures ∙ sym c.in_ok-frame.ensures.frame
 
 pub returns-in_default-clause-undo : goal.returns-in_default-clause-undo
 returns-in_default-clause-undo g c =

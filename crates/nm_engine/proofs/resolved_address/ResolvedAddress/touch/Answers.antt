@@ -9,7 +9,7 @@ use Rattle.nm_types.specs.declared.sight.Sight.{Sight}
 use Rattle.nm_types.specs.State.{State, Process, PlacedArea}
 use Rattle.nm_model.specs.definitions.Areas.{Mapping, is_shared}
 use Rattle.nm_engine.specs.declared.resolved_address.ResolvedAddress.{ResolvedAddress}
-use Rattle.nm_engine.specs.declared.touch.Touched.{Touched}
+use Rattle.nm_engine.specs.declared.touch.TouchOutcome.{TouchOutcome}
 use Rattle.nm_model.specs.definitions.Touch.{shown_at, fill_page, share_page, with_sight, touch_sight}
 use Rattle.nm_types.specs.declared.sight.Sight.TheVariants.{Sees, ZeroPage}
 use Rattle.nm_types.specs.Map.{get, page_cmp}
@@ -98,7 +98,7 @@ returns-in_ok-see_zero-in-None-clause-frame g c =
     let touched = c.requires.site.2 in
     let is = c.in_ok-see_zero-in-None.ensures.ok c.requires.site.0 touched.known in
     let seen = sees_now c.args.spaces.now.processes (table_of c.args.spaces.now) (paged_frames c.args.spaces.now c.args.frames.now) c.args.online 0 0 _ c.args.self c.requires.site.0 c.requires.site.1 (c.requires.kept 0 0) touched ZeroPage (with_seen c.args.spaces.now c.args.self.pid c.requires.site.0 c.args.self.vpn ZeroPage).processes refl in
-    ap (λ (x : Touched). x.frame) c.seen.ensures ∙ sym (ap (λ (z : AddressSpacesView). frame_of z.place (sight_in (get nat_cmp z.processes c.args.self.pid) c.args.self.vpn)) is ∙ ap (frame_of c.args.spaces.now.place) seen)
+    ap (λ (x : TouchOutcome). x.frame) c.seen.ensures ∙ sym (ap (λ (z : AddressSpacesView). frame_of z.place (sight_in (get nat_cmp z.processes c.args.self.pid) c.args.self.vpn)) is ∙ ap (frame_of c.args.spaces.now.place) seen)
 
 pub returns-in-Sees-clause-zeros : goal.returns-in-Sees-clause-zeros
 returns-in-Sees-clause-zeros g c =
@@ -110,7 +110,7 @@ returns-in_ok-see_zero-in-None-clause-zeros g c =
     let touched = c.requires.site.2 in
     let is = c.in_ok-see_zero-in-None.ensures.ok c.requires.site.0 touched.known in
     let seen = sees_now c.args.spaces.now.processes (table_of c.args.spaces.now) (paged_frames c.args.spaces.now c.args.frames.now) c.args.online 0 0 _ c.args.self c.requires.site.0 c.requires.site.1 (c.requires.kept 0 0) touched ZeroPage (with_seen c.args.spaces.now c.args.self.pid c.requires.site.0 c.args.self.vpn ZeroPage).processes refl in
-    subst (λ (x : Touched). IfNone x.frame (sight_at (shown_by c.see_zero.new.self c.args.frames.now c.args.online 0 0) c.args.self.pid c.args.self.vpn ≡ Some ZeroPage)) (sym c.seen.ensures) (ap (λ (z : AddressSpacesView). sight_in (get nat_cmp z.processes c.args.self.pid) c.args.self.vpn) is ∙ seen)
+    subst (λ (x : TouchOutcome). IfNone x.frame (sight_at (shown_by c.see_zero.new.self c.args.frames.now c.args.online 0 0) c.args.self.pid c.args.self.vpn ≡ Some ZeroPage)) (sym c.seen.ensures) (ap (λ (z : AddressSpacesView). sight_in (get nat_cmp z.processes c.args.self.pid) c.args.self.vpn) is ∙ seen)
 
 pub returns-in-Sees-clause-touches : goal.returns-in-Sees-clause-touches
 returns-in-Sees-clause-touches g c m f p a known =
@@ -253,13 +253,13 @@ returns-in_err-see_zero-in-None-clause-zero g c = on_any c.from_residual-in_err-
 pub returns-in_ok-see_zero-in-None-clause-some : goal.returns-in_ok-see_zero-in-None-clause-some
 returns-in_ok-see_zero-in-None-clause-some g c writes =
     let never : ◌≡◌ {A = Bool} false true = sym c.if-writes-2.false ∙ writes in
-    subst (λ (x : Touched). IsSome x.frame) (sym c.seen.ensures) never
+    subst (λ (x : TouchOutcome). IsSome x.frame) (sym c.seen.ensures) never
 
 pub returns-in_ok-frame-in-None-clause-frame : goal.returns-in_ok-frame-in-None-clause-frame
-returns-in_ok-frame-in-None-clause-frame g c = ap (λ (x : Touched). x.frame) c.placed-then-writes-2.ensures ∙ sym c.in_ok-frame-in-None.ensures.frame
+returns-in_ok-frame-in-None-clause-frame g c = ap (λ (x : TouchOutcome). x.frame) c.placed-then-writes-2.ensures ∙ sym c.in_ok-frame-in-None.ensures.frame
 
 pub returns-in_ok-frame-in-ZeroPage-clause-frame : goal.returns-in_ok-frame-in-ZeroPage-clause-frame
-returns-in_ok-frame-in-ZeroPage-clause-frame g c = ap (λ (x : Touched). x.frame) c.placed.ensures ∙ sym c.in_ok-frame-in-ZeroPage.ensures.frame
+returns-in_ok-frame-in-ZeroPage-clause-frame g c = ap (λ (x : TouchOutcome). x.frame) c.placed.ensures ∙ sym c.in_ok-frame-in-ZeroPage.ensures.frame
 
 pub returns-else-writes-clause-zeros : goal.returns-else-writes-clause-zeros
 returns-else-writes-clause-zeros g c = (sym c.sight.ensures.sight ∙ ap seen_sight c.in-Some.is ∙ ap Some c.in-ZeroPage.is)
