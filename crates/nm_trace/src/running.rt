@@ -42,7 +42,7 @@ fn read_bytes<A: Allocator + Copy, R: TellingReader>(
 
 /// A trace that was played to its end.
 #[derive(Drop)]
-pub struct Played<A: Allocator + Copy + Send + Sync> {
+pub struct FinishedTrace<A: Allocator + Copy + Send + Sync> {
     /// The number of steps made.
     pub summary: Summary,
     /// The system that the steps left.
@@ -56,7 +56,7 @@ fn run_bytes<A: Allocator + Copy + Send + Sync, C: RunCrew<A>, W: TellingWriter>
     heap: Global,
     bytes: &[u8],
     writer: &mut W,
-) -> Result<Played<A>, TraceError>
+) -> Result<FinishedTrace<A>, TraceError>
     // The trace
     ensures runs { (trace : Result TraceContents TraceError) × IsTraceOf bytes.now trace
         × Runs (λ plan p. IsPlayed plan p.summary.steps p.system (W.contents writer.old) (W.contents writer.new))
@@ -76,7 +76,7 @@ fn run_bytes<A: Allocator + Copy + Send + Sync, C: RunCrew<A>, W: TellingWriter>
         return Err(TraceError::HostMemory(0));
     };
     let summary = play_calls(crew, alloc, &mut system, calls.as_slice(), writer)?;
-    Ok(Played { summary, system })
+    Ok(FinishedTrace { summary, system })
 }
 
 /// Reads a trace to its end, checks all of it, plays it on a new system with a crew, and writes the report. Also returns
@@ -91,7 +91,7 @@ pub fn run_on<A: Allocator + Copy + Send + Sync, C: RunCrew<A>, R: TellingReader
     heap: Global,
     reader: &mut R,
     writer: &mut W,
-) -> Result<Played<A>, TraceError>
+) -> Result<FinishedTrace<A>, TraceError>
     // The reader gives a trace, which is played to the writer
     ensures runs { (trace : Result TraceContents TraceError)
         × GivesTrace (R.remaining reader.old) (R.has_failed reader.old) (R.has_failed reader.new) (R.gave reader.old reader.new) trace
