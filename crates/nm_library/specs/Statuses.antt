@@ -1,6 +1,6 @@
 -- What traces, sessions and steps tell and leave.
 use Rattle.std.specs.Prelude.{◌≡◌, ◌⊎◌, ℕ, ℤ, pos, List, [], Option, Some, None, Ok, Err}
-use Rattle.nm_library.specs.declared.handle.Kept.{Kept}
+use Rattle.nm_library.specs.declared.handle.OpenSession.{OpenSession}
 use Rattle.nm_library.specs.Rooms.{FillsRoom}
 use Rattle.nm_steps.specs.Calls.{Call}
 use Rattle.nm_steps.specs.Faults.{TraceContents, trace_of}
@@ -39,19 +39,19 @@ ReportsTrace trace status old new before needed =
     × (new ≡ old) × (needed ≡ before))
 
 -- a session that is open stays; where there is none, the one that the top of a trace begins is opened, or none, for a fault
-abbrev pub OpensSession : List ℕ → ℤ → Option Kept → Option Kept → Type 0
+abbrev pub OpensSession : List ℕ → ℤ → Option OpenSession → Option OpenSession → Type 0
 OpensSession top status (Some kept) new = (status ≡ pos 1) × (new ≡ Some kept)
 OpensSession top status None (Some kept) = (status ≡ pos 0) × (session_of top ≡ Ok kept.session) × (kept.lines.items ≡ [])
 OpensSession top status None None = (fault : TraceError) × (status ≡ fault_status fault) × (IsBad fault → session_of top ≡ Err fault)
 
 -- the call that the bytes are is made as the session's next step, and its lines are kept
-abbrev pub IsStep : Kept → List ℕ → Kept → Type 0
+abbrev pub IsStep : OpenSession → List ℕ → OpenSession → Type 0
 IsStep old step new =
     (call : Call) × (next_call old.session step ≡ Ok call)
     × (new.lines.items ≡ next_lines old.session call) × (new.session ≡ next old.session call)
 
 -- a fault of the bytes leaves the session as it was; lack of memory may leave the call made in part, or whole
-abbrev pub LeavesStep : TraceError → Kept → List ℕ → Kept → Type 0
+abbrev pub LeavesStep : TraceError → OpenSession → List ℕ → OpenSession → Type 0
 LeavesStep NotJson old step new = (next_call old.session step ≡ Err NotJson) × (new.session ≡ old.session)
 LeavesStep BadMachine old step new = ⊥
 LeavesStep (BadStep k) old step new = (next_call old.session step ≡ Err (BadStep k)) × (new.session ≡ old.session)
@@ -60,7 +60,7 @@ LeavesStep WriteFault old step new = ⊥
 LeavesStep (HostMemory k) old step new = StopsShort old.session step new.session
 
 -- a step is made and its lines are told; or nothing is, for a fault, and the lines of the step before are kept
-abbrev pub MakesSteps : List ℕ → List ℕ → List ℕ → ℕ → ℕ → ℤ → Kept → Kept → Type 0
+abbrev pub MakesSteps : List ℕ → List ℕ → List ℕ → ℕ → ℕ → ℤ → OpenSession → OpenSession → Type 0
 MakesSteps step before after needed_before needed status old new =
     (IsStep old step new × FillsRoom new.lines.items status before after needed)
     ⊎ ((fault : TraceError) × (status ≡ fault_status fault) × LeavesStep fault old step new × (new.lines ≡ old.lines)

@@ -4,7 +4,7 @@ ghost use Rattle.std.specs.Prelude.{◌≡◌};
 ghost use Rattle.nm_steps.specs.Views.{call_of};
 ghost use Rattle.nm_library.specs.Calls.{error_status, Completes, OfSession};
 
-use crate::handle::{Handle, Kept};
+use crate::handle::{Handle, OpenSession};
 use crate::status;
 use nm_calls::{Call, CallError};
 use nm_crew::Alone;
@@ -24,7 +24,7 @@ pub fn status_for(error: CallError) -> i32
 }
 
 /// Makes a call, and tells how it ended.
-pub fn make(kept: &mut Kept, call: &Call<Global>) -> i32
+pub fn make(kept: &mut OpenSession, call: &Call<Global>) -> i32
     ensures { Completes (call_of call.now) result kept.old kept.new }
 {
     // (the kit's borrow checker looks for what a crew works on among the types of this function)

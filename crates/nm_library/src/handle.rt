@@ -1,7 +1,7 @@
 //! A session behind a pointer, as C holds it.
 
 ghost use Rattle.std.specs.Prelude.{◌≡◌, Some, None, Option, option_map};
-ghost use Rattle.nm_library.specs.declared.handle.Kept.{Kept as Contents};
+ghost use Rattle.nm_library.specs.declared.handle.OpenSession.{OpenSession as Contents};
 
 use crate::raw_box::RawBox;
 use nm_trace::Session;
@@ -12,7 +12,7 @@ use std::ptr::null_mut;
 
 /// A session, and the lines of the last step that it made.
 #[derive(Drop)]
-pub struct Kept {
+pub struct OpenSession {
     pub session: Session<Global>,
     pub lines: Vec<u8>,
 }
@@ -37,7 +37,7 @@ unsafe impl Send for Handle {}
 
 impl Handle {
     /// The handle of a session.
-    fn of(raw: RawBox<Kept, Global>) -> Handle
+    fn of(raw: RawBox<OpenSession, Global>) -> Handle
         ensures { result.value ≡ Some raw.value }
     {
         let RawBox { at, alloc } = raw;
@@ -58,7 +58,7 @@ impl Handle {
     }
 
     /// The block of the session, if there is one.
-    fn into_raw(self) -> Option<RawBox<Kept, Global>>
+    fn into_raw(self) -> Option<RawBox<OpenSession, Global>>
         ensures { option_map (λ b. b.value) result ≡ self.value }
     {
         let Handle { at, alloc } = self;
@@ -66,14 +66,14 @@ impl Handle {
             None
         } else {
             Some(RawBox {
-                at: at as *mut Kept,
+                at: at as *mut OpenSession,
                 alloc,
             })
         }
     }
 
     /// The session, if there is one.
-    fn into_box(self) -> Option<Box<Kept>>
+    fn into_box(self) -> Option<Box<OpenSession>>
         ensures { option_map (λ b. b.value) result ≡ self.value }
     {
         match self.into_raw() {
@@ -83,7 +83,7 @@ impl Handle {
     }
 
     /// Takes the session out, if there is one.
-    pub fn take(&mut self, alloc: Global) -> Option<Box<Kept>>
+    pub fn take(&mut self, alloc: Global) -> Option<Box<OpenSession>>
         ensures kept { option_map (λ b. b.value) result ≡ self.old.value }
         ensures none { self.new.value ≡ None }
     {
@@ -91,7 +91,7 @@ impl Handle {
     }
 
     /// Puts a session in. One that was there is closed.
-    pub fn put(&mut self, kept: Box<Kept>)
+    pub fn put(&mut self, kept: Box<OpenSession>)
         ensures { self.new.value ≡ Some kept.value }
     {
         let before = replace(self, Handle::of(RawBox::of(kept)));

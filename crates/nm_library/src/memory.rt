@@ -5,7 +5,7 @@ ghost use Rattle.nm_steps.specs.Calls.{Pin, Unpin, Offline, Online};
 ghost use Rattle.nm_library.specs.Calls.{Completes, OfSession, Reads, WritesBytes};
 
 use crate::calls::{make_on, status_for};
-use crate::handle::{Handle, Kept};
+use crate::handle::{Handle, OpenSession};
 use crate::rooms::put;
 use crate::status;
 use nm_calls::Call;
@@ -13,7 +13,7 @@ use nm_types::{NodeId, Pid};
 use std::alloc::Global;
 
 /// Reads bytes into a room.
-fn read(kept: &mut Kept, pid: u32, addr: u64, room: &mut [u8]) -> i32
+fn read(kept: &mut OpenSession, pid: u32, addr: u64, room: &mut [u8]) -> i32
     ensures { Reads pid addr room.old room.new result kept.old kept.new }
 {
     match kept.session.read(Pid::new(pid), addr, room.len() as u64) {
@@ -47,7 +47,7 @@ pub extern "C" fn numatrace_read(
 }
 
 /// Writes bytes.
-fn write(kept: &mut Kept, pid: u32, addr: u64, bytes: &[u8]) -> i32
+fn write(kept: &mut OpenSession, pid: u32, addr: u64, bytes: &[u8]) -> i32
     ensures { WritesBytes pid addr bytes.now result kept.old kept.new }
 {
     match kept.session.write(Pid::new(pid), addr, bytes) {

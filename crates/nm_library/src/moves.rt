@@ -7,7 +7,7 @@ ghost use Rattle.nm_steps.specs.Views.{migrate_call, move_call};
 ghost use Rattle.nm_library.specs.Calls.{Completes, LooksOnly, Migrates, MovesPages, MovesListed, OfSession, Queries};
 
 use crate::calls::{make_on, status_for};
-use crate::handle::{Handle, Kept};
+use crate::handle::{Handle, OpenSession};
 use crate::masks::mask_of;
 use crate::rooms::put;
 use crate::status;
@@ -72,7 +72,7 @@ fn request_of(
 
 /// Moves pages, and writes their statuses and how many of them failed.
 fn move_pages(
-    kept: &mut Kept,
+    kept: &mut OpenSession,
     request: &MoveRequest<Global>,
     statuses: &mut [i32],
     failed: &mut usize,
@@ -95,7 +95,7 @@ fn move_pages(
 /// Moves pages that are given as slices.
 fn move_listed(
     alloc: Global,
-    kept: &mut Kept,
+    kept: &mut OpenSession,
     asking: &Asking,
     pages: &[u64],
     nodes: &[u32],
@@ -145,7 +145,7 @@ pub extern "C" fn numatrace_move_pages(
 }
 
 /// Asks where pages are.
-fn query(alloc: Global, kept: &Kept, asking: &Asking, pages: &[u64], statuses: &mut [i32]) -> i32
+fn query(alloc: Global, kept: &OpenSession, asking: &Asking, pages: &[u64], statuses: &mut [i32]) -> i32
     ensures { Queries (Query asking.now.caller asking.now.pid pages.now asking.now.flags)
         statuses.old statuses.new result kept.now }
 {
@@ -196,7 +196,7 @@ pub extern "C" fn numatrace_query(
 }
 
 /// Moves pages from nodes to nodes, and writes how many failed.
-fn migrate(kept: &mut Kept, request: &MigrateRequest, failed: &mut usize) -> i32
+fn migrate(kept: &mut OpenSession, request: &MigrateRequest, failed: &mut usize) -> i32
     ensures { Migrates (migrate_call request.now)
         failed.old failed.new result kept.old kept.new }
 {

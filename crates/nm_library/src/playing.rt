@@ -5,7 +5,7 @@ ghost use Rattle.nm_library.specs.Statuses.{IsBad, IsReport, IsStep, LeavesStep,
 ghost use Rattle.nm_steps.specs.Faults.{trace_of};
 ghost use Rattle.nm_trace.specs.Session.{session_of as session_of};
 
-use crate::handle::Kept;
+use crate::handle::OpenSession;
 use crate::rooms::tell;
 use crate::status;
 use nm_crew::Alone;
@@ -24,21 +24,21 @@ pub fn report_on(alloc: Global, trace: &[u8]) -> Result<Vec<u8>, TraceError>
 }
 
 /// The session that the top of a trace begins.
-pub fn opened(alloc: Global, top: &[u8]) -> Result<Box<Kept>, TraceError>
+pub fn opened(alloc: Global, top: &[u8]) -> Result<Box<OpenSession>, TraceError>
     ensures session { IfOk result (λ kept. session_of top.now ≡ Ok kept.value.session) }
     ensures lines { IfOk result (λ kept. kept.value.lines.items ≡ []) }
     ensures bad { IfErr result (λ fault. IsBad fault → session_of top.now ≡ Err fault) }
 {
     let session = Session::open(alloc, alloc, top)?;
     let lines = Vec::new(alloc);
-    match Box::new(alloc, Kept { session, lines }) {
+    match Box::new(alloc, OpenSession { session, lines }) {
         Ok(kept) => Ok(kept),
         Err(_) => Err(TraceError::HostMemory(0)),
     }
 }
 
 /// Makes a step, and keeps its lines.
-pub fn step(alloc: Global, kept: &mut Kept, step: &[u8]) -> Result<(), TraceError>
+pub fn step(alloc: Global, kept: &mut OpenSession, step: &[u8]) -> Result<(), TraceError>
     ensures made { OnOk result (IsStep kept.old step.now kept.new) }
     ensures left { IfErr result (λ fault. LeavesStep fault kept.old step.now kept.new) }
     ensures kept { IfErr result (λ _. kept.new.lines ≡ kept.old.lines) }
@@ -50,7 +50,7 @@ pub fn step(alloc: Global, kept: &mut Kept, step: &[u8]) -> Result<(), TraceErro
 /// Makes a step, keeps its lines, and tells them.
 pub fn step_told(
     alloc: Global,
-    kept: &mut Kept,
+    kept: &mut OpenSession,
     bytes: &[u8],
     lines: &mut [u8],
     needed: &mut usize,

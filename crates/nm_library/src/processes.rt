@@ -7,7 +7,7 @@ ghost use Rattle.nm_steps.specs.Views.{map_call};
 ghost use Rattle.nm_library.specs.Calls.{Completes, Maps, OfSession};
 
 use crate::calls::{make_on, status_for};
-use crate::handle::{Handle, Kept};
+use crate::handle::{Handle, OpenSession};
 use crate::masks::mask_of;
 use crate::status;
 use nm_calls::{Attachment, Call, NewArea, NewProcess};
@@ -47,7 +47,7 @@ pub extern "C" fn numatrace_exit(alloc: Global, session: &mut Handle, pid: u32) 
 }
 
 /// Makes an area, and writes its segment's number.
-fn map(kept: &mut Kept, area: &NewArea, segment: &mut u32) -> i32
+fn map(kept: &mut OpenSession, area: &NewArea, segment: &mut u32) -> i32
     ensures { Maps (map_call area.now)
         segment.old segment.new result kept.old kept.new }
 {

@@ -11,7 +11,7 @@ use Rattle.std.specs.declared.alloc.Global.{Global}
 use Rattle.std.proofs.alloc.Global.TheSendSync as heap
 use Rattle.std.proofs.Crossing.{Box-send}
 use Rattle.nm_library.specs.contracts.handle.Kept as contents
-use Rattle.nm_library.proofs.handle.Kept.TheSendSync as contents_cross
+use Rattle.nm_library.proofs.handle.OpenSession.TheSendSync as contents_cross
 use Rattle.nm_library.specs.contracts.handle.Handle.{the_row, the_type}
 
 owned : (p : Ptr) (a : Global) (value : Option contents.the_row.Denot) (vs : List Val) → Keyless (the_row.own_val (record { at = p; alloc = a; value = value }) vs)
