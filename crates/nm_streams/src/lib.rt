@@ -2,14 +2,14 @@
 #![tactic(auto)]
 
 mod block;
-mod closed;
+mod closed_writer;
 mod reading;
 mod stream_error;
 mod telling;
 mod watched;
 
 pub use block::{Block, write_lines};
-pub use closed::Closed;
+pub use closed_writer::ClosedWriter;
 pub use reading::read_all;
 pub use stream_error::{ReadError, WriteError};
 pub use telling::{FlushingWriter, TellingReader, TellingWriter};

@@ -14,7 +14,7 @@ use crate::playing::make_step;
 use json::{Scratch, Value};
 use nm_calls::{Call, RunCrew, System};
 use nm_steps::{StepError, TraceError, geometry_of, run_limit_of, step_of, value_of};
-use nm_streams::{Block, Closed};
+use nm_streams::{Block, ClosedWriter};
 use std::alloc::{Allocator, Global};
 use std::marker::Model;
 
@@ -116,7 +116,7 @@ impl<A: Allocator + Copy + Send + Sync> Session<A> {
             return Err(TraceError::HostMemory(step));
         }
         let mut block = Block::new(self.alloc, usize::MAX);
-        let mut closed = Closed::new();
+        let mut closed = ClosedWriter::new();
         let Ok(()) = make_step(crew, &mut self.system, step, &call, &mut block, &mut closed) else {
             return Err(TraceError::HostMemory(step));
         };

@@ -10,16 +10,16 @@ use std::io::{ErrorKind, Write};
 
 /// A writer whose every write fails.
 #[derive(Drop)]
-pub struct Closed {}
+pub struct ClosedWriter {}
 
-impl Closed {
+impl ClosedWriter {
     /// Another one.
-    pub fn new() -> Closed {
-        Closed {}
+    pub fn new() -> ClosedWriter {
+        ClosedWriter {}
     }
 }
 
-impl Write for Closed {
+impl Write for ClosedWriter {
     ghost contents = { λ _. Some [] };
 
     fn write(&mut self, _buf: &[u8]) -> io::Result<usize> {
@@ -31,7 +31,7 @@ impl Write for Closed {
     }
 }
 
-impl TellingWriter for Closed {
+impl TellingWriter for ClosedWriter {
     ghost has_failed = { λ _. true };
 
     fn write_telling(&mut self, buf: &[u8]) -> io::Result<usize> {
