@@ -6,11 +6,11 @@ mod closed_writer;
 mod reading;
 mod stream_error;
 mod telling;
-mod watched;
+mod watched_stream;
 
 pub use block::{Block, write_lines};
 pub use closed_writer::ClosedWriter;
 pub use reading::read_all;
 pub use stream_error::{ReadError, WriteError};
 pub use telling::{FlushingWriter, TellingReader, TellingWriter};
-pub use watched::Watched;
+pub use watched_stream::WatchedStream;

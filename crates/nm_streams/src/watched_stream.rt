@@ -16,20 +16,20 @@ use std::io::{BufWriter, Read, Write};
 /// A reader or a writer of any kind, with a flag that is set when a read, a write or a flush fails, and a count of the
 /// bytes read.
 #[derive(Drop)]
-pub struct Watched<T> {
+pub struct WatchedStream<T> {
     inner: T,
     has_failed: bool,
     given: u64,
 }
 
-impl<T> Watched<T> {
+impl<T> WatchedStream<T> {
     /// Watches a reader or a writer, from this call on.
-    pub fn new(inner: T) -> Watched<T>
+    pub fn new(inner: T) -> WatchedStream<T>
         ensures inner { watched_inner result ≡ inner }
         ensures failed { watched_failed result ≡ false }
         ensures given { watched_given result ≡ 0 }
     {
-        Watched {
+        WatchedStream {
             inner,
             has_failed: false,
             given: 0,
@@ -66,7 +66,7 @@ impl<T> Watched<T> {
     }
 }
 
-impl<R: Read> Read for Watched<R> {
+impl<R: Read> Read for WatchedStream<R> {
     ghost remaining = { λ w. R.remaining (watched_inner w) };
 
     fn read(&mut self, buf: &mut [u8]) -> io::Result<usize>
@@ -96,7 +96,7 @@ impl<R: Read> Read for Watched<R> {
     }
 }
 
-impl<R: Read> TellingReader for Watched<R> {
+impl<R: Read> TellingReader for WatchedStream<R> {
     ghost has_failed = { λ w. watched_failed w };
 
     ghost gave = { λ v w n. u64_saturate (watched_given w) ≡ u64_saturate (watched_given v + n) };
@@ -110,7 +110,7 @@ impl<R: Read> TellingReader for Watched<R> {
     ghost gave_more = { λ u v w. more_counted (watched_given u) (watched_given v) (watched_given w) };
 }
 
-impl<W: Write> Write for Watched<W> {
+impl<W: Write> Write for WatchedStream<W> {
     ghost contents = { λ w. W.contents (watched_inner w) };
 
     fn write(&mut self, buf: &[u8]) -> io::Result<usize>
@@ -147,7 +147,7 @@ impl<W: Write> Write for Watched<W> {
     }
 }
 
-impl<W: Write> TellingWriter for Watched<W> {
+impl<W: Write> TellingWriter for WatchedStream<W> {
     ghost has_failed = { λ w. watched_failed w };
 
     fn write_telling(&mut self, buf: &[u8]) -> io::Result<usize> {
@@ -155,7 +155,7 @@ impl<W: Write> TellingWriter for Watched<W> {
     }
 }
 
-impl<W: Write + Drop, A: Allocator> FlushingWriter for Watched<BufWriter<W, A>> {
+impl<W: Write + Drop, A: Allocator> FlushingWriter for WatchedStream<BufWriter<W, A>> {
     ghost is_flushed = { λ w. writer_buffer (watched_inner w) ≡ [] };
 
     fn flush_telling(&mut self) -> io::Result<()> {
