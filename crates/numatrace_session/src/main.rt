@@ -283,7 +283,7 @@ fn talk_to_end<T: Wait, R: Read, W: FlushingWriter>(
 }
 
 /// A buffer before the output. The only error is `HostMemory`.
-fn buffered<W: Write + Drop>(heap: Global, to: W) -> Result<BufWriter<W, Global>, End>
+fn buffer_over<W: Write + Drop>(heap: Global, to: W) -> Result<BufWriter<W, Global>, End>
     ensures output { IfOk result (λ b. (writer_inner b ≡ to) × (writer_buffer b ≡ [])) }
     ensures fault { IfErr result (λ e. e ≡ End.HostMemory) }
 {
@@ -338,7 +338,7 @@ fn serve<T: Wait, R: Read + Drop, W: Write + Drop>(
     to: W,
 ) -> Result<(), End> {
     let mut input = buffered_input(heap, from)?;
-    let out = buffered(heap, to)?;
+    let out = buffer_over(heap, to)?;
     talk_to_end(rt, heap, &mut input, &mut Watched::new(out))
 }
 
