@@ -30,7 +30,7 @@ fn nodes_of<A: Allocator + Copy>(alloc: A, set: NodeMask) -> Result<Vec<NodeId, 
 
 /// Each page of a list with the node whose turn it is, in the order of the list. An error means that the host is out of
 /// memory; an empty list takes none.
-fn dealt<A: Allocator + Copy>(
+fn pages_with_turns<A: Allocator + Copy>(
     alloc: A,
     nodes: &[NodeId],
     pages: &[LocatedPage],
@@ -88,7 +88,7 @@ pub fn mbind_targets<A: Allocator + Copy>(
     }
     let mut targets = Vec::with_capacity(alloc, pages.len())?;
     let order = nodes_of(alloc, nodes)?;
-    let dealt = dealt(alloc, order.as_slice(), pages)?;
+    let dealt = pages_with_turns(alloc, order.as_slice(), pages)?;
     for node in &order {
         append_for(*node, dealt.as_slice(), &mut targets)?;
     }

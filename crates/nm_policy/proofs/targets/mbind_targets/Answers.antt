@@ -42,8 +42,8 @@ returns-then-is_empty-clause-targets g c = elim c.then-is_empty.branch [
 pub returns-in_err-order-clause-targets : goal.returns-in_err-order-clause-targets
 returns-in_err-order-clause-targets g c = IfOk-from_err _ _ c.from_residual-in_err-order.ensures.0
 
-pub dealt-requires : goal.dealt-requires
-dealt-requires g c =
+pub pages_with_turns-requires : goal.pages_with_turns-requires
+pages_with_turns-requires g c =
     omega (arith, ap length (c.as_slice.ensures.value ∙ c.in_ok-order.ensures.nodes), some_there c.args.nodes c.is_empty.result c.is_empty.ensures.1 c.if-is_empty.false)
 
 pub returns-in_err-dealt-clause-targets : goal.returns-in_err-dealt-clause-targets
