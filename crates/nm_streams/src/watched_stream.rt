@@ -45,7 +45,7 @@ impl<T> WatchedStream<T> {
     }
 
     /// How many bytes were read. The count stops at `u64::MAX`.
-    pub fn given(&self) -> u64
+    pub fn bytes_given(&self) -> u64
         ensures { result ≡ watched_given self.now }
     {
         self.given
