@@ -6,7 +6,7 @@
 mod classes;
 mod copying;
 mod gate;
-mod hired;
+mod hire;
 mod room;
 mod worker;
 
