@@ -41,7 +41,7 @@ pub fn classify<R: Threads + Sync, A: Allocator + Copy + Send + Sync, V: PageVie
     }
     let size = wanted.len() / pieces;
     let pieces = classes_of_pieces(rt, alloc, geometry, view, run.target, wanted, size)??;
-    joined(alloc, pieces.as_slice(), wanted.len())
+    join_parts(alloc, pieces.as_slice(), wanted.len())
 }
 
 /// The most page numbers for each request of a run whose pages are close together: an eighth of those of one leaf of a
@@ -106,7 +106,7 @@ fn classes_of_pieces<R: Threads + Sync, A: Allocator + Copy + Send + Sync, V: Pa
 }
 
 /// The pieces of a list, one behind the other. They have `length` elements in total.
-fn joined<T: Copy, A: Allocator + Copy>(
+fn join_parts<T: Copy, A: Allocator + Copy>(
     alloc: A,
     pieces: &[Vec<T, A>],
     length: usize,
