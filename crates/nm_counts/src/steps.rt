@@ -11,7 +11,7 @@ ghost use Rattle.nm_counts.specs.declared.step.Step.{Step};
 ghost use Rattle.nm_counts.specs.Shifted.{is_page_within, shift_step, shifted_in};
 
 use crate::parts::{Part, add_at, count_step, parts_within, shift_parts, uncount_step};
-use crate::step::{Step, lowered, shifted, with_add};
+use crate::step::{Step, minus, shifted, with_add};
 use nm_types::Page;
 use std::alloc::{AllocError, Allocator};
 use std::collections::BTreeMap;
@@ -69,7 +69,7 @@ impl<A: Allocator + Copy> Steps<A> {
     {
         let add = add_at(&self.parts, page);
         let Step { covers, ends } = step;
-        let covers = lowered(covers, add);
+        let covers = minus(covers, add);
         if self.stored.insert(page, Step { covers, ends })?.is_none() {
             count_step(&self.stored, &mut self.parts, page);
         }
@@ -85,7 +85,7 @@ impl<A: Allocator + Copy> Steps<A> {
     {
         let add = add_at(&self.parts, page);
         let Step { covers, ends } = step;
-        let covers = lowered(covers, add);
+        let covers = minus(covers, add);
         put(&mut self.stored, page, Step { covers, ends });
     }
 

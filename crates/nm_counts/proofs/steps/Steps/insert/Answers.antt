@@ -15,10 +15,10 @@ returns-in_err-insert-clause-absent g c =
 
 pub returns-then-is_none-clause-ok : goal.returns-then-is_none-clause-ok
 returns-then-is_none-clause-ok g c p =
-    put_seen c.self.inside.stored.entries c.insert.new.self.entries c.self.inside.parts.entries c.count_step.new.parts.entries c.args.page c.args.step _ c.add_at-add.result c.count_step.ensures c.add_at-add.ensures c.lowered-covers.ensures c.in_ok-insert.ensures.updates.0 p
+    put_seen c.self.inside.stored.entries c.insert.new.self.entries c.self.inside.parts.entries c.count_step.new.parts.entries c.args.page c.args.step _ c.add_at-add.result c.count_step.ensures c.add_at-add.ensures c.minus-covers.ensures c.in_ok-insert.ensures.updates.0 p
     ∙ ap (λ m. if same_page c.args.page p then Some c.args.step else get page_cmp m p) c.self.view_is
 
 pub returns-else-is_none-clause-ok : goal.returns-else-is_none-clause-ok
 returns-else-is_none-clause-ok g c p =
-    put_seen c.self.inside.stored.entries c.insert.new.self.entries c.self.inside.parts.entries c.self.inside.parts.entries c.args.page c.args.step _ c.add_at-add.result (λ q. refl) c.add_at-add.ensures c.lowered-covers.ensures c.in_ok-insert.ensures.updates.0 p
+    put_seen c.self.inside.stored.entries c.insert.new.self.entries c.self.inside.parts.entries c.self.inside.parts.entries c.args.page c.args.step _ c.add_at-add.result (λ q. refl) c.add_at-add.ensures c.minus-covers.ensures c.in_ok-insert.ensures.updates.0 p
     ∙ ap (λ m. if same_page c.args.page p then Some c.args.step else get page_cmp m p) c.self.view_is

@@ -7,5 +7,5 @@ use Rattle.nm_counts.proofs.steps.Steps.replace.Goals as goal
 
 pub returns : goal.returns
 returns g c p =
-    replaced_seen c.self.inside.stored.entries c.put.new.stored.entries c.self.inside.parts.entries c.args.page c.args.step _ c.add_at-add.result c.add_at-add.ensures c.lowered-covers.ensures c.put.ensures p
+    replaced_seen c.self.inside.stored.entries c.put.new.stored.entries c.self.inside.parts.entries c.args.page c.args.step _ c.add_at-add.result c.add_at-add.ensures c.minus-covers.ensures c.put.ensures p
     ∙ ap (λ m. option_map (λ there. if same_page c.args.page p then c.args.step else there) (get page_cmp m p)) c.self.view_is
