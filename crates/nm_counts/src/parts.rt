@@ -10,7 +10,7 @@ ghost use Rattle.nm_types.specs.Map.{get, page_cmp};
 ghost use Rattle.nm_counts.specs.Parts.{add_at};
 ghost use Rattle.nm_counts.specs.Shifted.{is_page_within, one_more_or_less};
 
-use crate::step::{Step, raised};
+use crate::step::{Step, plus_or_minus_one};
 use nm_types::Page;
 use std::alloc::Allocator;
 use std::collections::BTreeMap;
@@ -235,7 +235,7 @@ pub(crate) fn shift_parts<A: Allocator + Copy>(
         {
             let Part { add, steps } = *part;
             *part = Part {
-                add: raised(add, up),
+                add: plus_or_minus_one(add, up),
                 steps,
             };
             false

@@ -17,13 +17,13 @@ pub(crate) fn shifted(step: Step, up: bool) -> Step
     ensures { result ≡ shift_step up step }
 {
     Step {
-        covers: raised(step.covers, up),
+        covers: plus_or_minus_one(step.covers, up),
         ends: step.ends,
     }
 }
 
 /// One more, or one less. Wraps around.
-pub(crate) fn raised(number: u64, up: bool) -> u64
+pub(crate) fn plus_or_minus_one(number: u64, up: bool) -> u64
     ensures { result ≡ one_more_or_less up number }
 {
     if up {
