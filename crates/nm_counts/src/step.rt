@@ -13,7 +13,7 @@ pub struct Step {
 }
 
 /// A step with one more area over its page, or one fewer.
-pub(crate) fn shifted(step: Step, up: bool) -> Step
+pub(crate) fn shift(step: Step, up: bool) -> Step
     ensures { result ≡ shift_step up step }
 {
     Step {

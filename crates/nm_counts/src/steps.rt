@@ -11,7 +11,7 @@ ghost use Rattle.nm_counts.specs.declared.step.Step.{Step};
 ghost use Rattle.nm_counts.specs.Shifted.{is_page_within, shift_step, shifted_in};
 
 use crate::parts::{Part, add_at, count_step, parts_within, shift_parts, uncount_step};
-use crate::step::{Step, minus, shifted, with_add};
+use crate::step::{Step, minus, shift, with_add};
 use nm_types::Page;
 use std::alloc::{AllocError, Allocator};
 use std::collections::BTreeMap;
@@ -197,7 +197,7 @@ fn shift_stored<A: Allocator + Copy>(
         move |_page: &Page, step: &mut Step| -> bool
             ensures { (result ≡ false) × (step.new ≡ shift_step up step.old) }
         {
-            *step = shifted(*step, up);
+            *step = shift(*step, up);
             false
         },
     );
