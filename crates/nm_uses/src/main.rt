@@ -12,7 +12,7 @@ mod moving;
 mod tests;
 mod values;
 
-use making::made;
+use making::make_trace;
 use moving::page_moved;
 use nm_trace::{Trace, TraceError, Watched};
 use std::alloc::Global;
@@ -27,7 +27,7 @@ fn trace_to_play(heap: Global, bytes: &[u8]) -> Result<Trace<Global>, TraceError
     if !bytes.is_empty() {
         return read_value(heap, bytes);
     }
-    match made(heap) {
+    match make_trace(heap) {
         Ok(value) => Trace::from_value(heap, &value),
         Err(_) => Err(TraceError::HostMemory(0)),
     }

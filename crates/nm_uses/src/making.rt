@@ -59,7 +59,7 @@ fn push_steps(heap: Global, steps: &mut Vec<Value>) -> Result<(), AllocError> {
 }
 
 /// A process on node 0 writes a byte to each of three pages, moves them to node 1 in one call, and lists where they are.
-pub(crate) fn made(heap: Global) -> Result<Value, AllocError> {
+pub(crate) fn make_trace(heap: Global) -> Result<Value, AllocError> {
     let machine = machine(heap)?;
     let mut steps = Vec::new(heap);
     push_steps(heap, &mut steps)?;

@@ -1,6 +1,6 @@
 //! Traces that are read by way of values and from their bytes.
 
-use crate::making::made;
+use crate::making::make_trace;
 use crate::values::read_value;
 use nm_trace::{Trace, TraceError, read_trace};
 use std::alloc::Global;
@@ -34,7 +34,7 @@ fn both_ways_find_one_fault(rt: HostRuntime) -> Result<(), Fail> {
 /// A trace that is made as a value is read, with all its steps.
 #[test]
 fn what_is_made_is_read(rt: HostRuntime) -> Result<(), Fail> {
-    let value = made(rt.alloc())?;
+    let value = make_trace(rt.alloc())?;
     match Trace::from_value(rt.alloc(), &value) {
         Ok(trace) => assert!(rt; trace.calls.len() == 7 && trace.run_limit == 16_384),
         Err(fault) => panic!(rt; "{fault}"),
