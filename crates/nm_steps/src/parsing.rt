@@ -445,7 +445,7 @@ fn numa_maps<A: Allocator + Copy + Send + Sync, V: JsonValue>(
 }
 
 #[tactic(auto, unfolding(crate::specs::Form::named))]
-fn named<A: Allocator + Copy + Send + Sync, V: JsonValue>(
+fn step_named<A: Allocator + Copy + Send + Sync, V: JsonValue>(
     alloc: A,
     op: &str,
     value: &V,
@@ -493,5 +493,5 @@ pub fn step_of<A: Allocator + Copy + Send + Sync, V: JsonValue>(
         (form.text_at (codes "op") (V.as_data value.now))
         ≡ Some true }
 {
-    named(alloc, text(value, "op")?, value, limit)
+    step_named(alloc, text(value, "op")?, value, limit)
 }
