@@ -49,7 +49,7 @@ pub extern "C" fn numatrace_open(alloc: Global, session: &mut Handle, top: &[u8]
         session.put(kept);
         return status::BAD_ARGUMENT;
     }
-    match playing::opened(alloc, top) {
+    match playing::open_session(alloc, top) {
         Ok(kept) => {
             session.put(kept);
             status::DONE

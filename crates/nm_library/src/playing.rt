@@ -24,7 +24,7 @@ pub fn report_on(alloc: Global, trace: &[u8]) -> Result<Vec<u8>, TraceError>
 }
 
 /// The session that the top of a trace begins.
-pub fn opened(alloc: Global, top: &[u8]) -> Result<Box<OpenSession>, TraceError>
+pub fn open_session(alloc: Global, top: &[u8]) -> Result<Box<OpenSession>, TraceError>
     ensures session { IfOk result (λ kept. session_of top.now ≡ Ok kept.value.session) }
     ensures lines { IfOk result (λ kept. kept.value.lines.items ≡ []) }
     ensures bad { IfErr result (λ fault. IsBad fault → session_of top.now ≡ Err fault) }
