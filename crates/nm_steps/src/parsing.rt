@@ -265,7 +265,7 @@ fn write<A: Allocator + Copy + Send + Sync, V: JsonValue>(
 }
 
 /// A batch of pages with a node for each, if they are equally many, and at most 16,384.
-fn paired<A: Allocator + Copy + Send + Sync>(
+fn pages_with_nodes<A: Allocator + Copy + Send + Sync>(
     pages: Vec<u64, A>,
     nodes: Vec<u32, A>,
 ) -> Result<Batch<A>, StepError>
@@ -291,7 +291,7 @@ fn batch_of<A: Allocator + Copy + Send + Sync, V: JsonValue>(
 {
     let pages = numbers(alloc, value, "pages")?;
     let nodes = smalls(alloc, value, "nodes")?;
-    paired(pages, nodes)
+    pages_with_nodes(pages, nodes)
 }
 
 #[tactic(auto, unfolding(crate::specs::Form::move_pages_of))]
