@@ -211,7 +211,7 @@ fn paint<A: Allocator + Copy>(
         move |_spot: &(Pid, Vpn), area: &mut Area| -> bool
             ensures { (result ≡ false) × (area.new ≡ record (area.old) { policy = policy }) }
         {
-            *area = policed(*area, policy);
+            *area = with_policy(*area, policy);
             false
         },
     );
@@ -219,7 +219,7 @@ fn paint<A: Allocator + Copy>(
 }
 
 /// An area with another policy.
-fn policed(area: Area, policy: Policy) -> Area
+fn with_policy(area: Area, policy: Policy) -> Area
     ensures { result ≡ record area { policy = policy } }
 {
     Area {
