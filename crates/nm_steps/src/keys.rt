@@ -128,7 +128,7 @@ fn smalls_of<A: Allocator + Copy, V: JsonValue>(
 }
 
 /// The numbers of the list at a key, each below 2^32.
-pub(crate) fn smalls<A: Allocator + Copy, V: JsonValue>(
+pub(crate) fn small_numbers<A: Allocator + Copy, V: JsonValue>(
     alloc: A,
     value: &V,
     key: &str,

@@ -16,7 +16,7 @@ use crate::call::{
     NewProcess, Question,
 };
 use crate::json_value::JsonValue;
-use crate::keys::{flag, hex, number, numbers, set, small, smalls, text};
+use crate::keys::{flag, hex, number, numbers, set, small, small_numbers, text};
 use crate::step_error::StepError;
 use nm_runs::run_count;
 use nm_types::limits::MAX_BATCH;
@@ -290,7 +290,7 @@ fn batch_of<A: Allocator + Copy + Send + Sync, V: JsonValue>(
     ensures asked { result ≡ Err Memory → batch_starts (V.as_data value.now) ≡ true }
 {
     let pages = numbers(alloc, value, "pages")?;
-    let nodes = smalls(alloc, value, "nodes")?;
+    let nodes = small_numbers(alloc, value, "nodes")?;
     pages_with_nodes(pages, nodes)
 }
 

@@ -20,7 +20,7 @@ ghost use Rattle.serde_json.specs.Find.{as_array};
 
 use crate::call::Call;
 use crate::json_value::JsonValue;
-use crate::keys::{list, number, smalls};
+use crate::keys::{list, number, small_numbers};
 use crate::parsing::step_of;
 use crate::step_error::StepError;
 use crate::trace::Trace;
@@ -99,7 +99,7 @@ fn machine_of<A: Allocator + Copy, V: JsonValue>(
     ensures asked { result ≡ Err Memory → machine_takes_memory (V.as_data value.now) ≡ true }
 {
     let machine = value.get("machine").ok_or(StepError::Bad)?;
-    let sizes = smalls(alloc, machine, "nodes")?;
+    let sizes = small_numbers(alloc, machine, "nodes")?;
     let distances = rows_of(alloc, list(machine, "distance")?)?;
     match Geometry::new(sizes, distances) {
         Ok(geometry) => Ok(geometry),

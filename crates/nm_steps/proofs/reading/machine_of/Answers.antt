@@ -5,8 +5,8 @@ use Rattle.nm_steps.proofs.reading.machine_of.Goals as goal
 pub returns-in_err-sizes-clause-asked : goal.returns-in_err-sizes-clause-asked
 returns-in_err-sizes-clause-asked g c = λ is.
     let machine = sym (rw c.in_ok-machine.ensures.ok_part at c.get.ensures) in
-    let memory = handed_on c.from_residual-in_err-sizes.result c.smalls.result _ _ c.from_residual-in_err-sizes.ensures c.in_err-sizes.was is in
-    has_sizes (g.V.JsonValue.as_data c.args.value.now) _ machine (c.smalls.ensures.first memory)
+    let memory = handed_on c.from_residual-in_err-sizes.result c.small_numbers.result _ _ c.from_residual-in_err-sizes.ensures c.in_err-sizes.was is in
+    has_sizes (g.V.JsonValue.as_data c.args.value.now) _ machine (c.small_numbers.ensures.first memory)
 
 pub returns-in_err-distances-clause-asked : goal.returns-in_err-distances-clause-asked
 returns-in_err-distances-clause-asked g c = λ is.

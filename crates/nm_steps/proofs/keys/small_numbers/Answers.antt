@@ -1,7 +1,7 @@
 use Rattle.std.proofs.Common.{◌^◌}
 use Rattle.nm_steps.specs.Form.{number_below}
 use Rattle.nm_steps.proofs.Memory.{has_listed, starts_listed}
-use Rattle.nm_steps.proofs.keys.smalls.Goals as goal
+use Rattle.nm_steps.proofs.keys.small_numbers.Goals as goal
 
 pub returns-clause-asked : goal.returns-clause-asked
 returns-clause-asked g c = λ is. has_listed g.V.JsonValue.as_data c.in_ok-list.field-0.now _ c.in_ok-list.ensures.value (c.smalls_of.ensures.asked is)
