@@ -23,7 +23,7 @@ pub(crate) fn number<V: JsonValue>(value: &V, key: &str) -> Result<u64, StepErro
 }
 
 /// The number at a key, below 2^32.
-pub(crate) fn small<V: JsonValue>(value: &V, key: &str) -> Result<u32, StepError>
+pub(crate) fn small_number<V: JsonValue>(value: &V, key: &str) -> Result<u32, StepError>
     ensures value { GivesStep (λ n. n) result (small_at key.now (V.as_data value.now)) }
     ensures bad { IfErr result (λ e. e ≡ Bad) }
 {

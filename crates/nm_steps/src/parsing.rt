@@ -16,7 +16,7 @@ use crate::call::{
     NewProcess, Question,
 };
 use crate::json_value::JsonValue;
-use crate::keys::{flag, hex, number, numbers, set, small, small_numbers, text};
+use crate::keys::{flag, hex, number, numbers, set, small_number, small_numbers, text};
 use crate::step_error::StepError;
 use nm_runs::run_count;
 use nm_types::limits::MAX_BATCH;
@@ -32,7 +32,7 @@ fn read_access<A: Allocator + Copy + Send + Sync, V: JsonValue>(
     ensures bad { IfErr result (λ e. e ≡ Bad) }
 {
     Ok(Access::Read {
-        pid: Pid::new(small(value, "pid")?),
+        pid: Pid::new(small_number(value, "pid")?),
         addr: number(value, "addr")?,
         len: number(value, "len")?,
     })
@@ -48,7 +48,7 @@ fn write_access<A: Allocator + Copy + Send + Sync, V: JsonValue>(
     ensures asked { result ≡ Err Memory → write_has_pairs (V.as_data value.now) ≡ true }
 {
     Ok(Access::Write {
-        pid: Pid::new(small(value, "pid")?),
+        pid: Pid::new(small_number(value, "pid")?),
         addr: number(value, "addr")?,
         bytes: hex(alloc, value, "data")?,
     })
@@ -156,9 +156,9 @@ fn spawn<A: Allocator + Copy + Send + Sync, V: JsonValue>(value: &V) -> Result<C
     ensures bad { IfErr result (λ e. e ≡ Bad) }
 {
     Ok(Call::Spawn(NewProcess {
-        pid: Pid::new(small(value, "pid")?),
-        uid: small(value, "uid")?,
-        home: NodeId::new(small(value, "home")?),
+        pid: Pid::new(small_number(value, "pid")?),
+        uid: small_number(value, "uid")?,
+        home: NodeId::new(small_number(value, "home")?),
         allowed: set(value, "allowed")?,
         privileged: flag(value, "privileged")?,
     }))
@@ -170,7 +170,7 @@ fn map<A: Allocator + Copy + Send + Sync, V: JsonValue>(value: &V) -> Result<Cal
     ensures bad { IfErr result (λ e. e ≡ Bad) }
 {
     Ok(Call::Map(NewArea {
-        pid: Pid::new(small(value, "pid")?),
+        pid: Pid::new(small_number(value, "pid")?),
         addr: number(value, "addr")?,
         pages: number(value, "pages")?,
         shared: flag(value, "shared")?,
@@ -183,7 +183,7 @@ fn attach<A: Allocator + Copy + Send + Sync, V: JsonValue>(value: &V) -> Result<
     ensures bad { IfErr result (λ e. e ≡ Bad) }
 {
     Ok(Call::Attach(Attachment {
-        pid: Pid::new(small(value, "pid")?),
+        pid: Pid::new(small_number(value, "pid")?),
         addr: number(value, "addr")?,
         segment: number(value, "segment")?,
         offset: number(value, "offset")?,
@@ -197,7 +197,7 @@ fn unmap<A: Allocator + Copy + Send + Sync, V: JsonValue>(value: &V) -> Result<C
     ensures bad { IfErr result (λ e. e ≡ Bad) }
 {
     Ok(Call::Unmap {
-        pid: Pid::new(small(value, "pid")?),
+        pid: Pid::new(small_number(value, "pid")?),
         addr: number(value, "addr")?,
         pages: number(value, "pages")?,
     })
@@ -209,7 +209,7 @@ fn exit<A: Allocator + Copy + Send + Sync, V: JsonValue>(value: &V) -> Result<Ca
     ensures bad { IfErr result (λ e. e ≡ Bad) }
 {
     Ok(Call::Exit {
-        pid: Pid::new(small(value, "pid")?),
+        pid: Pid::new(small_number(value, "pid")?),
     })
 }
 
@@ -219,7 +219,7 @@ fn pin<A: Allocator + Copy + Send + Sync, V: JsonValue>(value: &V) -> Result<Cal
     ensures bad { IfErr result (λ e. e ≡ Bad) }
 {
     Ok(Call::Pin {
-        pid: Pid::new(small(value, "pid")?),
+        pid: Pid::new(small_number(value, "pid")?),
         addr: number(value, "addr")?,
     })
 }
@@ -230,7 +230,7 @@ fn unpin<A: Allocator + Copy + Send + Sync, V: JsonValue>(value: &V) -> Result<C
     ensures bad { IfErr result (λ e. e ≡ Bad) }
 {
     Ok(Call::Unpin {
-        pid: Pid::new(small(value, "pid")?),
+        pid: Pid::new(small_number(value, "pid")?),
         addr: number(value, "addr")?,
     })
 }
@@ -304,10 +304,10 @@ fn move_pages<A: Allocator + Copy + Send + Sync, V: JsonValue>(
     ensures call { GivesStep call_of result (form.move_pages_of limit (V.as_data value.now)) }
     ensures asked { result ≡ Err Memory → move_takes_memory (V.as_data value.now) ≡ true }
 {
-    let caller = small(value, "caller")?;
-    let pid = small(value, "pid")?;
+    let caller = small_number(value, "caller")?;
+    let pid = small_number(value, "pid")?;
     let batch = batch_of(alloc, value)?;
-    let flags = small(value, "flags")?;
+    let flags = small_number(value, "flags")?;
     let runs = run_count(batch.nodes.as_slice(), limit);
     let during = flights_at(alloc, value, runs)?;
     Ok(Call::MovePages(MoveRequest {
@@ -327,8 +327,8 @@ fn migrate_pages<A: Allocator + Copy + Send + Sync, V: JsonValue>(
     ensures bad { IfErr result (λ e. e ≡ Bad) }
 {
     Ok(Call::MigratePages(MigrateRequest {
-        caller: Pid::new(small(value, "caller")?),
-        pid: Pid::new(small(value, "pid")?),
+        caller: Pid::new(small_number(value, "caller")?),
+        pid: Pid::new(small_number(value, "pid")?),
         old: set(value, "old")?,
         new: set(value, "new")?,
     }))
@@ -340,12 +340,12 @@ fn mbind<A: Allocator + Copy + Send + Sync, V: JsonValue>(value: &V) -> Result<C
     ensures bad { IfErr result (λ e. e ≡ Bad) }
 {
     Ok(Call::Mbind(MbindRequest {
-        caller: Pid::new(small(value, "caller")?),
+        caller: Pid::new(small_number(value, "caller")?),
         addr: number(value, "addr")?,
         len: number(value, "len")?,
-        mode: small(value, "mode")?,
+        mode: small_number(value, "mode")?,
         nodes: set(value, "nodes")?,
-        flags: small(value, "flags")?,
+        flags: small_number(value, "flags")?,
     }))
 }
 
@@ -355,7 +355,7 @@ fn offline<A: Allocator + Copy + Send + Sync, V: JsonValue>(value: &V) -> Result
     ensures bad { IfErr result (λ e. e ≡ Bad) }
 {
     Ok(Call::Offline {
-        node: NodeId::new(small(value, "node")?),
+        node: NodeId::new(small_number(value, "node")?),
     })
 }
 
@@ -365,7 +365,7 @@ fn online<A: Allocator + Copy + Send + Sync, V: JsonValue>(value: &V) -> Result<
     ensures bad { IfErr result (λ e. e ≡ Bad) }
 {
     Ok(Call::Online {
-        node: NodeId::new(small(value, "node")?),
+        node: NodeId::new(small_number(value, "node")?),
     })
 }
 
@@ -398,10 +398,10 @@ fn query<A: Allocator + Copy + Send + Sync, V: JsonValue>(
     ensures call { GivesStep call_of result (form.query_of (V.as_data value.now)) }
     ensures asked { result ≡ Err Memory → query_takes_memory (V.as_data value.now) ≡ true }
 {
-    let caller = small(value, "caller")?;
-    let pid = small(value, "pid")?;
+    let caller = small_number(value, "caller")?;
+    let pid = small_number(value, "pid")?;
     let pages = numbers(alloc, value, "pages")?;
-    let given = small(value, "flags")?;
+    let given = small_number(value, "flags")?;
     question(Pid::new(caller), Pid::new(pid), pages, given)
 }
 
@@ -411,7 +411,7 @@ fn free<A: Allocator + Copy + Send + Sync, V: JsonValue>(value: &V) -> Result<Ca
     ensures bad { IfErr result (λ e. e ≡ Bad) }
 {
     Ok(Call::FreeList {
-        node: NodeId::new(small(value, "node")?),
+        node: NodeId::new(small_number(value, "node")?),
     })
 }
 
@@ -421,7 +421,7 @@ fn pagemap<A: Allocator + Copy + Send + Sync, V: JsonValue>(value: &V) -> Result
     ensures bad { IfErr result (λ e. e ≡ Bad) }
 {
     Ok(Call::Pagemap {
-        pid: Pid::new(small(value, "pid")?),
+        pid: Pid::new(small_number(value, "pid")?),
     })
 }
 
@@ -440,7 +440,7 @@ fn numa_maps<A: Allocator + Copy + Send + Sync, V: JsonValue>(
     ensures bad { IfErr result (λ e. e ≡ Bad) }
 {
     Ok(Call::NumaMaps {
-        pid: Pid::new(small(value, "pid")?),
+        pid: Pid::new(small_number(value, "pid")?),
     })
 }
 
