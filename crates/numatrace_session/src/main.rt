@@ -206,7 +206,7 @@ fn reply_to_lines<T: Wait, R: Read, W: FlushingWriter>(
 }
 
 /// Why a session ends whose first line begins none, for this fault.
-fn unopened(fault: TraceError) -> End
+fn end_unopened(fault: TraceError) -> End
     ensures { result ≡ end_unopened fault }
 {
     match fault {
@@ -221,7 +221,7 @@ fn begin(heap: Global, top: &[u8]) -> Result<Session<Global>, End>
 {
     match Session::open(heap, heap, top) {
         Ok(session) => Ok(session),
-        Err(fault) => Err(unopened(fault)),
+        Err(fault) => Err(end_unopened(fault)),
     }
 }
 
