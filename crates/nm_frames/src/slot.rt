@@ -30,7 +30,7 @@ impl<A: Allocator + Copy> Model for Slot<A> {
 
 impl<A: Allocator + Copy> Slot<A> {
     /// A frame without its buffer. Does not allocate.
-    pub(crate) fn unused() -> Self
+    pub(crate) fn without_buffer() -> Self
         ensures { result ≡ record { bytes = Some (replicate 4096 0); has_buffer = false } }
     {
         Slot {

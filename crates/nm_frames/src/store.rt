@@ -54,7 +54,7 @@ impl<A: Allocator + Copy> FrameStore<A> {
     {
         let mut unused = Vec::with_capacity(alloc, frames)?;
         for _ in 0..frames {
-            unused.push(Slot::unused())?;
+            unused.push(Slot::without_buffer())?;
         }
         Ok(FrameStore { frames: unused })
     }
