@@ -66,7 +66,7 @@ impl<A: Allocator + Copy> AreaTable<A> {
     /// How many areas there are.
     pub(crate) fn count(&self) -> usize
         ensures count { result ≡ length self.now.areas }
-        ensures small { length self.now.areas < 2 ^ 63 }
+        ensures few { length self.now.areas < 2 ^ 63 }
     {
         self.areas.len()
     }

@@ -35,7 +35,7 @@ pub(crate) fn count_in<A: Allocator + Copy>(
 
     // Without memory
     ensures err { OnErr result (IsCoverage steps.new table.now.segments table.now.areas) }
-    ensures asked { OnErr result (shared ≡ true) }
+    ensures allocates { OnErr result (shared ≡ true) }
 {
     if !shared {
         return Ok(());
@@ -118,7 +118,7 @@ pub(crate) fn split_steps<A: Allocator + Copy>(
 
     // Without memory
     ensures err { OnErr result (IsCoverage steps.new table.now.segments table.now.areas) }
-    ensures asked { OnErr result
+    ensures allocates { OnErr result
         (HasSplit table.now.areas pid first ⊎ HasSplit table.now.areas pid end) }
 {
     // There are so few areas that no number in a step overflows.
@@ -178,7 +178,7 @@ fn split_step<A: Allocator + Copy>(
 
     // Without memory
     ensures err { OnErr result (steps.new ≡ steps.old) }
-    ensures asked { OnErr result (HasSplit table.now.areas pid at) }
+    ensures allocates { OnErr result (HasSplit table.now.areas pid at) }
 {
     match table.split_page(pid, at) {
         Some(page) => mark(steps, page, 2),

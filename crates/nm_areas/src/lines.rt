@@ -34,7 +34,7 @@ impl<A: Allocator + Copy> Areas<A> {
     pub fn lines(&self, pid: Pid) -> Result<Vec<Area, A>, AllocError>
         ensures lines { IfOk result
             (λ lines. lines.items ≡ lines_of self.now.segments self.now.areas pid) }
-        ensures asked { OnErr result (0 < length (lines_of self.now.segments self.now.areas pid)) }
+        ensures allocates { OnErr result (0 < length (lines_of self.now.segments self.now.areas pid)) }
     {
         list_lines(self.alloc, &self.table.segments, &self.table.areas, pid)
     }
@@ -51,7 +51,7 @@ fn list_lines<A: Allocator + Copy>(
     requires low { AllByRecursion EndsLow areas.now.entries }
     ensures lines { IfOk result
         (λ lines. lines.items ≡ lines_of segments.now.entries areas.now.entries pid) }
-    ensures asked { OnErr result (0 < length (lines_of segments.now.entries areas.now.entries pid)) }
+    ensures allocates { OnErr result (0 < length (lines_of segments.now.entries areas.now.entries pid)) }
 {
     let mut lines = Vec::new(alloc);
     let mut rest = areas.range((pid, Vpn::new(0))..);

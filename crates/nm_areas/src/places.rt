@@ -49,7 +49,7 @@ impl<A: Allocator + Copy> Areas<A> {
     /// has a frame, the list takes none.
     pub fn frames(&self) -> Result<Vec<FrameId, A>, AllocError>
         ensures frames { IfOk result (λ frames. frames.items ≡ values_of self.now.place) }
-        ensures asked { OnErr result (0 < length self.now.place) }
+        ensures allocates { OnErr result (0 < length self.now.place) }
     {
         list_frames(self.alloc, &self.places)
     }
@@ -58,7 +58,7 @@ impl<A: Allocator + Copy> Areas<A> {
     /// memory; if no page has a frame, the list takes none.
     pub fn placed(&self) -> Result<Vec<(Page, FrameId), A>, AllocError>
         ensures placed { IfOk result (λ placed. placed.items ≡ self.now.place) }
-        ensures asked { OnErr result (0 < length self.now.place) }
+        ensures allocates { OnErr result (0 < length self.now.place) }
     {
         list_placed(self.alloc, &self.places)
     }
@@ -137,7 +137,7 @@ fn area_shows_counted<A: Allocator + Copy>(
     end: Vpn,
     counts: &[u32],
 ) -> bool
-    requires begins { start < end }
+    requires range { start < end }
     requires indices { area.page.index + area.pages < 2 ^ 64 }
 
     // If there is one
@@ -210,7 +210,7 @@ fn list_frames<A: Allocator + Copy>(
     places: &BTreeMap<Page, FrameId, A>,
 ) -> Result<Vec<FrameId, A>, AllocError>
     ensures frames { IfOk result (λ frames. frames.items ≡ values_of places.now.entries) }
-    ensures asked { OnErr result (0 < length places.now.entries) }
+    ensures allocates { OnErr result (0 < length places.now.entries) }
 {
     let mut frames = Vec::with_capacity(alloc, places.len())?;
     for frame in places.values() {
@@ -225,7 +225,7 @@ fn list_placed<A: Allocator + Copy>(
     places: &BTreeMap<Page, FrameId, A>,
 ) -> Result<Vec<(Page, FrameId), A>, AllocError>
     ensures placed { IfOk result (λ placed. placed.items ≡ places.now.entries) }
-    ensures asked { OnErr result (0 < length places.now.entries) }
+    ensures allocates { OnErr result (0 < length places.now.entries) }
 {
     let mut placed = Vec::with_capacity(alloc, places.len())?;
     for (page, frame) in places.iter() {

@@ -62,7 +62,7 @@ impl<A: Allocator + Copy> Areas<A> {
         // Without memory
         ensures err { OnErr result (self.new ≡ self.old) }
         ensures some { OnErr result (range.first < range.end) }
-        ensures asked { OnErr result
+        ensures allocates { OnErr result
             (HasSplit self.old.areas pid range.first ⊎ HasSplit self.old.areas pid range.end) }
     {
         let PageRange { first, end } = range;
@@ -93,7 +93,7 @@ impl<A: Allocator + Copy> Areas<A> {
             (with_policy self.old pid (addr / 4096) (addr / 4096 + page_count len) policy) }
         ensures memory { result ≡ Err MachineError.HostMemory →
             (range_refusal self.old pid addr len ≡ None) × (0 < len) }
-        ensures asked { result ≡ Err MachineError.HostMemory →
+        ensures allocates { result ≡ Err MachineError.HostMemory →
             HasSplit self.old.areas pid (addr / 4096)
             ⊎ HasSplit self.old.areas pid (addr / 4096 + page_count len) }
         ensures pages { (q v : ℕ) → page_at self.new.areas q v ≡ page_at self.old.areas q v }
@@ -152,7 +152,7 @@ impl<A: Allocator + Copy> AreaTable<A> {
 
         // Without memory
         ensures err { OnErr result (self.new ≡ self.old) }
-        ensures asked { OnErr result
+        ensures allocates { OnErr result
             (HasSplit self.old.areas pid range.first ⊎ HasSplit self.old.areas pid range.end) }
     {
         let PageRange { first, end } = range;

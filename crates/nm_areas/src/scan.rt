@@ -100,7 +100,7 @@ pub(crate) fn put<A: Allocator + Copy>(
 )
     ensures entries { areas.new.entries ≡ replace spot_cmp areas.old.entries spot area }
     ensures ordered { IsStrictlySortedBy spot_cmp (keys_of areas.old.entries) }
-    ensures still_ordered { IsStrictlySortedBy spot_cmp (keys_of areas.new.entries) }
+    ensures keys { IsStrictlySortedBy spot_cmp (keys_of areas.new.entries) }
 {
     if let Some(there) = areas.get_mut(&spot) {
         *there = area;

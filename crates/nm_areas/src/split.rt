@@ -30,7 +30,7 @@ impl<A: Allocator + Copy> AreaTable<A> {
 
         // Without memory
         ensures err { OnErr result (self.new ≡ self.old) }
-        ensures asked { OnErr result
+        ensures allocates { OnErr result
             (HasSplit self.old.areas pid first ⊎ HasSplit self.old.areas pid end) }
     {
         let cut = self.split(pid, first)?;
@@ -60,7 +60,7 @@ impl<A: Allocator + Copy> AreaTable<A> {
 
         // Without memory
         ensures err { OnErr result (self.new ≡ self.old) }
-        ensures asked { OnErr result (HasSplit self.old.areas pid at) }
+        ensures allocates { OnErr result (HasSplit self.old.areas pid at) }
     {
         let Some((start, area)) = self.over(pid, at) else {
             return Ok(None);

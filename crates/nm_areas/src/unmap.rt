@@ -56,7 +56,7 @@ impl<A: Allocator + Copy> Areas<A> {
 
         // Without memory
         ensures err { OnErr result (self.new ≡ self.old) }
-        ensures asked { OnErr result
+        ensures allocates { OnErr result
             (list_any (overlaps pid range.first range.end) self.old.areas ≡ true) }
         ensures needed { OnErr result
             ((0 < length self.old.place)
@@ -133,7 +133,7 @@ impl<A: Allocator + Copy> AreaTable<A> {
     /// area shows.
     fn drop_own(&mut self, pid: Pid, first: Vpn, end: Vpn)
         requires shown { AllShown self.old.areas self.old.segments }
-        requires named { IsStrictlySortedBy nat_cmp (keys_of self.old.segments) }
+        requires sorted { IsStrictlySortedBy nat_cmp (keys_of self.old.segments) }
         ensures { self.new ≡ without_own self.old pid first end }
     {
         while let Some((start, area)) = self.next_own(pid, first, end) {
@@ -289,7 +289,7 @@ fn lose_page<A: Allocator + Copy>(
     places: &mut BTreeMap<Page, FrameId, A>,
     freed: &mut Vec<(Page, FrameId), A>,
 )
-    requires has { get page_cmp places.old.entries page ≡ Some frame }
+    requires known { get page_cmp places.old.entries page ≡ Some frame }
     requires room { vec_len freed.old + min (length places.old.entries) 1 ≤ vec_capacity freed.old }
 
     // The page loses its frame and joins the list

@@ -125,7 +125,7 @@ impl<A: Allocator + Copy> Board<A> {
     pub fn give(&self, hand: &mut Hand<A>, job: CopyJob<A>)
         requires own { hand.old.board ≡ self.now }
         requires last { slice_get hand.old.out 0 ≡ Some job.ticket }
-        requires copied { slice_get (map job_after_copy self.now.jobs) job.ticket ≡ Some job }
+        requires job { slice_get (map job_after_copy self.now.jobs) job.ticket ≡ Some job }
         ensures { hand.new ≡ without_ticket hand.old job.ticket }
     {
         let slot = job.ticket as usize;

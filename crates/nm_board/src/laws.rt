@@ -19,6 +19,6 @@ pub fn steps_are_events<A: Allocator + Copy>()
     ensures give { GiveReturnsTheLast A }
     ensures split { SplitChangesNone A }
     ensures join { JoinChangesNone A }
-    ensures drawn { DrawIsTheMachines A }
+    ensures machines { DrawIsTheMachines A }
     ensures given { GiveIsTheMachines A }
 {}

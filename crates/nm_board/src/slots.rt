@@ -19,7 +19,7 @@ pub(crate) fn into_slots<A: Allocator + Copy>(
     ensures ok { IfOk result
         (λ slots. (slots.items ≡ map Some room.old.items) × (vec_len room.new ≡ 0)) }
     ensures err { OnErr result (room.new.items ≡ room.old.items) }
-    ensures asked { OnErr result (0 < length room.old.items) }
+    ensures allocates { OnErr result (0 < length room.old.items) }
     ensures room { vec_capacity room.new ≡ vec_capacity room.old }
 {
     let mut slots = Vec::with_capacity(alloc, room.len())?;

@@ -56,7 +56,7 @@ pub(crate) fn cut<N: Amount, A: Allocator + Copy>(
 
     // What each knows
     ensures left { seat.new.me ≡ (less shares seat.old.me.0, seat.old.me.1) }
-    ensures right { result.me ≡ (part shares seat.old.me.0, []) }
+    ensures part { result.me ≡ (part shares seat.old.me.0, []) }
 {
     shelf.split_seat::<Cut<N>>(seat)
 }

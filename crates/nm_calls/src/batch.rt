@@ -70,7 +70,7 @@ pub(crate) fn move_runs<A: Allocator + Copy + Send + Sync, C: RunCrew<A>>(
     requires room { sum_by (λ run. length run.wanted.items) runs.now ≤ vec_capacity statuses }
     ensures moves { MovesRuns result machine.old machine.new (stretches_of runs.now)
         (shown_during during.now) }
-    ensures asked { OnErr result (0 < length runs.now + length during.now) }
+    ensures allocates { OnErr result (0 < length runs.now + length during.now) }
 {
     let accesses = by_run(alloc, during, runs.len())?;
     let mut told = Vec::with_capacity(alloc, runs.len())?;
@@ -114,7 +114,7 @@ pub(crate) fn move_batch<A: Allocator + Copy + Send + Sync, C: RunCrew<A>>(
     ensures moves { Moves result machine.old machine.new limit
         (requests_of permit.now.pid permit.now.all request.now.batch.pages.items request.now.batch.nodes.items)
         (shown_during request.now.during.items) }
-    ensures asked { OnErr result
+    ensures allocates { OnErr result
         (0 < length request.now.batch.pages.items + length request.now.during.items) }
 {
     let MoveRequest { batch, during, .. } = request;
@@ -145,7 +145,7 @@ pub(crate) fn by_run<'d, A: Allocator + Copy + Send + Sync>(
     ensures lists { IfOk result
         (λ lists. AreByRun (map (λ list. map (λ a. access_shown a.now) list.items) lists.items) count
         (shown_during during.now)) }
-    ensures asked { OnErr result (0 < count) }
+    ensures allocates { OnErr result (0 < count) }
 {
     let mut lists = Vec::with_capacity(alloc, count)?;
     for _ in 0..count {

@@ -31,7 +31,7 @@ fn take_stretch(first: NodeId, rest: &mut NodeMask) -> NodeId
 /// Appends a comma, if it is wanted. Allocates only then.
 fn push_comma<A: Allocator>(line: &mut String<A>, wanted: bool) -> Result<(), AllocError>
     ensures text { OnOk result (string_bytes line.new ≡ string_bytes line.old ++ comma wanted) }
-    ensures asked { OnErr result (wanted ≡ true) }
+    ensures allocates { OnErr result (wanted ≡ true) }
 {
     if wanted { line.push_str(",") } else { Ok(()) }
 }
@@ -58,7 +58,7 @@ fn push_stretch<A: Allocator>(
 /// Appends a set of nodes. An empty set takes no memory.
 fn push_set<A: Allocator>(line: &mut String<A>, nodes: NodeMask) -> Result<(), AllocError>
     ensures text { OnOk result (string_bytes line.new ≡ string_bytes line.old ++ set_text nodes) }
-    ensures asked { OnErr result (0 < length nodes) }
+    ensures allocates { OnErr result (0 < length nodes) }
 {
     let mut rest = nodes;
     let mut behind = false;
@@ -166,7 +166,7 @@ fn count_pages<A: Allocator + Copy + Send + Sync>(
 fn push_node<A: Allocator>(line: &mut String<A>, node: usize, pages: u64) -> Result<(), AllocError>
     ensures text { OnOk result
         (string_bytes line.new ≡ string_bytes line.old ++ told_on node pages) }
-    ensures asked { OnErr result (0 < pages) }
+    ensures allocates { OnErr result (0 < pages) }
 {
     if pages == 0 {
         return Ok(());
@@ -184,7 +184,7 @@ fn push_nodes<A: Allocator>(
     requires { count ≤ 64 }
     ensures text { OnOk result
         (string_bytes line.new ≡ string_bytes line.old ++ nodes_text on.now count) }
-    ensures asked { OnErr result (0 < count) }
+    ensures allocates { OnErr result (0 < count) }
 {
     for node in 0..count {
         push_node(line, node, on[node])?;
@@ -201,7 +201,7 @@ fn push_tally<A: Allocator>(
     requires { nodes ≤ 64 }
     ensures text { OnOk result
         (string_bytes line.new ≡ string_bytes line.old ++ tally_text tally.now nodes) }
-    ensures asked { OnErr result (0 < tally.now.pages) }
+    ensures allocates { OnErr result (0 < tally.now.pages) }
 {
     if tally.pages == 0 {
         return Ok(());
@@ -246,7 +246,7 @@ pub(crate) fn areas_text<A: Allocator + Copy + Send + Sync>(
     requires { All (λ (area : Area). area.first + area.pages < 2 ^ 64) areas.now }
     ensures list { IfOk result
         (λ lines. lines_shown lines.items ≡ map (line_text machine.now pid) areas.now) }
-    ensures asked { OnErr result (0 < length areas.now) }
+    ensures allocates { OnErr result (0 < length areas.now) }
 {
     let mut lines = Vec::with_capacity(alloc, areas.len())?;
     for area in areas {

@@ -105,7 +105,7 @@ fn kept_nodes<A: Allocator + Copy + Send + Sync>(
     nodes: NodeMask,
 ) -> Option<NodeMask>
     // If there are such nodes
-    ensures good { IfSome result (λ kept. is_bad_set machine.now allowed mode nodes ≡ false) }
+    ensures some { IfSome result (λ kept. is_bad_set machine.now allowed mode nodes ≡ false) }
     ensures kept { IfSome result (λ kept. kept ≡ usable machine.now allowed nodes) }
 
     // If not
@@ -247,7 +247,7 @@ fn listed<A: Allocator + Copy + Send + Sync>(
 ) -> Result<Vec<LocatedPage, A>, AllocError>
     ensures list { IfOk result (λ pages. pages.items ≡ pages_to_bind machine.now binding.now flags) }
     ensures few { IfOk result (λ pages. length pages.items ≤ binding.now.end - binding.now.first) }
-    ensures asked { OnErr result (has_move flags ≡ true) }
+    ensures allocates { OnErr result (has_move flags ≡ true) }
 {
     if wants_moves(flags) {
         return astray(alloc, machine, *binding);
@@ -287,7 +287,7 @@ pub(crate) fn bind<A: Allocator + Copy + Send + Sync, C: RunCrew<A>>(
     ensures bound { let set = set_range_policy machine.old binding.now.pid binding.now.first binding.now.end binding.now.policy in
         Binds result machine.old set machine.new binding.now
         (mbind_runs limit set binding.now asked.flags) asked.flags }
-    ensures asked { (runs : ℕ) (policy_set : Bool) →
+    ensures allocates { (runs : ℕ) (policy_set : Bool) →
         result ≡ Err (HostMemory runs policy_set) →
         (has_move asked.flags ≡ true)
         ⊎ HasSplit machine.old.areas binding.now.pid binding.now.first

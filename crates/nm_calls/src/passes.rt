@@ -41,7 +41,7 @@ pub(crate) fn make_runs<A: Allocator + Copy + Send + Sync, C: RunCrew<A>>(
     requires count { sum_by (λ run. length run.wanted.items) runs.now ≡ count }
     ensures made { RunsGive result machine.old machine.new (stretches_of runs.now)
         (λ statuses ran. statuses.items ≡ ran.statuses) }
-    ensures asked { OnErr result (0 < length runs.now) }
+    ensures allocates { OnErr result (0 < length runs.now) }
 {
     let statuses = Vec::with_capacity(alloc, count)?;
     let none: [InFlight<A>; 0] = [];
@@ -95,7 +95,7 @@ fn runs_to<A: Allocator + Copy>(
     requires { 0 < limit }
     ensures runs { IfOk result
         (λ runs. stretches_of runs.items ≡ cut_within limit (all_to target wanted.now)) }
-    ensures asked { OnErr result (0 < length wanted.now) }
+    ensures allocates { OnErr result (0 < length wanted.now) }
 {
     let mut made = Vec::new(alloc);
     for piece in wanted.chunks(limit) {
@@ -149,7 +149,7 @@ fn place_of<A: Allocator + Copy + Send + Sync>(
     wanted: &Wanted,
 ) -> Option<NodeId>
     ensures there { (node : ℕ) → StandsOn machine.now node wanted.now → result ≡ Some node }
-    ensures alone { IfSome result (λ node. StandsOn machine.now node wanted.now) }
+    ensures node { IfSome result (λ node. StandsOn machine.now node wanted.now) }
 {
     match wanted {
         Wanted::At { pid, vpn, .. } => match machine.spaces().seen(*pid, *vpn) {
@@ -303,7 +303,7 @@ pub(crate) fn make_passes<A: Allocator + Copy + Send + Sync, C: RunCrew<A>>(
     requires pages { length wanted.items ≤ 2 ^ 52 }
     ensures runs { MakesRuns policy_set result machine.old machine.new
         (passes limit machine.old nodes.now wanted.items) }
-    ensures asked { OnErr result (0 < length wanted.items) }
+    ensures allocates { OnErr result (0 < length wanted.items) }
 {
     let mut left = Left {
         wanted,

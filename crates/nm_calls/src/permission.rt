@@ -51,7 +51,7 @@ pub(crate) fn acted_on(
     asked: Option<ProcessInfo>,
 ) -> Result<ProcessInfo, Errno>
     ensures exact { Checks result (right_refusal asking asked) }
-    ensures asked { IfOk result (λ info. asked ≡ Some info) }
+    ensures allocates { IfOk result (λ info. asked ≡ Some info) }
 {
     let ProcessInfo {
         uid,

@@ -121,7 +121,7 @@ pub(crate) fn way_of<A: Allocator + Copy + Send + Sync>(
     ensures can_go { IfOk result (CanGo (node_count (machine.now.layout))) }
 
     // Without memory
-    ensures asked { OnErr result (0 < length pages.now) }
+    ensures allocates { OnErr result (0 < length pages.now) }
 {
     let pid = binding.pid;
     if pages.is_empty() {

@@ -36,7 +36,7 @@ pub(crate) fn statuses_of<A: Allocator + Copy + Send + Sync>(
 ) -> Result<Vec<i32, A>, AllocError>
     ensures list { IfOk result
         (λ statuses. statuses.items ≡ statuses_of machine.now pid pages.now) }
-    ensures asked { OnErr result (0 < length pages.now) }
+    ensures allocates { OnErr result (0 < length pages.now) }
 {
     let mut statuses = Vec::with_capacity(alloc, pages.len())?;
     for address in pages {

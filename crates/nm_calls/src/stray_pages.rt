@@ -92,7 +92,7 @@ fn is_before(page: &LocatedPage, next: &LocatedPage) -> bool
 /// Whether each of these pages comes before the next. Then none is there twice.
 fn are_ascending(pages: &[LocatedPage]) -> bool
     ensures once { result ≡ true → once (λ l m. same_page l.page m.page) pages.now ≡ pages.now }
-    ensures told { IsAllAdjacentAnswer (λ l m b. b ≡ is_lt (page_cmp l.page m.page)) pages.now result }
+    ensures answer { IsAllAdjacentAnswer (λ l m b. b ≡ is_lt (page_cmp l.page m.page)) pages.now result }
 {
     pages.is_sorted_by(is_before)
 }
@@ -103,7 +103,7 @@ fn once<A: Allocator + Copy>(alloc: A, pages: &[LocatedPage]) -> Result<Vec<Loca
     ensures list { IfOk result
         (λ all. all.items ≡ once (λ l m. same_page l.page m.page) pages.now) }
     ensures few { IfOk result (λ all. length all.items ≤ length pages.now) }
-    ensures asked { OnErr result (0 < length pages.now) }
+    ensures allocates { OnErr result (0 < length pages.now) }
 {
     let mut seen = BTreeSet::new(alloc);
     let mut all = Vec::new(alloc);

@@ -44,7 +44,7 @@ fn mapped_of<A: Allocator + Copy>(
 ) -> Result<Vec<PagemapEntry, A>, AllocError>
     ensures list { IfOk result
         (λ mapped. entries_mapped mapped.items ≡ entries_shown entries.now) }
-    ensures asked { OnErr result (0 < length entries.now) }
+    ensures allocates { OnErr result (0 < length entries.now) }
 {
     let mut mapped = Vec::with_capacity(alloc, entries.len())?;
     for (vpn, entry) in entries {
@@ -175,7 +175,7 @@ impl<A: Allocator + Copy + Send + Sync> System<A> {
     /// range, and only if it is split there or a page has a frame.
     pub fn unmap(&mut self, pid: Pid, addr: u64, pages: u64) -> Result<(), CallError>
         ensures done { Does (λ done. Done) result self.old self.new (Unmap pid addr pages) }
-        ensures asked { Asks result (MayAllocate self.old.state (Unmap pid addr pages)) }
+        ensures allocates { Asks result (MayAllocate self.old.state (Unmap pid addr pages)) }
     {
         Ok(self.machine.unmap(pid, addr, pages)?)
     }
@@ -186,7 +186,7 @@ impl<A: Allocator + Copy + Send + Sync> System<A> {
     /// the process has an area, and a page has a frame.
     pub fn exit(&mut self, pid: Pid) -> Result<(), CallError>
         ensures done { Does (λ done. Done) result self.old self.new (Exit pid) }
-        ensures asked { Asks result (MayAllocate self.old.state (Exit pid)) }
+        ensures allocates { Asks result (MayAllocate self.old.state (Exit pid)) }
     {
         Ok(self.machine.exit(pid)?)
     }
@@ -227,7 +227,7 @@ impl<A: Allocator + Copy + Send + Sync> System<A> {
     pub fn write(&mut self, pid: Pid, addr: u64, bytes: &[u8]) -> Result<(), CallError>
         ensures done { Does (λ done. Done) result self.old self.new
             (WriteBytes pid addr bytes.now) }
-        ensures asked { Asks result (MayAllocate self.old.state (WriteBytes pid addr bytes.now)) }
+        ensures allocates { Asks result (MayAllocate self.old.state (WriteBytes pid addr bytes.now)) }
     {
         Ok(self.machine.write(pid, addr, bytes)?)
     }
@@ -264,7 +264,7 @@ impl<A: Allocator + Copy + Send + Sync> System<A> {
         request: &MoveRequest<A>,
     ) -> Result<Moved<A>, CallError>
         ensures done { Does moved_shown result self.old self.new (move_call request.now) }
-        ensures asked { Asks result (MayAllocate self.old.state (move_call request.now)) }
+        ensures allocates { Asks result (MayAllocate self.old.state (move_call request.now)) }
     {
         let permit = permit_of(&self.machine, request.caller, request.pid, request.flags)?;
         let batch = &request.batch;
@@ -331,7 +331,7 @@ impl<A: Allocator + Copy + Send + Sync> System<A> {
         request: &MbindRequest,
     ) -> Result<(), CallError>
         ensures done { Does (λ done. Failed 0) result self.old self.new (mbind_call request.now) }
-        ensures asked { Asks result (MayAllocate self.old.state (mbind_call request.now)) }
+        ensures allocates { Asks result (MayAllocate self.old.state (mbind_call request.now)) }
     {
         let (asked, binding) = ready(&self.machine, request)?;
         if request.len == 0 {
@@ -352,7 +352,7 @@ impl<A: Allocator + Copy + Send + Sync> System<A> {
     /// remain, and the node is online.
     pub fn offline<C: RunCrew<A>>(&mut self, crew: &C, node: NodeId) -> Result<(), CallError>
         ensures done { Does (λ done. Done) result self.old self.new (Offline node) }
-        ensures asked { Asks result (MayAllocate self.old.state (Offline node)) }
+        ensures allocates { Asks result (MayAllocate self.old.state (Offline node)) }
     {
         check_offline(&self.machine, node)?;
         if !self.machine.online().contains(node) {
@@ -381,7 +381,7 @@ impl<A: Allocator + Copy + Send + Sync> System<A> {
     pub fn query(&self, question: &Question<A>) -> Result<Vec<i32, A>, CallError>
         ensures done { Does (λ statuses. Statuses 0 statuses.items []) result self.now self.now
             (query_call question.now) }
-        ensures asked { Asks result (MayAllocate self.now.state (query_call question.now)) }
+        ensures allocates { Asks result (MayAllocate self.now.state (query_call question.now)) }
     {
         let Question {
             caller,
@@ -399,7 +399,7 @@ impl<A: Allocator + Copy + Send + Sync> System<A> {
         ensures sound { IsSound self.now.state }
         ensures moved { result.moved ≡ self.now.state.moved }
         ensures failed { result.failed ≡ self.now.state.failed }
-        ensures told { outcome self.now Vmstat
+        ensures answer { outcome self.now Vmstat
             ≡ record { answer = TheTotals result.moved result.failed; system = self.now } }
     {
         self.machine.totals()
@@ -415,7 +415,7 @@ impl<A: Allocator + Copy + Send + Sync> System<A> {
     pub fn numa_maps(&self, pid: Pid) -> Result<Vec<String<A>, A>, CallError>
         ensures done { Does (λ lines. Lines (lines_shown lines.items)) result self.now self.now
             (NumaMaps pid) }
-        ensures asked { Asks result (MayAllocate self.now.state (NumaMaps pid)) }
+        ensures allocates { Asks result (MayAllocate self.now.state (NumaMaps pid)) }
     {
         let spaces = self.machine.spaces();
         if spaces.info(pid).is_none() {
@@ -430,7 +430,7 @@ impl<A: Allocator + Copy + Send + Sync> System<A> {
     pub fn free_list(&self, node: NodeId) -> Result<Vec<FrameId, A>, CallError>
         ensures done { Does (λ frames. Frames frames.items) result self.now self.now
             (FreeList node) }
-        ensures asked { Asks result (MayAllocate self.now.state (FreeList node)) }
+        ensures allocates { Asks result (MayAllocate self.now.state (FreeList node)) }
     {
         Ok(self.machine.free_list(node)?)
     }
@@ -440,7 +440,7 @@ impl<A: Allocator + Copy + Send + Sync> System<A> {
     pub fn pagemap(&self, pid: Pid) -> Result<Vec<PagemapEntry, A>, CallError>
         ensures done { Does (λ mapped. Entries (entries_mapped mapped.items)) result self.now
             self.now (Pagemap pid) }
-        ensures asked { Asks result (MayAllocate self.now.state (Pagemap pid)) }
+        ensures allocates { Asks result (MayAllocate self.now.state (Pagemap pid)) }
     {
         let entries = entries_of(&self.machine, pid)?;
         Ok(mapped_of(self.alloc, entries.as_slice())?)
@@ -449,7 +449,7 @@ impl<A: Allocator + Copy + Send + Sync> System<A> {
     /// Whether each frame is in exactly one place: once in its own node's free list, or the frame of one page. True,
     /// since a system is always sound. An error means that the host is out of memory.
     pub fn audit(&self) -> Result<bool, AllocError>
-        ensures told { IfOk result (λ b. b ≡ each_frame_is_once self.now.state) }
+        ensures frames { IfOk result (λ b. b ≡ each_frame_is_once self.now.state) }
         ensures sound { IfOk result (λ b. b ≡ true) }
     {
         self.machine.audit()

@@ -87,7 +87,7 @@ fn cut_sent<A: Allocator + Copy>(
     requires { 0 < limit }
     ensures runs { IfOk result
         (λ runs. stretches_of runs.items ≡ cut_within limit (each_to pid all sent.now)) }
-    ensures asked { OnErr result (0 < length sent.now) }
+    ensures allocates { OnErr result (0 < length sent.now) }
 {
     let mut runs = Vec::new(alloc);
     let mut at = 0;
@@ -116,7 +116,7 @@ pub(crate) fn make_turns<A: Allocator + Copy + Send + Sync, C: RunCrew<A>>(
     requires nodes { AllByRecursion (λ page. page.to < node_count (machine.old.layout)) sent.now }
     ensures made { Batches result machine.old machine.new limit (each_to pid all sent.now)
         (λ statuses ran. statuses.items ≡ ran.statuses) }
-    ensures asked { OnErr result (0 < length sent.now) }
+    ensures allocates { OnErr result (0 < length sent.now) }
 {
     let runs = cut_sent(alloc, pid, all, sent, limit)?;
     make_runs(crew, alloc, machine, runs.as_slice(), sent.len())

@@ -26,5 +26,5 @@ pub trait Looks<A: Allocator + Copy, V: PageView> {
             ≡ map
             (class_shown geometry.now (V.seen_at view.now) (V.placed_at view.now) run.now.target)
             run.now.wanted.items) }
-        ensures asked { OnErr result (0 < length run.now.wanted.items) };
+        ensures allocates { OnErr result (0 < length run.now.wanted.items) };
 }

@@ -170,7 +170,7 @@ impl<A: Allocator + Copy + Send + Sync> Machine<A> {
             (write self.old pid addr bytes.now) }
         ensures memory { AsksLast result
             (result_err (touch self.old pid addr (length bytes.now) true)) }
-        ensures asked { result ≡ Err MachineError.HostMemory →
+        ensures allocates { result ≡ Err MachineError.HostMemory →
             (page : Page) →
             sight_at self.old pid (addr / 4096) ≡ Some (Sees page) →
             ⊥ }
@@ -224,12 +224,12 @@ impl<A: Allocator + Copy + Send + Sync> Machine<A> {
             × GoesByEvents self.old (asked_by requests.now accesses.now) x jobs.items (ran_by self.new flown)) }
 
         // Whatever order the events of such a run take
-        ensures orders { IfOk result
+        ensures ends { IfOk result
             (λ flown. EndsSo self.old (asked_by requests.now accesses.now) (ran_by self.new flown)) }
 
         // Without memory
         ensures err { OnErr result (self.new ≡ self.old) }
-        ensures asked { OnErr result (0 < length requests.now.wanted.items + length accesses.now) }
+        ensures allocates { OnErr result (0 < length requests.now.wanted.items + length accesses.now) }
     {
         // For `orders`: `events` speaks of one order, and this law of all.
         interleavings();
@@ -251,7 +251,7 @@ impl<A: Allocator + Copy + Send + Sync> Machine<A> {
         requires alike { HasOneAll requests.now.wanted.items }
         ensures plan { IfOk result
             (λ plan. IsPlanOf self.now requests.now.target requests.now.wanted.items plan) }
-        ensures asked { OnErr result (0 < length requests.now.wanted.items) }
+        ensures allocates { OnErr result (0 < length requests.now.wanted.items) }
     {
         let geometry = self.frames.geometry();
         prove!(geometry.node_count() <= 64);

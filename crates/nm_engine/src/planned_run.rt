@@ -45,8 +45,8 @@ where
     requires alike { HasOneAll planned.requests.now.wanted.items }
     requires target { planned.requests.now.target < node_count machine.layout }
     requires plan { IsPlanOf machine planned.requests.now.target planned.requests.now.wanted.items planned.plan }
-    requires unanswered { planned.answers.items ≡ [] }
-    requires space { length planned.accesses.now ≤ vec_capacity planned.answers }
+    requires empty { planned.answers.items ≡ [] }
+    requires room { length planned.accesses.now ≤ vec_capacity planned.answers }
 
     // On success
     ensures run { IfOk result.1
@@ -61,7 +61,7 @@ where
 
     // Without memory
     ensures err { OnErr result.1 (result.0 ≡ machine) }
-    ensures asked { OnErr result.1 (0 < length planned.entry.requests.now.wanted.items + length planned.entry.accesses.now) }
+    ensures allocates { OnErr result.1 (0 < length planned.entry.requests.now.wanted.items + length planned.entry.accesses.now) }
 {
     let PlannedRun {
         crew,

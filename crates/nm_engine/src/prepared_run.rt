@@ -104,7 +104,7 @@ impl<A: Allocator + Copy + Send + Sync> PreparedRun<A> {
         ensures tickets { (t : ℕ) (job : Job _) → slice_get result.1.items t ≡ Some job → job.ticket ≡ t }
 
         // What is left to do for accesses can be done meanwhile
-        ensures due { (d : Pending) →
+        ensures pending { (d : Pending) →
             IsPending (map (λ t. t.page) moves.now) self.state d →
             CanDo result.0.spaces.place result.0.frames.frames d }
     {

@@ -94,7 +94,7 @@ impl ResolvedAddress {
 
         // Without memory
         ensures memory { TouchesLast result self spaces.old frames.old online (touched_by self writes) }
-        ensures asked { OnErr result
+        ensures allocates { OnErr result
             ((page : Page) → seen_by spaces.old self ≡ Some (Sees page) → ⊥) }
         ensures zero { OnErr result
             (writes ≡ false → seen_by spaces.old self ≡ Some ZeroPage → ⊥) }
@@ -180,7 +180,7 @@ impl ResolvedAddress {
     ) -> Result<FrameId, MachineError>
         requires touched { HasSite spaces.old.processes spaces.old.areas self }
         requires kept { AreKept spaces.old frames.old online }
-        requires unplaced { get page_cmp spaces.old.place self.page ≡ None }
+        requires absent { get page_cmp spaces.old.place self.page ≡ None }
         requires unseen { (page : Page) → seen_by spaces.old self ≡ Some (Sees page) → ⊥ }
 
         // In any case

@@ -36,7 +36,7 @@ impl<A: Allocator + Copy> FrameStore<A> {
     /// is out of memory; a store of no frames takes none.
     pub fn new(alloc: A, frames: usize) -> Result<Self, AllocError>
         ensures ok { IfOk result (λ store. store ≡ frames_of_zeros frames true) }
-        ensures asked { OnErr result (0 < frames) }
+        ensures allocates { OnErr result (0 < frames) }
     {
         let mut slots = Vec::with_capacity(alloc, frames)?;
         for _ in 0..frames {
@@ -50,7 +50,7 @@ impl<A: Allocator + Copy> FrameStore<A> {
     /// host is out of memory; a store of no frames takes none.
     pub fn without_buffers(alloc: A, frames: usize) -> Result<Self, AllocError>
         ensures ok { IfOk result (λ store. store ≡ frames_of_zeros frames false) }
-        ensures asked { OnErr result (0 < frames) }
+        ensures allocates { OnErr result (0 < frames) }
     {
         let mut unused = Vec::with_capacity(alloc, frames)?;
         for _ in 0..frames {

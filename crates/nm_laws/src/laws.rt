@@ -8,12 +8,12 @@ ghost use Rattle.nm_model.specs.examples.BeforeCopy.{PagesAreReadyFirst};
 /// No move changes a byte that a process reads: neither a single move nor a batch. Nor does a read or a policy. Where
 /// accesses are made while pages move, each byte is that of the last write made there, or else the same as before.
 pub fn mem_stays()
-    ensures decided { DecidingKeepsMemory }
-    ensures freed { FreeingKeepsMemory }
+    ensures deciding { DecidingKeepsMemory }
+    ensures freeing { FreeingKeepsMemory }
     ensures batches { BatchKeepsMemory }
     ensures runs { RunKeepsMemory }
-    ensures together { RunsKeepMemory }
-    ensures read { ReadingKeepsMemory }
+    ensures run { RunsKeepMemory }
+    ensures reading { ReadingKeepsMemory }
     ensures policies { PolicyKeepsMemory }
 {}
 
@@ -25,7 +25,7 @@ pub fn writes_are_exact()
 /// A look at a page number of a process, which counts the processes that see the page, is enough to decide what to do
 /// with a request. The count is at most the number of processes that can be alive.
 pub fn looks_suffice()
-    ensures told { LooksSuffice }
+    ensures looks { LooksSuffice }
     ensures bounded { LooksAreBounded }
 {}
 

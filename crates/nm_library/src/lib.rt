@@ -70,7 +70,7 @@ pub extern "C" fn numatrace_step(
 ) -> i32
     ensures made { OfSession (MakesSteps step.now lines.old lines.new needed.old needed.new) result
         session.old.value session.new.value }
-    ensures untold { session.old.value ≡ None →
+    ensures unchanged { session.old.value ≡ None →
         (lines.new ≡ lines.old) × (needed.new ≡ needed.old) }
 {
     let Some(mut kept) = session.take(alloc) else {
@@ -89,10 +89,10 @@ pub extern "C" fn numatrace_lines(
     lines: &mut [u8],
     needed: &mut usize,
 ) -> i32
-    ensures told { OfSession (λ status old new. (new ≡ old)
+    ensures status { OfSession (λ status old new. (new ≡ old)
         × FillsRoom old.lines.items status lines.old lines.new needed.new) result
         session.old.value session.new.value }
-    ensures untold { session.old.value ≡ None →
+    ensures unchanged { session.old.value ≡ None →
         (lines.new ≡ lines.old) × (needed.new ≡ needed.old) }
 {
     let Some(kept) = session.take(alloc) else {

@@ -49,9 +49,9 @@ pub extern "C" fn numatrace_free_list(
     frames: &mut [u16],
     needed: &mut usize,
 ) -> i32
-    ensures told { OfSession (LooksOnly (ListsFree node frames.old frames.new needed.old needed.new)) result
+    ensures status { OfSession (LooksOnly (ListsFree node frames.old frames.new needed.old needed.new)) result
         session.old.value session.new.value }
-    ensures untold { session.old.value ≡ None →
+    ensures unchanged { session.old.value ≡ None →
         (frames.new ≡ frames.old) × (needed.new ≡ needed.old) }
 {
     let Some(kept) = session.take(alloc) else {
@@ -97,9 +97,9 @@ pub extern "C" fn numatrace_pagemap(
     entries: &mut [Entry],
     needed: &mut usize,
 ) -> i32
-    ensures told { OfSession (LooksOnly (ListsEntries pid entries.old entries.new needed.old needed.new)) result
+    ensures status { OfSession (LooksOnly (ListsEntries pid entries.old entries.new needed.old needed.new)) result
         session.old.value session.new.value }
-    ensures untold { session.old.value ≡ None →
+    ensures unchanged { session.old.value ≡ None →
         (entries.new ≡ entries.old) × (needed.new ≡ needed.old) }
 {
     let Some(kept) = session.take(alloc) else {
@@ -146,9 +146,9 @@ pub extern "C" fn numatrace_numa_maps(
     text: &mut [u8],
     needed: &mut usize,
 ) -> i32
-    ensures told { OfSession (LooksOnly (ListsAreas pid text.old text.new needed.old needed.new)) result
+    ensures status { OfSession (LooksOnly (ListsAreas pid text.old text.new needed.old needed.new)) result
         session.old.value session.new.value }
-    ensures untold { session.old.value ≡ None →
+    ensures unchanged { session.old.value ≡ None →
         (text.new ≡ text.old) × (needed.new ≡ needed.old) }
 {
     let Some(kept) = session.take(alloc) else {
@@ -167,9 +167,9 @@ pub extern "C" fn numatrace_vmstat(
     moved: &mut u64,
     failed: &mut u64,
 ) -> i32
-    ensures told { OfSession (LooksOnly (Totals moved.new failed.new)) result
+    ensures status { OfSession (LooksOnly (Totals moved.new failed.new)) result
         session.old.value session.new.value }
-    ensures untold { session.old.value ≡ None →
+    ensures unchanged { session.old.value ≡ None →
         (moved.new ≡ moved.old) × (failed.new ≡ failed.old) }
 {
     let Some(kept) = session.take(alloc) else {

@@ -36,7 +36,7 @@ pub extern "C" fn numatrace_read(
 ) -> i32
     ensures made { OfSession (Reads pid addr room.old room.new) result
         session.old.value session.new.value }
-    ensures untold { result ≡ pos 1 → room.new ≡ room.old }
+    ensures unchanged { result ≡ pos 1 → room.new ≡ room.old }
 {
     let Some(mut kept) = session.take(alloc) else {
         return status::BAD_ARGUMENT;

@@ -131,7 +131,7 @@ pub extern "C" fn numatrace_move_pages(
         (result ≡ pos 1) × (session.new.value ≡ session.old.value) }
     ensures statuses { length pages.now ≢ length statuses.old →
         (result ≡ pos 1) × (session.new.value ≡ session.old.value) }
-    ensures untold { result ≡ pos 1 → (statuses.new ≡ statuses.old) × (failed.new ≡ failed.old) }
+    ensures unchanged { result ≡ pos 1 → (statuses.new ≡ statuses.old) × (failed.new ≡ failed.old) }
 {
     if pages.len() != nodes.len() || pages.len() != statuses.len() {
         return status::BAD_ARGUMENT;
@@ -182,7 +182,7 @@ pub extern "C" fn numatrace_query(
         session.old.value session.new.value }
     ensures statuses { length pages.now ≢ length statuses.old →
         (result ≡ pos 1) × (session.new.value ≡ session.old.value) }
-    ensures untold { result ≡ pos 1 → statuses.new ≡ statuses.old }
+    ensures unchanged { result ≡ pos 1 → statuses.new ≡ statuses.old }
 {
     if pages.len() != statuses.len() {
         return status::BAD_ARGUMENT;
@@ -225,7 +225,7 @@ pub extern "C" fn numatrace_migrate_pages(
     ensures made { OfSession (Migrates (MigratePages caller pid (members old_nodes) (members new_nodes))
         failed.old failed.new) result
         session.old.value session.new.value }
-    ensures untold { result ≡ pos 1 → failed.new ≡ failed.old }
+    ensures unchanged { result ≡ pos 1 → failed.new ≡ failed.old }
 {
     let Some(mut kept) = session.take(alloc) else {
         return status::BAD_ARGUMENT;

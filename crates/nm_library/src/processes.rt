@@ -73,7 +73,7 @@ pub extern "C" fn numatrace_map(
 ) -> i32
     ensures made { OfSession (Maps (MapPages pid addr pages shared) segment.old segment.new) result
         session.old.value session.new.value }
-    ensures untold { result ≡ pos 1 → segment.new ≡ segment.old }
+    ensures unchanged { result ≡ pos 1 → segment.new ≡ segment.old }
 {
     let Some(mut kept) = session.take(alloc) else {
         return status::BAD_ARGUMENT;

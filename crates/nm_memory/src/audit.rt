@@ -63,7 +63,7 @@ fn all_of<A: Allocator + Copy>(
     placed: &[FrameId],
 ) -> Result<Vec<FrameId, A>, AllocError>
     ensures items { IfOk result (λ v. v.items ≡ map (λ f. f.1) free.now ++ placed.now) }
-    ensures asked { OnErr result (0 < length free.now + length placed.now) }
+    ensures allocates { OnErr result (0 < length free.now + length placed.now) }
 {
     let mut frames = Vec::new(alloc);
     for (_, frame) in free {
@@ -105,7 +105,7 @@ fn push_list<A: Allocator + Copy>(
     requires { node < length nodes.now.lists }
     ensures items { OnOk result
         (free.new.items ≡ free.old.items ++ map (λ frame. (node, frame)) (list_of nodes.now node)) }
-    ensures asked { OnErr result (0 < length (list_of nodes.now node)) }
+    ensures allocates { OnErr result (0 < length (list_of nodes.now node)) }
 {
     for k in 0..nodes.free_count(node) {
         let Some(frame) = nodes.nth(node, k) else {

@@ -81,7 +81,7 @@ impl<A: Allocator + Copy> Frames<A> {
         ensures layout { IfOk result (λ s. s.layout ≡ geometry) }
         ensures free { IfOk result (λ s. s.free ≡ all_frames 0 geometry.sizes) }
         ensures vacated { IfOk result (λ s. s.vacated ≡ []) }
-        ensures shelf { IfOk result (λ s. HasAllFrames s) }
+        ensures whole { IfOk result (λ s. HasAllFrames s) }
     {
         let frames = FrameStore::without_buffers(alloc, geometry.frame_count())?;
         let nodes = NodePool::new(alloc, &geometry)?;
@@ -155,7 +155,7 @@ impl<A: Allocator + Copy> Frames<A> {
     pub fn free_list(&self, alloc: A, node: NodeId) -> Result<Vec<FrameId, A>, AllocError>
         requires { node < node_count self.now.layout }
         ensures frames { IfOk result (λ frames. frames.items ≡ free_on self.now node) }
-        ensures asked { OnErr result (0 < length (free_on self.now node)) }
+        ensures allocates { OnErr result (0 < length (free_on self.now node)) }
     {
         let parts = &*self.parts;
         front_of(alloc, &parts.nodes, node, parts.nodes.free_count(node))
@@ -172,7 +172,7 @@ impl<A: Allocator + Copy> Frames<A> {
         requires { node < node_count self.now.layout }
         ensures front { IfOk result
             (λ frames. cow_slice_items frames ≡ take count (free_on self.now node)) }
-        ensures asked { OnErr result (1 < min count (length (free_on self.now node))) }
+        ensures allocates { OnErr result (1 < min count (length (free_on self.now node))) }
     {
         let parts = &*self.parts;
         let count = count.min(parts.nodes.free_count(node));
@@ -183,7 +183,7 @@ impl<A: Allocator + Copy> Frames<A> {
     pub fn front(&self, node: NodeId) -> Option<FrameId>
         requires { node < node_count self.now.layout }
         ensures front { result ≡ slice_get (free_on self.now node) 0 }
-        ensures shelf { HasAllFrames self.now }
+        ensures whole { HasAllFrames self.now }
     {
         let parts = &*self.parts;
         parts.nodes.nth(node, 0)
@@ -198,7 +198,7 @@ impl<A: Allocator + Copy> Frames<A> {
               free = slice_set self.old.free node
                   (drop 1 (free_on self.old node));
             } }
-        ensures shelf { HasAllFrames self.old }
+        ensures whole { HasAllFrames self.old }
     {
         let parts = &mut *self.parts;
         parts.nodes.take_front(node)
@@ -224,7 +224,7 @@ impl<A: Allocator + Copy> Frames<A> {
         ensures same { self.new ≡ record (self.old) { frames = self.new.frames } }
         ensures populated { OnOk result (IsPopulated self.new.frames frame) }
         ensures absent { OnErr result (IsPopulated self.old.frames frame → ⊥) }
-        ensures shelf { HasAllFrames self.new }
+        ensures whole { HasAllFrames self.new }
     {
         let parts = &mut *self.parts;
         populate(&mut parts.frames, alloc, frame)
@@ -238,10 +238,10 @@ impl<A: Allocator + Copy> Frames<A> {
         ensures same { self.new ≡ record (self.old) { frames = self.new.frames } }
         ensures populated { OnOk result
             (AllByRecursion (IsPopulated self.new.frames) (frames_taken moves.now)) }
-        ensures asked { OnErr result (0 < length moves.now) }
+        ensures allocates { OnErr result (0 < length moves.now) }
         ensures absent { OnErr result
             (AllByRecursion (IsPopulated self.old.frames) (frames_taken moves.now) → ⊥) }
-        ensures shelf { HasAllFrames self.new }
+        ensures whole { HasAllFrames self.new }
     {
         let parts = &mut *self.parts;
         populate_each(&mut parts.frames, alloc, moves)
@@ -257,7 +257,7 @@ impl<A: Allocator + Copy> Frames<A> {
               frames = slice_set self.old.frames frame
                   (Some (overwrite (bytes_of self.old.frames frame) at bytes.now));
             } }
-        ensures shelf { HasAllFrames self.old }
+        ensures whole { HasAllFrames self.old }
     {
         let parts = &mut *self.parts;
         parts.frames.write(frame, at, bytes);
@@ -281,7 +281,7 @@ impl<A: Allocator + Copy> Frames<A> {
     pub fn reserve(&mut self, count: usize) -> Result<(), AllocError>
         ensures room { OnOk result (length self.new.vacated + count ≤ self.new.room) }
         ensures same { self.new ≡ record (self.old) { room = self.new.room } }
-        ensures asked { OnErr result (0 < length self.old.vacated + count) }
+        ensures allocates { OnErr result (0 < length self.old.vacated + count) }
         ensures full { OnErr result (self.old.room < length self.old.vacated + count) }
     {
         let parts = &mut *self.parts;
@@ -301,7 +301,7 @@ impl<A: Allocator + Copy> Frames<A> {
               free = slice_set self.old.free node (drop count (free_on self.old node));
               vacated = self.old.vacated ++ take count (free_on self.old node);
             } }
-        ensures shelf { HasAllFrames self.old }
+        ensures whole { HasAllFrames self.old }
     {
         let parts = &mut *self.parts;
         parts.nodes.take_many(node, count, &mut parts.vacated);
@@ -317,7 +317,7 @@ impl<A: Allocator + Copy> Frames<A> {
                   (frames_taken moves.now ++ free_on self.old node);
               vacated = [];
             } }
-        ensures shelf { HasAllFrames self.old }
+        ensures whole { HasAllFrames self.old }
     {
         let parts = &mut *self.parts;
         parts.vacated.clear();
@@ -330,7 +330,7 @@ impl<A: Allocator + Copy> Frames<A> {
         requires populated { AllByRecursion (IsPopulated self.old.frames) (frames_left moves.now) }
         ensures vacated { self.new ≡ record (self.old) { vacated = frames_left moves.now } }
         ensures populated { AllByRecursion (IsPopulated self.old.frames) self.old.vacated }
-        ensures shelf { HasAllFrames self.old }
+        ensures whole { HasAllFrames self.old }
     {
         let parts = &mut *self.parts;
         parts.vacated.clear();
@@ -397,7 +397,7 @@ impl<A: Allocator + Copy> Frames<A> {
         ensures room { self.room ≡ min result.0.room (vec_capacity result.1) }
 
         // Before
-        ensures shelf { HasAllFrames self }
+        ensures whole { HasAllFrames self }
         ensures vacated { AllByRecursion (IsPopulated self.frames) self.vacated }
     {
         let Frames {
@@ -458,7 +458,7 @@ fn populate_each<A: Allocator + Copy>(
     requires home { (f : ℕ) → f < length (in_memory frames.old) → IsHome (in_memory frames.old) f }
     ensures kept { KeepsBytes (in_memory frames.old) (in_memory frames.new) }
     ensures populated { OnOk result (AllByRecursion (IsPopulated (in_memory frames.new)) (frames_taken moves.now)) }
-    ensures asked { OnErr result (0 < length moves.now) }
+    ensures allocates { OnErr result (0 < length moves.now) }
     ensures absent { OnErr result
         (AllByRecursion (IsPopulated (in_memory frames.old)) (frames_taken moves.now) → ⊥) }
 {
@@ -514,7 +514,7 @@ fn front_in_place<'a, A: Allocator + Copy>(
     requires count { count ≤ length (list_of nodes.now node) }
     ensures frames { IfOk result
         (λ frames. cow_slice_items frames ≡ take count (list_of nodes.now node)) }
-    ensures asked { OnErr result (1 < count) }
+    ensures allocates { OnErr result (1 < count) }
 {
     let (piece, _) = nodes.as_slices(node);
     if count <= piece.len() {
@@ -534,7 +534,7 @@ fn front_of<A: Allocator + Copy>(
     requires node { node < length nodes.now.lists }
     requires count { count ≤ length (list_of nodes.now node) }
     ensures frames { IfOk result (λ frames. frames.items ≡ take count (list_of nodes.now node)) }
-    ensures asked { OnErr result (0 < count) }
+    ensures allocates { OnErr result (0 < count) }
 {
     let mut frames = Vec::with_capacity(alloc, count)?;
     for k in 0..count {

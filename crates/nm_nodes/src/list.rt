@@ -35,7 +35,7 @@ impl<A: Allocator + Copy> FreeList<A> {
     pub fn upwards(alloc: A, first: u32, size: u32) -> Result<Self, AllocError>
         requires { first + size ≤ 2 ^ 16 }
         ensures ok { IfOk result (λ l. l ≡ (size, up_from first size)) }
-        ensures asked { OnErr result (0 < size) }
+        ensures allocates { OnErr result (0 < size) }
     {
         let mut frames = VecDeque::with_capacity(alloc, size as usize)?;
         for number in first..first + size {

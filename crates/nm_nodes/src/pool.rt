@@ -99,7 +99,7 @@ impl<A: Allocator + Copy> NodePool<A> {
 
     /// Puts a frame of the machine that is not free at the end of its own node's list. Does not allocate.
     pub fn append(&mut self, frame: FrameId)
-        requires in_machine { frame < sum self.old.sizes }
+        requires frame { frame < sum self.old.sizes }
         requires taken { is_in (list_of self.old (owner self.old.sizes frame)) frame ≡ false }
         ensures { self.new ≡ with_back self.old frame }
     {
@@ -109,7 +109,7 @@ impl<A: Allocator + Copy> NodePool<A> {
 
     /// Puts a frame of the machine that is not free at the front of its own node's list. Does not allocate.
     pub fn prepend(&mut self, frame: FrameId)
-        requires in_machine { frame < sum self.old.sizes }
+        requires frame { frame < sum self.old.sizes }
         requires taken { is_in (list_of self.old (owner self.old.sizes frame)) frame ≡ false }
         ensures { self.new ≡ with_front self.old frame }
     {

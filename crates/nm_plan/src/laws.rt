@@ -22,7 +22,7 @@ pub fn statuses_go_by_page()
     ensures status { (classes : List Class) (front : List ℕ) (target : ℕ) →
         (decide classes [] front target).statuses
         ≡ map (status_by (lucky classes front) target) classes }
-    ensures repeats { (classes : List Class) (front : List ℕ) (target i j : ℕ) (page : Page)
+    ensures classes { (classes : List Class) (front : List ℕ) (target i j : ℕ) (page : Page)
         (from other : ℕ) →
         slice_get classes i ≡ Some (Move page from) →
         slice_get classes j ≡ Some (Move page other) →

@@ -45,7 +45,7 @@ fn choose<A: Allocator + Copy>(
     ensures capacity { OnOk result (vec_capacity moves.new ≡ vec_capacity moves.old) }
 
     // Without memory
-    ensures asked { OnErr result (8 ≤ length moves.old.items) }
+    ensures allocates { OnErr result (8 ≤ length moves.old.items) }
     ensures moving { OnErr result
         (0
         < length
@@ -105,7 +105,7 @@ pub fn plan<A: Allocator + Copy>(
 ) -> Result<Plan<A>, AllocError>
     requires { target < 2 ^ 31 }
     ensures plan { IfOk result (λ plan. plan ≡ plan_run classes.now free_front.now target) }
-    ensures asked { OnErr result (0 < length classes.now) }
+    ensures allocates { OnErr result (0 < length classes.now) }
 {
     let mut moves = Vec::with_capacity(alloc, classes.len())?;
     let mut statuses = Vec::with_capacity(alloc, classes.len())?;

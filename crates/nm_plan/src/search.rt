@@ -23,7 +23,7 @@ fn is_among(moves: &[PageMove], page: Page) -> bool
 /// Whether a page comes after that of the last of these moves, or there are none.
 fn is_past(moves: &[PageMove], page: Page) -> bool
     ensures past { OnTrue result (IsPast moves.now page) }
-    ensures otherwise { OnFalse result (IsPast moves.now page → ⊥) }
+    ensures no { OnFalse result (IsPast moves.now page → ⊥) }
 {
     moves.last().is_none_or(|last| last.page.cmp(&page).is_lt())
 }
@@ -78,9 +78,9 @@ impl<A: Allocator + Copy> Search<A> {
     /// none is asked for.
     pub(crate) fn add(&mut self, moves: &[PageMove], page: Page) -> Result<(), AllocError>
         requires { Finds self.old moves.now }
-        ensures noted { OnOk result
+        ensures finds { OnOk result
             ((taken : PageMove) → taken.page ≡ page → Finds self.new (moves.now ++ taken ∷ [])) }
-        ensures asked { OnErr result (8 ≤ length moves.now) }
+        ensures allocates { OnErr result (8 ≤ length moves.now) }
     {
         let behind = moves.len() - self.ascending;
         if behind == 0 && is_past(moves, page) {

@@ -57,7 +57,7 @@ pub fn first_touch_order<A: Allocator + Copy>(
 ) -> Result<Vec<NodeId, A>, AllocError>
     ensures order { IfOk result
         (λ order. order.items ≡ first_touch_order geometry.now online home allowed policy index) }
-    ensures asked { OnErr result (0 < length online) }
+    ensures allocates { OnErr result (0 < length online) }
 {
     let (from, kept) = way(home, allowed, policy, index);
     let mut order = zonelist(alloc, geometry, online, from)?;

@@ -30,7 +30,7 @@ fn moving<A: Allocator + Copy>(
     new: NodeMask,
 ) -> Result<Vec<Pair, A>, AllocError>
     ensures value { IfOk result (λ found. found.items ≡ pairs_that_move old new) }
-    ensures asked { OnErr result (0 < length old) }
+    ensures allocates { OnErr result (0 < length old) }
 {
     let mut pairs = Vec::with_capacity(alloc, old.len())?;
     if new.is_empty() {
@@ -75,7 +75,7 @@ pub fn pairs<A: Allocator + Copy>(
 ) -> Result<Vec<Pair, A>, AllocError>
     ensures value { IfOk result (λ found. found.items ≡ pairs old new) }
     ensures order { OnOk result (PairsAreInOrder old new) }
-    ensures asked { OnErr result (0 < length old) }
+    ensures allocates { OnErr result (0 < length old) }
 {
     let mut left = moving(alloc, old, new)?;
     let mut pairs = Vec::with_capacity(alloc, old.len())?;

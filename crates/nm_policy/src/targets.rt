@@ -18,7 +18,7 @@ pub struct Destination {
 /// The nodes of a set, in ascending order. An error means that the host is out of memory; an empty set takes none.
 fn nodes_of<A: Allocator + Copy>(alloc: A, set: NodeMask) -> Result<Vec<NodeId, A>, AllocError>
     ensures nodes { IfOk result (λ nodes. nodes.items ≡ set) }
-    ensures asked { OnErr result (0 < length set) }
+    ensures allocates { OnErr result (0 < length set) }
 {
     let mut nodes = Vec::with_capacity(alloc, set.len())?;
     let mut rest = set;
@@ -37,7 +37,7 @@ fn pages_with_turns<A: Allocator + Copy>(
 ) -> Result<Vec<Destination, A>, AllocError>
     requires { 0 < length nodes.now }
     ensures dealt { IfOk result (λ dealt. dealt.items ≡ map (with_turn nodes.now) pages.now) }
-    ensures asked { OnErr result (0 < length pages.now) }
+    ensures allocates { OnErr result (0 < length pages.now) }
 {
     let count = nodes.len() as u64;
     let mut dealt = Vec::with_capacity(alloc, pages.len())?;
@@ -59,7 +59,7 @@ fn append_for<A: Allocator + Copy>(
     targets: &mut Vec<Destination, A>,
 ) -> Result<(), AllocError>
     ensures ok { OnOk result (targets.new.items ≡ targets.old.items ++ sent_to dealt.now node) }
-    ensures asked { OnErr result (0 < length dealt.now) }
+    ensures allocates { OnErr result (0 < length dealt.now) }
     ensures some { OnErr result (0 < length (sent_to dealt.now node)) }
 {
     for sent in dealt {
@@ -81,7 +81,7 @@ pub fn mbind_targets<A: Allocator + Copy>(
     pages: &[LocatedPage],
 ) -> Result<Vec<Destination, A>, AllocError>
     ensures targets { IfOk result (λ targets. targets.items ≡ by_turns nodes pages.now) }
-    ensures asked { OnErr result ((0 < length nodes) × (0 < length pages.now)) }
+    ensures allocates { OnErr result ((0 < length nodes) × (0 < length pages.now)) }
 {
     if nodes.is_empty() || pages.is_empty() {
         return Ok(Vec::new(alloc));

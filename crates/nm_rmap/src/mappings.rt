@@ -61,7 +61,7 @@ impl<A: Allocator + Copy> Mappings<A> {
 
     /// Removes a page number of a process, if it is there.
     pub(crate) fn remove(&mut self, pid: Pid, vpn: Vpn)
-        ensures without_mapper { self.new ≡ without_spot self.old (pid, vpn) }
+        ensures mapper { self.new ≡ without_spot self.old (pid, vpn) }
         ensures ordered { IsStrictlySortedBy spot_cmp self.old }
     {
         let there = self.tree.remove(&(pid, vpn));
@@ -74,7 +74,7 @@ impl<A: Allocator + Copy> Mappings<A> {
     /// A list of them, in order. An error means that the host is out of memory; an empty list takes none.
     pub(crate) fn list(&self, alloc: A) -> Result<Vec<(Pid, Vpn), A>, AllocError>
         ensures all { IfOk result (λ mappings. mappings.items ≡ self.now) }
-        ensures asked { OnErr result (0 < length self.now) }
+        ensures allocates { OnErr result (0 < length self.now) }
         ensures ordered { IsStrictlySortedBy spot_cmp self.now }
     {
         list_all(alloc, &self.tree)
@@ -112,7 +112,7 @@ fn list_all<A: Allocator + Copy>(
     tree: &BTreeSet<(Pid, Vpn), A>,
 ) -> Result<Vec<(Pid, Vpn), A>, AllocError>
     ensures all { IfOk result (λ spots. spots.items ≡ tree.now.keys) }
-    ensures asked { OnErr result (0 < length tree.now.keys) }
+    ensures allocates { OnErr result (0 < length tree.now.keys) }
 {
     let mut spots = Vec::with_capacity(alloc, tree.len())?;
     for spot in tree.iter() {

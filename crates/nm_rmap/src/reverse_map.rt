@@ -40,7 +40,7 @@ impl<A: Allocator + Copy> ReverseMap<A> {
     /// no frames takes none.
     pub fn new(alloc: A, frames: usize) -> Result<Self, AllocError>
         ensures ok { IfOk result (λ map. map ≡ new_map frames) }
-        ensures asked { OnErr result (0 < frames) }
+        ensures allocates { OnErr result (0 < frames) }
     {
         let mut mappings = Vec::with_capacity(alloc, frames)?;
         let mut pins = Vec::with_capacity(alloc, frames)?;
@@ -70,7 +70,7 @@ impl<A: Allocator + Copy> ReverseMap<A> {
     /// Removes a page number of a process from a frame's mappers, if it is one. Does not allocate.
     pub fn drop_one(&mut self, frame: FrameId, pid: Pid, vpn: Vpn)
         requires { frame < length self.old.mappings }
-        ensures dropped { self.new ≡ without_mapper self.old frame (pid, vpn) }
+        ensures mapper { self.new ≡ without_mapper self.old frame (pid, vpn) }
         ensures ordered { IsStrictlySortedBy spot_cmp (mappers_of self.old frame) }
     {
         self.mappings[frame.index()].remove(pid, vpn);
@@ -81,7 +81,7 @@ impl<A: Allocator + Copy> ReverseMap<A> {
     pub fn mappers(&self, frame: FrameId) -> Result<Vec<(Pid, Vpn), A>, AllocError>
         requires { frame < length self.now.mappings }
         ensures all { IfOk result (λ mappings. mappings.items ≡ mappers_of self.now frame) }
-        ensures asked { OnErr result (0 < length (mappers_of self.now frame)) }
+        ensures allocates { OnErr result (0 < length (mappers_of self.now frame)) }
         ensures ordered { IsStrictlySortedBy spot_cmp (mappers_of self.now frame) }
     {
         self.mappings[frame.index()].list(self.alloc)
@@ -107,8 +107,8 @@ impl<A: Allocator + Copy> ReverseMap<A> {
     /// Moves the mappers and pins of one frame to another, which must have neither. Does not allocate. A frame without
     /// them that is carried to itself stays as it is.
     pub fn carry(&mut self, from: FrameId, to: FrameId)
-        requires from_in_range { from < length self.old.mappings }
-        requires to_in_range { to < length self.old.mappings }
+        requires from { from < length self.old.mappings }
+        requires to { to < length self.old.mappings }
         requires unused { IsUnused self.old to }
         ensures { self.new ≡ carry self.old from to }
     {
@@ -170,7 +170,7 @@ impl<A: Allocator + Copy> ReverseMap<A> {
     pub fn pins(&self, frame: FrameId) -> u32
         requires { frame < length self.now.mappings }
         ensures pins { result ≡ frame_pins self.now frame }
-        ensures as_many { length self.now.pins ≡ length self.now.mappings }
+        ensures count { length self.now.pins ≡ length self.now.mappings }
     {
         self.pins[frame.index()]
     }

@@ -143,7 +143,7 @@ pub fn classes_of<A: Allocator + Copy, V: PageView>(
         ≡ map
         (class_shown geometry.now (V.seen_at view.now) (V.placed_at view.now) target)
         wanted.now) }
-    ensures asked { OnErr result (0 < length wanted.now) }
+    ensures allocates { OnErr result (0 < length wanted.now) }
 {
     let mut classes = Vec::with_capacity(alloc, wanted.len())?;
     let mut last = None;

@@ -66,7 +66,7 @@ pub fn cut<A: Allocator + Copy>(
 ) -> Result<Vec<Run<A>, A>, AllocError>
     requires { 0 < limit }
     ensures runs { IfOk result (λ runs. stretches_of runs.items ≡ cut_within limit requests.now) }
-    ensures asked { OnErr result (0 < length requests.now) }
+    ensures allocates { OnErr result (0 < length requests.now) }
 {
     let mut runs = Vec::new(alloc);
     let mut at = 0;
@@ -167,7 +167,7 @@ pub fn cut_pages<A: Allocator + Copy>(
     requires some { 0 < limit }
     ensures runs { IfOk result
         (λ runs. stretches_of runs.items ≡ cut_within limit (requests_of pid all pages.now nodes.now)) }
-    ensures asked { OnErr result (0 < length nodes.now) }
+    ensures allocates { OnErr result (0 < length nodes.now) }
 {
     let mut cut = Vec::new(alloc);
     let mut done = 0;

@@ -32,7 +32,7 @@ pub fn classify<R: Threads + Sync, A: Allocator + Copy + Send + Sync, V: PageVie
         ≡ map
         (class_shown geometry.now (V.seen_at view.now) (V.placed_at view.now) run.now.target)
         run.now.wanted.items) }
-    ensures asked { OnErr result (0 < length run.now.wanted.items) }
+    ensures allocates { OnErr result (0 < length run.now.wanted.items) }
 {
     let wanted = run.wanted.as_slice();
     let pieces = (wanted.len() / PIECE).min(workers);

@@ -139,7 +139,7 @@ impl<A: Allocator + Copy> AddressSpaces<A> {
             (λ (p : Process). with_values (λ v sight. entry_of self.now.place sight) p.sees)
             (get nat_cmp self.now.processes pid)) }
         ensures memory { OnErr result (IsSome (get nat_cmp self.now.processes pid)) }
-        ensures asked { OnErr result
+        ensures allocates { OnErr result
             ((p : Process) → get nat_cmp self.now.processes pid ≡ Some p → 0 < length p.sees) }
     {
         let parts = &*self.parts;
@@ -240,7 +240,7 @@ impl<A: Allocator + Copy> AddressSpaces<A> {
             sight_in (get nat_cmp self.old.processes pid) vpn ≡ Some (Sees q) →
             ⊥ }
         requires shown { page_at self.old.areas pid vpn ≡ Some page }
-        requires unplaced { get page_cmp self.old.place page ≡ None }
+        requires absent { get page_cmp self.old.place page ≡ None }
         requires frame { frame < self.old.frames }
         requires spare { (q : Page) → get page_cmp self.old.place q ≡ Some frame → ⊥ }
 

@@ -83,7 +83,7 @@ impl<A: Allocator + Copy> ProcessTable<A> {
             (λ all. option_map (λ entries. entries.items) all
             ≡ option_map task_table (get nat_cmp self.now pid)) }
         ensures memory { OnErr result (IsSome (get nat_cmp self.now pid)) }
-        ensures asked { OnErr result (0 < length (entries_in self.now pid)) }
+        ensures allocates { OnErr result (0 < length (entries_in self.now pid)) }
     {
         match task_of(&self.tasks, self.next, pid) {
             Some(task) => Ok(Some(task.table.entries()?)),
@@ -110,7 +110,7 @@ impl<A: Allocator + Copy> ProcessTable<A> {
     ) -> Result<Vec<(Vpn, Entry), A>, AllocError>
         ensures entries { IfOk result
             (λ entries. entries.items ≡ between first end (entries_in self.now pid)) }
-        ensures asked { OnErr result (0 < length (between first end (entries_in self.now pid))) }
+        ensures allocates { OnErr result (0 < length (between first end (entries_in self.now pid))) }
     {
         let mut entries = Vec::new(self.alloc);
         let Some(task) = task_of(&self.tasks, self.next, pid) else {

@@ -73,7 +73,7 @@ fn numbers_of<A: Allocator + Copy, V: JsonValue>(
 ) -> Result<Vec<u64, A>, StepError>
     ensures value { GivesStep (λ v. v.items) result
         (form.each form.u64_of (items_seen V.as_data values.now)) }
-    ensures asked { result ≡ Err Memory → 0 < length values.now }
+    ensures allocates { result ≡ Err Memory → 0 < length values.now }
     ensures first { result ≡ Err Memory →
         starts form.u64_of (items_seen V.as_data values.now) ≡ true }
 {
@@ -92,7 +92,7 @@ pub(crate) fn numbers<A: Allocator + Copy, V: JsonValue>(
     key: &str,
 ) -> Result<Vec<u64, A>, StepError>
     ensures value { GivesStep (λ v. v.items) result (form.numbers_at key.now (V.as_data value.now)) }
-    ensures asked { result ≡ Err Memory →
+    ensures allocates { result ≡ Err Memory →
         has_items (form.items_at key.now (V.as_data value.now)) ≡ true }
     ensures first { result ≡ Err Memory →
         starts_at form.u64_of (form.items_at key.now (V.as_data value.now)) ≡ true }
@@ -115,7 +115,7 @@ fn smalls_of<A: Allocator + Copy, V: JsonValue>(
 ) -> Result<Vec<u32, A>, StepError>
     ensures value { GivesStep (λ v. v.items) result
         (form.each (form.number_below (2 ^ 32)) (items_seen V.as_data values.now)) }
-    ensures asked { result ≡ Err Memory → 0 < length values.now }
+    ensures allocates { result ≡ Err Memory → 0 < length values.now }
     ensures first { result ≡ Err Memory →
         starts (form.number_below (2 ^ 32)) (items_seen V.as_data values.now) ≡ true }
 {
@@ -134,7 +134,7 @@ pub(crate) fn small_numbers<A: Allocator + Copy, V: JsonValue>(
     key: &str,
 ) -> Result<Vec<u32, A>, StepError>
     ensures value { GivesStep (λ v. v.items) result (form.small_numbers_at key.now (V.as_data value.now)) }
-    ensures asked { result ≡ Err Memory →
+    ensures allocates { result ≡ Err Memory →
         has_items (form.items_at key.now (V.as_data value.now)) ≡ true }
     ensures first { result ≡ Err Memory →
         starts_at (form.number_below (2 ^ 32)) (form.items_at key.now (V.as_data value.now)) ≡ true }
@@ -180,7 +180,7 @@ pub(crate) fn set<V: JsonValue>(value: &V, key: &str) -> Result<NodeMask, StepEr
 /// The bytes that hexadecimal digits spell.
 fn bytes<A: Allocator + Copy>(alloc: A, text: &str) -> Result<Vec<u8, A>, StepError>
     ensures value { GivesStep (λ v. v.items) result (hex_bytes text.now) }
-    ensures asked { result ≡ Err Memory → has_pairs (Some text.now) ≡ true }
+    ensures allocates { result ≡ Err Memory → has_pairs (Some text.now) ≡ true }
 {
     match hex::decode(alloc, text) {
         Ok(bytes) => Ok(bytes),
@@ -196,7 +196,7 @@ pub(crate) fn hex<A: Allocator + Copy, V: JsonValue>(
     key: &str,
 ) -> Result<Vec<u8, A>, StepError>
     ensures value { GivesStep (λ v. v.items) result (hex_at key.now (V.as_data value.now)) }
-    ensures asked { result ≡ Err Memory →
+    ensures allocates { result ≡ Err Memory →
         has_pairs (text_at key.now (V.as_data value.now)) ≡ true }
 {
     bytes(alloc, text(value, key)?)

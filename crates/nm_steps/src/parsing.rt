@@ -45,7 +45,7 @@ fn write_access<A: Allocator + Copy + Send + Sync, V: JsonValue>(
     value: &V,
 ) -> Result<Access<A>, StepError>
     ensures access { GivesStep access_shown result (form.write_access (V.as_data value.now)) }
-    ensures asked { result ≡ Err Memory → write_has_pairs (V.as_data value.now) ≡ true }
+    ensures allocates { result ≡ Err Memory → write_has_pairs (V.as_data value.now) ≡ true }
 {
     Ok(Access::Write {
         pid: Pid::new(small_number(value, "pid")?),
@@ -62,7 +62,7 @@ fn access_named<A: Allocator + Copy + Send + Sync, V: JsonValue>(
     value: &V,
 ) -> Result<Access<A>, StepError>
     ensures access { GivesStep access_shown result (form.access_named op.now (V.as_data value.now)) }
-    ensures asked { result ≡ Err Memory → access_takes_memory op.now (V.as_data value.now) ≡ true }
+    ensures allocates { result ≡ Err Memory → access_takes_memory op.now (V.as_data value.now) ≡ true }
 {
     match op {
         "read" => read_access(value),
@@ -80,7 +80,7 @@ fn in_flight<A: Allocator + Copy + Send + Sync, V: JsonValue>(
 ) -> Result<InFlight<A>, StepError>
     ensures flight { GivesStep (λ d. (d.run, access_shown d.access)) result
         (form.during_of runs (V.as_data value.now)) }
-    ensures asked { result ≡ Err Memory →
+    ensures allocates { result ≡ Err Memory →
         option_map (λ op. access_takes_memory op (V.as_data value.now))
         (form.text_at (codes "op") (V.as_data value.now))
         ≡ Some true }
@@ -119,7 +119,7 @@ fn flights_of<A: Allocator + Copy + Send + Sync, V: JsonValue>(
 ) -> Result<Vec<InFlight<A>, A>, StepError>
     ensures flights { GivesStep (λ v. shown_during v.items) result
         (form.each (form.during_of runs) (items_seen V.as_data values.now)) }
-    ensures asked { result ≡ Err Memory →
+    ensures allocates { result ≡ Err Memory →
         begins (flight_asks runs) (items_seen V.as_data values.now) ≡ true }
 {
     let mut flights = Vec::new(alloc);
@@ -138,7 +138,7 @@ fn flights_at<A: Allocator + Copy + Send + Sync, V: JsonValue>(
 ) -> Result<Vec<InFlight<A>, A>, StepError>
     ensures flights { GivesStep (λ v. shown_during v.items) result
         (form.during_at runs (V.as_data value.now)) }
-    ensures asked { result ≡ Err Memory →
+    ensures allocates { result ≡ Err Memory →
         begins_at (flight_asks runs) (form.items_at (codes "during") (V.as_data value.now)) ≡ true }
 {
     match value.get("during") {
@@ -259,7 +259,7 @@ fn write<A: Allocator + Copy + Send + Sync, V: JsonValue>(
 ) -> Result<Call<A>, StepError>
     ensures call { GivesStep call_of result
         (option_map form.access_step (form.write_access (V.as_data value.now))) }
-    ensures asked { result ≡ Err Memory → write_has_pairs (V.as_data value.now) ≡ true }
+    ensures allocates { result ≡ Err Memory → write_has_pairs (V.as_data value.now) ≡ true }
 {
     Ok(access_step(write_access(alloc, value)?))
 }
@@ -287,7 +287,7 @@ fn batch_of<A: Allocator + Copy + Send + Sync, V: JsonValue>(
 ) -> Result<Batch<A>, StepError>
     ensures batch { GivesStep (λ batch. (batch.pages.items, batch.nodes.items)) result
         (form.batch_of (V.as_data value.now)) }
-    ensures asked { result ≡ Err Memory → batch_starts (V.as_data value.now) ≡ true }
+    ensures allocates { result ≡ Err Memory → batch_starts (V.as_data value.now) ≡ true }
 {
     let pages = numbers(alloc, value, "pages")?;
     let nodes = small_numbers(alloc, value, "nodes")?;
@@ -302,7 +302,7 @@ fn move_pages<A: Allocator + Copy + Send + Sync, V: JsonValue>(
 ) -> Result<Call<A>, StepError>
     requires { 0 < limit }
     ensures call { GivesStep call_of result (form.move_pages_of limit (V.as_data value.now)) }
-    ensures asked { result ≡ Err Memory → move_takes_memory (V.as_data value.now) ≡ true }
+    ensures allocates { result ≡ Err Memory → move_takes_memory (V.as_data value.now) ≡ true }
 {
     let caller = small_number(value, "caller")?;
     let pid = small_number(value, "pid")?;
@@ -396,7 +396,7 @@ fn query<A: Allocator + Copy + Send + Sync, V: JsonValue>(
     value: &V,
 ) -> Result<Call<A>, StepError>
     ensures call { GivesStep call_of result (form.query_of (V.as_data value.now)) }
-    ensures asked { result ≡ Err Memory → query_takes_memory (V.as_data value.now) ≡ true }
+    ensures allocates { result ≡ Err Memory → query_takes_memory (V.as_data value.now) ≡ true }
 {
     let caller = small_number(value, "caller")?;
     let pid = small_number(value, "pid")?;
@@ -453,7 +453,7 @@ fn step_named<A: Allocator + Copy + Send + Sync, V: JsonValue>(
 ) -> Result<Call<A>, StepError>
     requires { 0 < limit }
     ensures call { GivesStep call_of result (form.step_named limit op.now (V.as_data value.now)) }
-    ensures asked { result ≡ Err Memory → takes_memory op.now (V.as_data value.now) ≡ true }
+    ensures allocates { result ≡ Err Memory → takes_memory op.now (V.as_data value.now) ≡ true }
 {
     match op {
         "spawn" => spawn(value),
@@ -488,7 +488,7 @@ pub fn step_of<A: Allocator + Copy + Send + Sync, V: JsonValue>(
 ) -> Result<Call<A>, StepError>
     requires { 0 < limit }
     ensures call { GivesStep call_of result (form.step_of limit (V.as_data value.now)) }
-    ensures asked { result ≡ Err Memory →
+    ensures allocates { result ≡ Err Memory →
         option_map (λ op. takes_memory op (V.as_data value.now))
         (form.text_at (codes "op") (V.as_data value.now))
         ≡ Some true }

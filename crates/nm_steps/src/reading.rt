@@ -48,7 +48,7 @@ fn distances_of<A: Allocator + Copy, V: JsonValue>(
 ) -> Result<Vec<u8, A>, StepError>
     ensures row { of_step.GivesStep (λ v. v.items) result
         (form.each (form.number_below (2 ^ 8)) (items_seen V.as_data values.now)) }
-    ensures asked { result ≡ Err Memory → 0 < length values.now }
+    ensures allocates { result ≡ Err Memory → 0 < length values.now }
     ensures first { result ≡ Err Memory →
         starts (form.number_below (2 ^ 8)) (items_seen V.as_data values.now) ≡ true }
 {
@@ -63,7 +63,7 @@ fn distances_of<A: Allocator + Copy, V: JsonValue>(
 /// A row of distances.
 fn row_of<A: Allocator + Copy, V: JsonValue>(alloc: A, value: &V) -> Result<Vec<u8, A>, StepError>
     ensures row { of_step.GivesStep (λ v. v.items) result (form.row_of (V.as_data value.now)) }
-    ensures asked { result ≡ Err Memory → has_items (as_array (V.as_data value.now)) ≡ true }
+    ensures allocates { result ≡ Err Memory → has_items (as_array (V.as_data value.now)) ≡ true }
     ensures first { result ≡ Err Memory →
         starts_at (form.number_below (2 ^ 8)) (as_array (V.as_data value.now)) ≡ true }
 {
@@ -77,7 +77,7 @@ fn rows_of<A: Allocator + Copy, V: JsonValue>(
 ) -> Result<Vec<Vec<u8, A>, A>, StepError>
     ensures rows { of_step.GivesStep (λ v. map (λ row. row.items) v.items) result
         (form.each form.row_of (items_seen V.as_data values.now)) }
-    ensures asked { result ≡ Err Memory → 0 < length values.now }
+    ensures allocates { result ≡ Err Memory → 0 < length values.now }
     ensures first { result ≡ Err Memory →
         begins row_asks (items_seen V.as_data values.now) ≡ true }
 {
@@ -96,7 +96,7 @@ fn machine_of<A: Allocator + Copy, V: JsonValue>(
     value: &V,
 ) -> Result<Geometry<A>, StepError>
     ensures machine { of_step.GivesStep (λ g. g) result (form.machine_of (V.as_data value.now)) }
-    ensures asked { result ≡ Err Memory → machine_takes_memory (V.as_data value.now) ≡ true }
+    ensures allocates { result ≡ Err Memory → machine_takes_memory (V.as_data value.now) ≡ true }
 {
     let machine = value.get("machine").ok_or(StepError::Bad)?;
     let sizes = small_numbers(alloc, machine, "nodes")?;
@@ -158,7 +158,7 @@ fn calls_of<A: Allocator + Copy + Send + Sync, V: JsonValue>(
     requires { 0 < limit }
     ensures calls { Gives (λ v. map call_of v.items) result
         (faults.calls_of limit (items_seen V.as_data values.now)) }
-    ensures asked { result ≡ Err (HostMemory 0) → 0 < length values.now }
+    ensures allocates { result ≡ Err (HostMemory 0) → 0 < length values.now }
     ensures first { result ≡ Err (HostMemory 0) →
         begins (step_asks limit) (items_seen V.as_data values.now) ≡ true }
 {
@@ -191,7 +191,7 @@ pub fn geometry_of<A: Allocator + Copy, V: JsonValue>(
 ) -> Result<Geometry<A>, TraceError>
     ensures machine { Gives (λ g. g) result
         (ok_or (form.machine_of (V.as_data value.now)) BadMachine) }
-    ensures asked { result ≡ Err (HostMemory 0) → machine_takes_memory (V.as_data value.now) ≡ true }
+    ensures allocates { result ≡ Err (HostMemory 0) → machine_takes_memory (V.as_data value.now) ≡ true }
 {
     machine_of(alloc, value).map_err(bad_machine)
 }
@@ -231,7 +231,7 @@ fn trace_on<A: Allocator + Copy + Send + Sync, V: JsonValue>(
     value: &V,
 ) -> Result<Trace<A>, TraceError>
     ensures trace { Gives contents_of result (faults.plan_on geometry (V.as_data value.now)) }
-    ensures asked { result ≡ Err (HostMemory 0) → steps_take_memory (V.as_data value.now) ≡ true }
+    ensures allocates { result ≡ Err (HostMemory 0) → steps_take_memory (V.as_data value.now) ≡ true }
 {
     let run_limit = run_limit_of(value)?;
     let values = values_of(value)?;
@@ -250,7 +250,7 @@ fn trace_of<A: Allocator + Copy + Send + Sync, V: JsonValue>(
     value: &V,
 ) -> Result<Trace<A>, TraceError>
     ensures trace { Gives contents_of result (faults.plan_of (V.as_data value.now)) }
-    ensures asked { result ≡ Err (HostMemory 0) → machine_takes_memory (V.as_data value.now) ≡ true }
+    ensures allocates { result ≡ Err (HostMemory 0) → machine_takes_memory (V.as_data value.now) ≡ true }
 {
     let geometry = geometry_of(alloc, value)?;
     trace_on(alloc, geometry, value)
@@ -264,7 +264,7 @@ pub fn value_of<'a>(
     scratch: &'a mut Scratch,
 ) -> Result<Value<'a>, TraceError>
     ensures value { Gives view result (ok_or (faults.value_of bytes.now) NotJson) }
-    ensures asked { result ≡ Err (HostMemory 0) →
+    ensures allocates { result ≡ Err (HostMemory 0) →
         (is_utf8 bytes.now ≡ true) × NeedsMemory (room scratch.old) bytes.now }
     ensures fault { IfErr result (λ e. (e ≡ NotJson) ⊎ (e ≡ HostMemory 0)) }
 {
@@ -290,7 +290,7 @@ pub fn read_trace<A: Allocator + Copy + Send + Sync>(
     bytes: &[u8],
 ) -> Result<Trace<A>, TraceError>
     ensures trace { Gives contents_of result (faults.trace_of bytes.now) }
-    ensures asked { result ≡ Err (HostMemory 0) → IsSomeText bytes.now }
+    ensures allocates { result ≡ Err (HostMemory 0) → IsSomeText bytes.now }
 {
     let mut scratch = Scratch::new(heap);
     let value = value_of(heap, bytes, &mut scratch)?;
@@ -304,7 +304,7 @@ impl<A: Allocator + Copy + Send + Sync> Trace<A> {
     /// `HostMemory(0)` if `alloc` is out of memory.
     pub fn from_value(alloc: A, value: &serde_json::Value) -> Result<Trace<A>, TraceError>
         ensures trace { Gives contents_of result (faults.plan_of (owned.view value.now)) }
-        ensures asked { result ≡ Err (HostMemory 0) →
+        ensures allocates { result ≡ Err (HostMemory 0) →
             machine_takes_memory (owned.view value.now) ≡ true }
     {
         trace_of(alloc, value)

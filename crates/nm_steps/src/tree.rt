@@ -32,7 +32,7 @@ const SHORT_DIGITS: usize = 19;
 fn next_tree<'a>(heap: Global, reader: &mut Reader<'a>) -> Result<Value<'a>, StepError>
     ensures value { GivesStep value_view result
         (option_and_then (λ p. grammar.if_last p.0 p.1) (grammar.value 127 reader.old)) }
-    ensures asked { result ≡ Err Memory → IsTrue (opens reader.old) }
+    ensures allocates { result ≡ Err Memory → IsTrue (opens reader.old) }
 {
     match Value::read(heap, reader, MAX_DEPTH) {
         Ok(value) => {
@@ -55,7 +55,7 @@ pub(crate) fn read<'a>(
     scratch: &'a mut Scratch,
 ) -> Result<Value<'a>, StepError>
     ensures value { GivesStep view result (read text.now) }
-    ensures asked { result ≡ Err Memory → NeedsMemory (room scratch.old) text.now }
+    ensures allocates { result ≡ Err Memory → NeedsMemory (room scratch.old) text.now }
 {
     let mut reader = Reader::new(text, scratch)?;
     let value = next_tree(heap, &mut reader)?;
@@ -192,7 +192,7 @@ fn is_in_range(number: &str) -> bool
 
 /// Whether a value is a number of one to 19 digits. Such numbers are in range, and most of a trace's are such.
 fn is_short_number(value: &Value<'_>) -> bool
-    ensures in_range { result ≡ true → is_some (of_json (value_view value.now)) ≡ true }
+    ensures is_some { result ≡ true → is_some (of_json (value_view value.now)) ≡ true }
     ensures other { result ≡ false
         → (digits : List ℕ)
         → value_view value.now ≡ number digits

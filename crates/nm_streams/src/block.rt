@@ -13,7 +13,7 @@ pub fn write_lines<W: TellingWriter>(writer: &mut W, lines: &[u8]) -> Result<(),
     ensures whole { OnOk result (Appends (W.contents writer.old) (W.contents writer.new) lines.now) }
     ensures broken { OnErr result
         (BreaksOff (W.contents writer.old) (W.contents writer.new) lines.now) }
-    ensures told { W.has_failed writer.new ≡ (is_err result || W.has_failed writer.old) }
+    ensures failure { W.has_failed writer.new ≡ (is_err result || W.has_failed writer.old) }
 {
     let mut at = 0;
     while at < lines.len() {
@@ -36,11 +36,11 @@ fn write_through<W: TellingWriter, A: Allocator>(
 ) -> Result<(), WriteError>
     ensures whole { OnOk result
         (Appends (W.contents writer.old) (W.contents writer.new) (waiting.old.items ++ text.now)) }
-    ensures emptied { OnOk result (waiting.new.items ≡ []) }
+    ensures empty { OnOk result (waiting.new.items ≡ []) }
     ensures within { length waiting.new.items ≤ length waiting.old.items }
     ensures broken { OnErr result
         (BreaksOff (W.contents writer.old) (W.contents writer.new) (waiting.old.items ++ text.now)) }
-    ensures told { W.has_failed writer.new ≡ (is_err result || W.has_failed writer.old) }
+    ensures failure { W.has_failed writer.new ≡ (is_err result || W.has_failed writer.old) }
 {
     let Ok(()) = write_lines(writer, waiting.as_slice()) else {
         return Err(WriteError);
@@ -147,7 +147,7 @@ impl<A: Allocator> Block<A> {
             (Appends (W.contents writer.old) (W.contents writer.new) (block_waiting self.now)) }
         ensures broken { OnErr result
             (BreaksOff (W.contents writer.old) (W.contents writer.new) (block_waiting self.now)) }
-        ensures told { W.has_failed writer.new ≡ (is_err result || W.has_failed writer.old) }
+        ensures failure { W.has_failed writer.new ≡ (is_err result || W.has_failed writer.old) }
     {
         let Ok(()) = write_lines(writer, self.waiting.as_slice()) else {
             return Err(WriteError);

@@ -24,7 +24,7 @@ pub fn read_all<A: Allocator, R: TellingReader>(
     ensures end { OnOk result (IsAtEnd (R.remaining reader.new)) }
 
     // In any case
-    ensures told { TellsRead limit (R.has_failed reader.old) (R.has_failed reader.new)
+    ensures failure { TellsRead limit (R.has_failed reader.old) (R.has_failed reader.new)
         (R.gave reader.old reader.new) result }
 {
     let mut bytes = Vec::new(alloc);

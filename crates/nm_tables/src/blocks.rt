@@ -252,7 +252,7 @@ impl<A: Allocator + Copy> Blocks<A> {
     fn remove_leaf(&mut self, number: usize, vpn: Vpn)
         requires kept { IsBlocks self.old }
         requires there { get nat_cmp self.old.index (vpn / 512) ≡ Some (Leaf number) }
-        requires only { without nat_cmp (slot_entries self.old.leaves.items (Leaf number)) vpn ≡ [] }
+        requires none { without nat_cmp (slot_entries self.old.leaves.items (Leaf number)) vpn ≡ [] }
         ensures entries { block_entries self.new ≡ without nat_cmp (block_entries self.old) vpn }
         ensures kept { IsBlocks self.new }
     {

@@ -31,8 +31,8 @@ fn place_of(vpn: Vpn) -> usize
 /// The first place of a block whose page number is this one or greater. 512 if all are smaller.
 fn place_from(block: u64, at: Vpn) -> usize
     ensures fits { result ≤ 512 }
-    ensures reached { (i : ℕ) → i < 512 → at ≤ block * 512 + i → result ≤ i }
-    ensures past { (i : ℕ) → result ≤ i → i < 512 → at ≤ block * 512 + i }
+    ensures first { (i : ℕ) → i < 512 → at ≤ block * 512 + i → result ≤ i }
+    ensures last { (i : ℕ) → result ≤ i → i < 512 → at ≤ block * 512 + i }
 {
     let own = at.number() / 512;
     if own < block {

@@ -42,7 +42,7 @@ pub(crate) trait Subtree<A: Allocator + Copy>: Drop {
 
     /// Makes a part with one block.
     fn holding(alloc: A, block: u64, slot: Slot) -> Result<Self, AllocError>
-        ensures one { IfOk result (λ part. slots part ≡ (block, slot) ∷ []) }
+        ensures slots { IfOk result (λ part. slots part ≡ (block, slot) ∷ []) }
         ensures kept { IfOk result whole }
         ensures inside { IfOk result (λ part. is_in part (number block)) };
 
@@ -76,7 +76,7 @@ pub(crate) trait Subtree<A: Allocator + Copy>: Drop {
         list: &mut Vec<(Vpn, Entry), A>,
     ) -> Result<(), AllocError>
         requires kept { whole self.now }
-        requires named { AreBlocks leaves.now (slots self.now) }
+        requires blocks { AreBlocks leaves.now (slots self.now) }
         ensures ok { OnOk result
             (list.new.items
             ≡ list.old.items

@@ -139,7 +139,7 @@ impl<A: Allocator + Copy> PageTable<A> {
     /// without entries takes none.
     pub fn entries(&self) -> Result<Vec<(Vpn, Entry), A>, AllocError>
         ensures all { IfOk result (λ entries. entries.items ≡ self.now) }
-        ensures asked { OnErr result (0 < length self.now) }
+        ensures allocates { OnErr result (0 < length self.now) }
         ensures ordered { IsStrictlySortedBy nat_cmp (keys_of self.now) }
     {
         let mut list = Vec::new(self.alloc);

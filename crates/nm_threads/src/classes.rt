@@ -42,7 +42,7 @@ pub fn classify<R: Threads, A: Allocator + Copy + Send + Sync, V: PageView + Syn
         ≡ map
         (class_shown geometry.now (V.seen_at view.now) (V.placed_at view.now) run.now.target)
         run.now.wanted.items) }
-    ensures asked { OnErr result (0 < length run.now.wanted.items) }
+    ensures allocates { OnErr result (0 < length run.now.wanted.items) }
 {
     nm_runs::classify(&Leave::of(rt), workers, alloc, geometry, view, run)
 }

@@ -25,7 +25,7 @@ pub fn read_while_it_moves()
 /// A session that is given the steps of a trace one by one returns the trace's report, and its system is in the state
 /// of the trace's calls.
 pub fn sessions_report()
-    ensures fed { SessionsReport }
+    ensures report { SessionsReport }
     ensures traces { SessionsAreTraces }
 {}
 

@@ -33,9 +33,9 @@ pub(crate) fn make_step<A: Allocator + Copy + Send + Sync, C: RunCrew<A>, W: Tel
     block: &mut Block<A>,
     writer: &mut W,
 ) -> Result<(), AllocError>
-    ensures told { PutsLines W.contents W.has_failed k result system.old system.new
+    ensures lines { PutsLines W.contents W.has_failed k result system.old system.new
         (call_of call.now) writer.old block.old writer.new block.new }
-    ensures asked { OnErr result (MayAllocate system.old.state (call_of call.now)) }
+    ensures allocates { OnErr result (MayAllocate system.old.state (call_of call.now)) }
 {
     match system.call(crew, call) {
         Ok(answer) => {
@@ -60,7 +60,7 @@ pub(crate) fn play_calls<A: Allocator + Copy + Send + Sync, C: RunCrew<A>, W: Te
 ) -> Result<Summary, TraceError>
     ensures plays { Plays system.old (map call_of calls.now) system.new (W.contents writer.old)
         (W.contents writer.new) result }
-    ensures told { W.has_failed writer.new ≡ (is_write_fault result || W.has_failed writer.old) }
+    ensures failure { W.has_failed writer.new ≡ (is_write_fault result || W.has_failed writer.old) }
 {
     let mut block = Block::new(alloc, BLOCK_BYTES);
     for (k, call) in calls.iter().enumerate() {
@@ -97,7 +97,7 @@ pub fn play<A: Allocator + Copy + Send + Sync, C: RunCrew<A>, W: TellingWriter>(
     requires limit { system.old.run_limit ≡ trace.now.run_limit }
     ensures plays { Plays system.old (map call_of trace.now.calls.items) system.new
         (W.contents writer.old) (W.contents writer.new) result }
-    ensures told { W.has_failed writer.new ≡ (is_write_fault result || W.has_failed writer.old) }
+    ensures failure { W.has_failed writer.new ≡ (is_write_fault result || W.has_failed writer.old) }
 {
     play_calls(crew, alloc, system, trace.calls.as_slice(), writer)
 }

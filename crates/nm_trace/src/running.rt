@@ -30,7 +30,7 @@ fn read_bytes<A: Allocator + Copy, R: TellingReader>(
 
     // On a fault
     ensures fault { IfErr result (λ e. (e ≡ TraceError.ReadFault) ⊎ (e ≡ TraceError.HostMemory 0)) }
-    ensures told { IfErr result (λ e. GivesTrace (R.remaining reader.old)
+    ensures trace { IfErr result (λ e. GivesTrace (R.remaining reader.old)
         (R.has_failed reader.old) (R.has_failed reader.new) (R.gave reader.old reader.new) (Err e)) }
 {
     match read_all(alloc, reader, TRACE_LIMIT) {

@@ -48,7 +48,7 @@ fn call_of<A: Allocator + Copy + Send + Sync>(
 ) -> Result<Call<A>, TraceError>
     requires { 0 < limit }
     ensures call { IsCall step result (form.step_of limit (view value.now)) }
-    ensures asked { result ≡ Err (HostMemory step) →
+    ensures allocates { result ≡ Err (HostMemory step) →
         option_map (λ op. takes_memory op (view value.now))
         (form.text_at (codes "op") (view value.now))
         ≡ Some true }
@@ -67,7 +67,7 @@ impl<A: Allocator + Copy + Send + Sync> Session<A> {
     #[tactic(auto, unfolding(crate::specs::Session::opened, crate::specs::Session::begun))]
     pub fn open(alloc: A, heap: Global, bytes: &[u8]) -> Result<Self, TraceError>
         ensures session { Gives (λ s. s) result (session_of bytes.now) }
-        ensures asked { result ≡ Err (HostMemory 0) → IsSomeText bytes.now }
+        ensures allocates { result ≡ Err (HostMemory 0) → IsSomeText bytes.now }
     {
         let mut scratch = Scratch::new(heap);
         let value = value_of(heap, bytes, &mut scratch)?;
@@ -96,7 +96,7 @@ impl<A: Allocator + Copy + Send + Sync> Session<A> {
         bytes: &[u8],
     ) -> Result<Vec<u8, A>, TraceError>
         ensures steps { Steps (λ lines. lines.items) self.old self.new bytes.now result }
-        ensures asked { result ≡ Err (HostMemory self.old.steps) → IsSomeText bytes.now }
+        ensures allocates { result ≡ Err (HostMemory self.old.steps) → IsSomeText bytes.now }
     {
         let step = self.steps;
         let mut scratch = Scratch::new(heap);

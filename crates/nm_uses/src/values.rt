@@ -22,7 +22,7 @@ use std::str::from_utf8;
 #[tactic(auto, unfolding(nm_steps::specs::Faults::trace_of))]
 pub fn read_value(heap: Global, bytes: &[u8]) -> Result<Trace<Global>, TraceError>
     ensures trace { Gives contents_of result (trace_of bytes.now) }
-    ensures asked { result ≡ Err (HostMemory 0) → IsSomeText bytes.now }
+    ensures allocates { result ≡ Err (HostMemory 0) → IsSomeText bytes.now }
 {
     let Ok(text) = from_utf8(bytes) else {
         return Err(TraceError::NotJson);

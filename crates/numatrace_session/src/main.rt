@@ -44,7 +44,7 @@ enum End {
 /// reader that has not leaves the memory for the line.
 fn unread(kind: ErrorKind, has_failed: bool) -> End
     ensures end { result ≡ unread kind has_failed }
-    ensures either { (result ≡ End.HostMemory) ⊎ (result ≡ End.Stream) }
+    ensures err { (result ≡ End.HostMemory) ⊎ (result ≡ End.Stream) }
     ensures cause { result ≡ End.Stream → has_failed ≡ true }
 {
     match kind {
@@ -68,7 +68,7 @@ fn next_line<R: Read>(
 
     // In any case
     ensures stops { StopsAt line.new.items 10 }
-    ensures none_lost { Consumes (left_in R.remaining input.old) (left_in R.remaining input.new) line.new.items }
+    ensures consumes { Consumes (left_in R.remaining input.old) (left_in R.remaining input.new) line.new.items }
 
     // On a fault
     ensures fault { IfErr result (λ e. (e ≡ End.HostMemory) ⊎ (e ≡ End.Stream)) }
@@ -137,7 +137,7 @@ fn reply<W: TellingWriter>(
 ) -> Result<(), End>
     ensures replies { Replies session.old session.new step.now (W.contents out.old) (W.contents out.new)
         (W.has_failed out.old) (W.has_failed out.new) result }
-    ensures asked { result ≡ Err End.HostMemory → IsSomeText step.now }
+    ensures allocates { result ≡ Err End.HostMemory → IsSomeText step.now }
 {
     // (the kit's borrow checker looks for what a crew works on among the types of this function)
     let _work: PhantomData<(CopyJob<Global>, AddressSpaces<Global>)> = PhantomData;
@@ -153,14 +153,14 @@ fn flush_unless_asked<R: Read, W: FlushingWriter>(
     out: &mut W,
 ) -> Result<(), End>
     // If a further line is there
-    ensures waits { has_line (reader_buffer input.now) ≡ true → (result ≡ Ok tt) × (out.new ≡ out.old) }
+    ensures line { has_line (reader_buffer input.now) ≡ true → (result ≡ Ok tt) × (out.new ≡ out.old) }
 
     // If none is
     ensures flushed { has_line (reader_buffer input.now) ≡ false → OnOk result (W.is_flushed out.new) }
 
     // In any case
     ensures kept { Keeps (W.contents out.old) (W.contents out.new) }
-    ensures told { W.has_failed out.new ≡ (is_err result || W.has_failed out.old) }
+    ensures failure { W.has_failed out.new ≡ (is_err result || W.has_failed out.old) }
     ensures fault { IfErr result (λ e. e ≡ End.Stream) }
 {
     if input.buffer().contains(&b'\n') {
@@ -186,11 +186,11 @@ fn reply_to_lines<T: Wait, R: Read, W: FlushingWriter>(
         (W.contents out.old) (W.contents out.new)) }
     ensures end { ReachesEnd result
         (left_in R.remaining input.old) (left_in R.remaining input.new) }
-    ensures told { OnOk result (W.has_failed out.new ≡ W.has_failed out.old) }
+    ensures failure { OnOk result (W.has_failed out.new ≡ W.has_failed out.old) }
 
     // On a fault
     ensures fault { IfErr result (λ e. (e ≡ End.HostMemory) ⊎ (e ≡ End.Stream)) }
-    ensures early { IfErr result (λ e. EndsEarly e session.old
+    ensures talks { IfErr result (λ e. EndsEarly e session.old
         (left_in R.remaining input.old) (left_in R.remaining input.new)
         (W.contents out.old) (W.contents out.new) (has_read_failed input.new) (W.has_failed out.old) (W.has_failed out.new)) }
 {
@@ -238,10 +238,10 @@ fn talk<T: Wait, R: Read, W: FlushingWriter>(
         (W.contents out.old) (W.contents out.new)) }
     ensures end { ReachesEnd result
         (left_in R.remaining input.old) (left_in R.remaining input.new) }
-    ensures told { OnOk result (W.has_failed out.new ≡ W.has_failed out.old) }
+    ensures failure { OnOk result (W.has_failed out.new ≡ W.has_failed out.old) }
 
     // On a fault
-    ensures early { IfErr result (λ e. EndsTalk e
+    ensures talks { IfErr result (λ e. EndsTalk e
         (left_in R.remaining input.old) (left_in R.remaining input.new)
         (W.contents out.old) (W.contents out.new) (has_read_failed input.new) (W.has_failed out.old) (W.has_failed out.new)) }
 {
@@ -264,10 +264,10 @@ fn talk_to_end<T: Wait, R: Read, W: FlushingWriter>(
         (W.contents out.old) (W.contents out.new)) }
     ensures end { ReachesEnd result
         (left_in R.remaining input.old) (left_in R.remaining input.new) }
-    ensures told { OnOk result (W.has_failed out.new ≡ W.has_failed out.old) }
+    ensures failure { OnOk result (W.has_failed out.new ≡ W.has_failed out.old) }
 
     // On a fault
-    ensures early { IfErr result (λ e. EndsFlushed e
+    ensures ends { IfErr result (λ e. EndsFlushed e
         (left_in R.remaining input.old) (left_in R.remaining input.new)
         (W.contents out.old) (W.contents out.new) (has_read_failed input.new) (W.has_failed out.old) (W.has_failed out.new)) }
 

@@ -76,7 +76,7 @@ impl<A: Allocator + Copy + Send + Sync> Machine<A> {
         ensures done { Makes result self.old self.new (unmap_refusal self.old pid addr pages)
             (unmap self.old pid addr pages) }
         ensures memory { AsksLast result (unmap_refusal self.old pid addr pages) }
-        ensures asked { result ≡ Err MachineError.HostMemory →
+        ensures allocates { result ≡ Err MachineError.HostMemory →
             list_any (overlaps pid (addr / 4096) (addr / 4096 + pages)) self.old.areas ≡ true }
         ensures needed { result ≡ Err MachineError.HostMemory →
             (0 < length self.old.place)
@@ -109,7 +109,7 @@ impl<A: Allocator + Copy + Send + Sync> Machine<A> {
 
         // Without memory
         ensures err { OnErr result (self.new ≡ self.old) }
-        ensures asked { OnErr result
+        ensures allocates { OnErr result
             (list_any (overlaps pid range.first range.end) self.old.areas ≡ true) }
         ensures needed { OnErr result
             ((0 < length self.old.place)
@@ -157,7 +157,7 @@ impl<A: Allocator + Copy + Send + Sync> Machine<A> {
             (set_policy self.old pid addr len policy) }
         ensures memory { AsksLast result (policy_refusal self.old pid addr len) }
         ensures some { result ≡ Err MachineError.HostMemory → 0 < len }
-        ensures asked { result ≡ Err MachineError.HostMemory →
+        ensures allocates { result ≡ Err MachineError.HostMemory →
             HasSplit self.old.areas pid (addr / 4096)
             ⊎ HasSplit self.old.areas pid (addr / 4096 + page_count len) }
     {
@@ -184,7 +184,7 @@ impl<A: Allocator + Copy + Send + Sync> Machine<A> {
         // Without memory
         ensures err { OnErr result (self.new ≡ self.old) }
         ensures some { OnErr result (range.first < range.end) }
-        ensures asked { OnErr result
+        ensures allocates { OnErr result
             (HasSplit self.old.areas pid range.first ⊎ HasSplit self.old.areas pid range.end) }
     {
         self.spaces.set_range_policy(pid, range, policy)

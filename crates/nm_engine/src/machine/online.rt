@@ -30,7 +30,7 @@ impl<A: Allocator + Copy + Send + Sync> Machine<A> {
     pub fn pages_on(&self, node: NodeId) -> Result<Vec<Page, A>, AllocError>
         ensures list { IfOk result (λ pages. pages.items ≡ placed_on self.now node) }
         ensures few { IfOk result (λ pages. length pages.items ≤ 16384) }
-        ensures asked { OnErr result (0 < length self.now.place) }
+        ensures allocates { OnErr result (0 < length self.now.place) }
     {
         let placed = self.spaces.areas().placed()?;
         let geometry = self.frames.geometry();
@@ -67,7 +67,7 @@ fn pages_among<A: Allocator + Copy>(
     requires { All (λ e. e.1 < frame_count geometry.now) placed.now }
     ensures pages { IfOk result
         (λ pages. pages.items ≡ keys_of (filter (λ e. node_of geometry.now e.1 == node) placed.now)) }
-    ensures asked { OnErr result (0 < length placed.now) }
+    ensures allocates { OnErr result (0 < length placed.now) }
 {
     let mut pages = Vec::new(alloc);
     for (page, frame) in placed {

@@ -60,7 +60,7 @@ impl<A: Allocator + Copy + Send + Sync> Machine<A> {
         ensures done { Makes result self.old self.new (exit_refusal self.old pid)
             (exit self.old pid) }
         ensures memory { AsksLast result (exit_refusal self.old pid) }
-        ensures asked { result ≡ Err MachineError.HostMemory →
+        ensures allocates { result ≡ Err MachineError.HostMemory →
             list_any (overlaps pid 0 (2 ^ 35)) self.old.areas ≡ true }
         ensures needed { result ≡ Err MachineError.HostMemory → 0 < length self.old.place }
     {

@@ -31,10 +31,10 @@ impl<A: Allocator + Copy + Send + Sync> Machine<A> {
 
     /// The free frames of a node, front first. EINVAL if there is no such node. An empty list takes no memory.
     pub fn free_list(&self, node: NodeId) -> Result<Vec<FrameId, A>, MachineError>
-        ensures told { Returns result (list_refusal self.now node)
+        ensures value { Returns result (list_refusal self.now node)
             (λ frames. frames.items ≡ free_list self.now node) }
         ensures memory { AsksLast result (list_refusal self.now node) }
-        ensures asked { result ≡ Err MachineError.HostMemory → 0 < length (free_list self.now node) }
+        ensures allocates { result ≡ Err MachineError.HostMemory → 0 < length (free_list self.now node) }
     {
         if node.index() >= self.frames.geometry().node_count() {
             return Err(MachineError::Refused(Errno::Einval));
@@ -45,7 +45,7 @@ impl<A: Allocator + Copy + Send + Sync> Machine<A> {
     /// Whether each frame of the machine is in exactly one place: once in its own node's free list, or the frame of one
     /// page. True, since a machine is sound. An error means that the host is out of memory.
     pub fn audit(&self) -> Result<bool, AllocError>
-        ensures told { IfOk result (λ b. b ≡ each_frame_is_once self.now) }
+        ensures frames { IfOk result (λ b. b ≡ each_frame_is_once self.now) }
         ensures sound { IfOk result (λ b. b ≡ true) }
     {
         let places = self.spaces.areas().frames()?;

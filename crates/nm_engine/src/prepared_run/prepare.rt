@@ -39,11 +39,11 @@ impl<A: Allocator + Copy> PreparedRun<A> {
         requires target { target < node_count self.old.state.layout }
         requires none { self.old.left ≡ [] }
         requires moves { CanMove self.old.state target moves.now }
-        ensures prepared { IfOk result
+        ensures prepares { IfOk result
             (λ dues. Prepares self.old target moves.now (accesses_shown accesses.now) self.new dues) }
         ensures sound { IsSound self.old.state }
         ensures err { OnErr result (self.new ≡ record (self.old) { room = self.new.room }) }
-        ensures asked { OnErr result (0 < length moves.now + length accesses.now) }
+        ensures allocates { OnErr result (0 < length moves.now + length accesses.now) }
     {
         self.take_frames(target, moves)?;
         match self.touch_each(moves, accesses) {
@@ -65,7 +65,7 @@ impl<A: Allocator + Copy> PreparedRun<A> {
         ensures taken { OnOk result (TakesFrames self.old target moves.now self.new) }
         ensures sound { IsSound self.old.state }
         ensures err { OnErr result (self.new ≡ record (self.old) { room = self.new.room }) }
-        ensures asked { OnErr result (0 < length moves.now) }
+        ensures allocates { OnErr result (0 < length moves.now) }
     {
         self.frames.reserve(moves.len())?;
         self.frames.populate_each(self.alloc, moves)?;
@@ -83,7 +83,7 @@ impl<A: Allocator + Copy> PreparedRun<A> {
         ensures touched { IfOk result
             (λ dues. TouchesEach self.old (map (λ t. t.page) moves.now) (accesses_shown accesses.now) self.new dues) }
         ensures err { OnErr result (self.new ≡ self.old) }
-        ensures asked { OnErr result (0 < length accesses.now) }
+        ensures allocates { OnErr result (0 < length accesses.now) }
     {
         let mut dues = Vec::with_capacity(self.alloc, accesses.len())?;
         if accesses.is_empty() {
@@ -113,7 +113,7 @@ impl<A: Allocator + Copy> PreparedRun<A> {
         ensures touched { IfOk result
             (λ due. TouchesEarly self.old moving.now.keys (access_shown access.now) self.new due) }
         ensures err { OnErr result (self.new ≡ self.old) }
-        ensures asked { OnErr result (ComesToTouch self.old.state moving.now.keys (access_shown access.now)) }
+        ensures allocates { OnErr result (ComesToTouch self.old.state moving.now.keys (access_shown access.now)) }
         ensures back { IsStillUndone self.old.left self.old.state undos.old.items self.new.state undos.new.items }
     {
         match access {
@@ -136,7 +136,7 @@ impl<A: Allocator + Copy> PreparedRun<A> {
         ensures touched { IfOk result
             (λ due. TouchesEarly self.old moving.now.keys (Read pid addr len) self.new due) }
         ensures err { OnErr result (self.new ≡ self.old) }
-        ensures asked { OnErr result (ComesToTouch self.old.state moving.now.keys (Read pid addr len)) }
+        ensures allocates { OnErr result (ComesToTouch self.old.state moving.now.keys (Read pid addr len)) }
         ensures back { IsStillUndone self.old.left self.old.state undos.old.items self.new.state undos.new.items }
     {
         let resolved = match ResolvedAddress::of(&self.spaces, pid, addr, len) {
@@ -178,7 +178,7 @@ impl<A: Allocator + Copy> PreparedRun<A> {
         ensures touched { IfOk result
             (λ due. TouchesEarly self.old moving.now.keys (Write pid addr bytes.now) self.new due) }
         ensures err { OnErr result (self.new ≡ self.old) }
-        ensures asked { OnErr result (ComesToTouch self.old.state moving.now.keys (Write pid addr bytes.now)) }
+        ensures allocates { OnErr result (ComesToTouch self.old.state moving.now.keys (Write pid addr bytes.now)) }
         ensures back { IsStillUndone self.old.left self.old.state undos.old.items self.new.state undos.new.items }
     {
         let resolved = match ResolvedAddress::of(&self.spaces, pid, addr, bytes.len() as u64) {
@@ -208,7 +208,7 @@ fn pages_of<A: Allocator + Copy>(alloc: A, moves: &[PageMove]) -> Result<BTreeSe
         (λ pages. (p : Page) →
         list_any (same_page p) pages.keys
         ≡ list_any (same_page p) (map (λ t. t.page) moves.now)) }
-    ensures asked { OnErr result (0 < length moves.now) }
+    ensures allocates { OnErr result (0 < length moves.now) }
 {
     let mut pages = BTreeSet::new(alloc);
     for taken in moves {

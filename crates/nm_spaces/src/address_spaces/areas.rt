@@ -84,7 +84,7 @@ impl<A: Allocator + Copy> AddressSpaces<A> {
             (with_policy (mapped_of self.old) pid (addr / 4096) (addr / 4096 + page_count len) policy) }
         ensures memory { result ≡ Err MachineError.HostMemory →
             (range_refusal (mapped_of self.old) pid addr len ≡ None) × (0 < len) }
-        ensures asked { result ≡ Err MachineError.HostMemory →
+        ensures allocates { result ≡ Err MachineError.HostMemory →
             HasSplit self.old.areas pid (addr / 4096)
             ⊎ HasSplit self.old.areas pid (addr / 4096 + page_count len) }
 
@@ -112,7 +112,7 @@ impl<A: Allocator + Copy> AddressSpaces<A> {
         // Without memory
         ensures err { OnErr result (self.new ≡ self.old) }
         ensures some { OnErr result (range.first < range.end) }
-        ensures asked { OnErr result
+        ensures allocates { OnErr result
             (HasSplit self.old.areas pid range.first ⊎ HasSplit self.old.areas pid range.end) }
     {
         let parts = &mut *self.parts;
@@ -137,7 +137,7 @@ impl<A: Allocator + Copy> AddressSpaces<A> {
     /// Whether the page that an area of a process shows at a page number has a pin.
     pub fn has_pin_at(&self, pid: Pid, vpn: Vpn) -> bool
         ensures pinned { result ≡ is_page_pinned self.now (page_at self.now.areas pid vpn) }
-        ensures around { result ≡ true →
+        ensures range { result ≡ true →
             (first end : ℕ) →
             first ≤ vpn →
             vpn < end →
@@ -172,7 +172,7 @@ impl<A: Allocator + Copy> AddressSpaces<A> {
 
         // Without memory
         ensures err { OnErr result (self.new ≡ self.old) }
-        ensures asked { OnErr result
+        ensures allocates { OnErr result
             (list_any (overlaps pid range.first range.end) self.old.areas ≡ true) }
         ensures needed { OnErr result
             ((0 < length self.old.place)

@@ -41,7 +41,7 @@ impl<A: Allocator + Copy> AddressSpaces<A> {
         ensures few { IfOk result (λ pages. length pages.items ≤ end - first) }
 
         // Without memory
-        ensures asked { OnErr result
+        ensures allocates { OnErr result
             (0 < length (between first end (sights self.now.processes pid))) }
     {
         let parts = &*self.parts;

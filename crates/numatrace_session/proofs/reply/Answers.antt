@@ -12,10 +12,10 @@ pub returns-in-Err-clause-replies : goal.returns-in-Err-clause-replies
 returns-in-Err-clause-replies g c =
     fault_told _ _ c.args.step.now c.in-Err.fault _ _ _ _ c.put_fault.result c.in-Err.ensures.steps c.put_fault.ensures
 
-pub returns-in-Ok-clause-asked : goal.returns-in-Ok-clause-asked
-returns-in-Ok-clause-asked g c told = absurd (no_memory _ _ _ _ _ c.put_both.result c.put_both.ensures told)
+pub returns-in-Ok-clause-allocates : goal.returns-in-Ok-clause-allocates
+returns-in-Ok-clause-allocates g c told = absurd (no_memory _ _ _ _ _ c.put_both.result c.put_both.ensures told)
 
-pub returns-in-Err-clause-asked : goal.returns-in-Err-clause-asked
-returns-in-Err-clause-asked g c told =
+pub returns-in-Err-clause-allocates : goal.returns-in-Err-clause-allocates
+returns-in-Err-clause-allocates g c told =
     let memory = memory_told c.in-Err.fault _ _ _ _ c.put_fault.result c.put_fault.ensures told in
-    c.in-Err.ensures.asked (ap Err (memory_of_step _ _ c.args.step.now c.in-Err.fault memory.0 c.in-Err.ensures.steps memory.1))
+    c.in-Err.ensures.allocates (ap Err (memory_of_step _ _ c.args.step.now c.in-Err.fault memory.0 c.in-Err.ensures.steps memory.1))

@@ -23,19 +23,19 @@ loop-preserved g c =
     record {
       replied = one_more c.args.session.now s c.reply.new.session _ (left_in g.R.Read.remaining c.loop.input) (left_in g.R.Read.remaining c.next_line.new.input) _ _ _ (g.W.Write.contents c.flush_unless_asked.new.out)
           c.next_line.new.line.items c.loop.invariant.replied c.in_ok-next_line.ensures.line c.in_ok-next_line.ensures.rest written made c.in_ok-flush_unless_asked.ensures.kept (ltb-true 0 _ (sym c.in_ok-next_line.ensures.more ∙ c.if-not-branch.false));
-      told = c.in_ok-flush_unless_asked.ensures.told ∙ (c.in_ok-reply.ensures.replies.0.1 ∙ c.loop.invariant.told);
+      told = c.in_ok-flush_unless_asked.ensures.failure ∙ (c.in_ok-reply.ensures.replies.0.1 ∙ c.loop.invariant.told);
     }
 
-pub returns-in_err-next_line-clause-early : goal.returns-in_err-next_line-clause-early
-returns-in_err-next_line-clause-early g c =
+pub returns-in_err-next_line-clause-talks : goal.returns-in_err-next_line-clause-talks
+returns-in_err-next_line-clause-talks g c =
     let is : c.from_residual.result ≡ Err c.in_err-next_line.field-0.0 = search rules in
     if_err (λ e. EndsEarly e c.args.session.now (left_in g.R.Read.remaining c.args.input.now) (left_in g.R.Read.remaining c.next_line.new.input) (g.W.Write.contents c.args.out.now) (g.W.Write.contents c.loop.out) (has_read_failed c.next_line.new.input) (g.W.TellingWriter.has_failed c.args.out.now) (g.W.TellingWriter.has_failed c.loop.out))
     c.in_err-next_line.field-0.0 c.from_residual.result is
     (unread c.args.session.now c.loop.session _ (left_in g.R.Read.remaining c.loop.input) (left_in g.R.Read.remaining c.next_line.new.input) _ _ (has_read_failed c.next_line.new.input) _ _ c.next_line.new.line.items c.in_err-next_line.field-0.0
-    c.loop.invariant.replied c.next_line.ensures.none_lost c.next_line.ensures.stops c.loop.invariant.told c.in_err-next_line.ensures.fault c.in_err-next_line.ensures.cause)
+    c.loop.invariant.replied c.next_line.ensures.consumes c.next_line.ensures.stops c.loop.invariant.told c.in_err-next_line.ensures.fault c.in_err-next_line.ensures.cause)
 
-pub returns-in_err-reply-clause-early : goal.returns-in_err-reply-clause-early
-returns-in_err-reply-clause-early g c =
+pub returns-in_err-reply-clause-talks : goal.returns-in_err-reply-clause-talks
+returns-in_err-reply-clause-talks g c =
     let is : c.from_residual-in_err-reply.result ≡ Err c.in_err-reply.field-0.0 = search rules in
     let line = c.next_line.new.line.items in
     let t = c.loop.session in
@@ -44,10 +44,10 @@ returns-in_err-reply-clause-early g c =
     if_err (λ e. EndsEarly e c.args.session.now (left_in g.R.Read.remaining c.args.input.now) (left_in g.R.Read.remaining c.next_line.new.input) (g.W.Write.contents c.args.out.now) (g.W.Write.contents c.reply.new.out) (has_read_failed c.next_line.new.input) (g.W.TellingWriter.has_failed c.args.out.now) (g.W.TellingWriter.has_failed c.reply.new.out))
     c.in_err-reply.field-0.0 c.from_residual-in_err-reply.result is
     (unreplied c.args.session.now t c.reply.new.session _ (left_in g.R.Read.remaining c.loop.input) (left_in g.R.Read.remaining c.next_line.new.input) _ (g.W.Write.contents c.loop.out) _ (has_read_failed c.next_line.new.input) _ (g.W.TellingWriter.has_failed c.loop.out) _ line c.in_err-reply.field-0.0
-    c.loop.invariant.replied c.in_ok-next_line.ensures.line c.in_ok-next_line.ensures.rest c.next_line.ensures.none_lost c.next_line.ensures.stops (ltb-true 0 _ (sym c.in_ok-next_line.ensures.more ∙ c.if-not-branch.false)) c.loop.invariant.told made)
+    c.loop.invariant.replied c.in_ok-next_line.ensures.line c.in_ok-next_line.ensures.rest c.next_line.ensures.consumes c.next_line.ensures.stops (ltb-true 0 _ (sym c.in_ok-next_line.ensures.more ∙ c.if-not-branch.false)) c.loop.invariant.told made)
 
-pub returns-in_err-flush_unless_asked-clause-early : goal.returns-in_err-flush_unless_asked-clause-early
-returns-in_err-flush_unless_asked-clause-early g c =
+pub returns-in_err-flush_unless_asked-clause-talks : goal.returns-in_err-flush_unless_asked-clause-talks
+returns-in_err-flush_unless_asked-clause-talks g c =
     let is : c.from_residual-in_err-flush_unless_asked.result ≡ Err c.in_err-flush_unless_asked.field-0.0 = search rules in
     let line = c.as_slice.ensures.value in
     let s = c.loop.session in
@@ -58,4 +58,4 @@ returns-in_err-flush_unless_asked-clause-early g c =
     (unflushed c.args.session.now c.reply.new.session _ (left_in g.R.Read.remaining c.next_line.new.input) _ (g.W.Write.contents c.flush_unless_asked.new.out) (has_read_failed c.next_line.new.input) _ _ c.in_err-flush_unless_asked.field-0.0
     (one_more c.args.session.now s c.reply.new.session _ (left_in g.R.Read.remaining c.loop.input) (left_in g.R.Read.remaining c.next_line.new.input) _ _ _ (g.W.Write.contents c.flush_unless_asked.new.out)
     c.next_line.new.line.items c.loop.invariant.replied c.in_ok-next_line.ensures.line c.in_ok-next_line.ensures.rest written made c.in_err-flush_unless_asked.ensures.kept (ltb-true 0 _ (sym c.in_ok-next_line.ensures.more ∙ c.if-not-branch.false)))
-    c.in_err-flush_unless_asked.ensures.fault c.in_err-flush_unless_asked.ensures.told)
+    c.in_err-flush_unless_asked.ensures.fault c.in_err-flush_unless_asked.ensures.failure)

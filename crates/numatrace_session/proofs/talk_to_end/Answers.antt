@@ -7,12 +7,12 @@ returns-clause-talk g c =
     talks_kept (left_in g.R.Read.remaining c.args.input.now) (left_in g.R.Read.remaining c.talk-ended.new.input) (g.W.Write.contents c.args.out.now) (g.W.Write.contents c.talk-ended.new.out) (g.W.Write.contents c.flush_telling.new.self)
     c.talk-ended.result c.talk-ended.ensures.talk c.in-Ok.ensures.bytes
 
-pub returns-clause-early : goal.returns-clause-early
-returns-clause-early g c =
+pub returns-clause-ends : goal.returns-clause-ends
+returns-clause-ends g c =
     ends_kept (left_in g.R.Read.remaining c.args.input.now) (left_in g.R.Read.remaining c.talk-ended.new.input) (g.W.Write.contents c.args.out.now) (g.W.Write.contents c.talk-ended.new.out) (g.W.Write.contents c.flush_telling.new.self)
-    (has_read_failed c.talk-ended.new.input) _ _ _ c.talk-ended.result c.talk-ended.ensures.early c.in-Ok.ensures.bytes c.in-Ok.ensures.failed
+    (has_read_failed c.talk-ended.new.input) _ _ _ c.talk-ended.result c.talk-ended.ensures.talks c.in-Ok.ensures.bytes c.in-Ok.ensures.failed
 
-pub returns-in_default-clause-early : goal.returns-in_default-clause-early
-returns-in_default-clause-early g c =
+pub returns-in_default-clause-ends : goal.returns-in_default-clause-ends
+returns-in_default-clause-ends g c =
     ends_lost (left_in g.R.Read.remaining c.args.input.now) (left_in g.R.Read.remaining c.talk-ended.new.input) (g.W.Write.contents c.args.out.now) (g.W.Write.contents c.talk-ended.new.out) (g.W.Write.contents c.flush_telling.new.self)
-    (has_read_failed c.talk-ended.new.input) _ _ _ c.talk-ended.result c.talk-ended.ensures.talk c.talk-ended.ensures.early c.in_default.ensures.bytes c.in_default.ensures.failed
+    (has_read_failed c.talk-ended.new.input) _ _ _ c.talk-ended.result c.talk-ended.ensures.talk c.talk-ended.ensures.talks c.in_default.ensures.bytes c.in_default.ensures.failed

@@ -12,7 +12,7 @@ returns-in_default-clause-err g c =
     let segments = a.table.now.segments in
     let ends = of_shared segments (ends_at areas) in
     let covers = of_shared segments (covers_at areas) in
-    let first = c.in_ok-split_step.ensures.ok ends covers c.requires.steps (shared_flat segments areas) (λ p. let small = (shared_few segments areas c.requires.whole p).0 in omega (arith, small, c.count-areas.ensures.small)) in
+    let first = c.in_ok-split_step.ensures.ok ends covers c.requires.steps (shared_flat segments areas) (λ p. let small = (shared_few segments areas c.requires.whole p).0 in omega (arith, small, c.count-areas.ensures.few)) in
     c.join_step.ensures ends covers (subst (λ m. IsSteps m (λ p. ends p + of_shared segments (splits_at areas a.pid a.first) p) covers) (sym c.in_default.ensures.err) first)
 
 pub returns-clause-ok : goal.returns-clause-ok
@@ -23,16 +23,16 @@ returns-clause-ok g c =
     let ends = of_shared segments (ends_at areas) in
     let covers = of_shared segments (covers_at areas) in
     let more = of_shared segments (splits_at areas a.pid a.first) in
-    let first = c.in_ok-split_step.ensures.ok ends covers c.requires.steps (shared_flat segments areas) (λ p. let small = (shared_few segments areas c.requires.whole p).0 in omega (arith, small, c.count-areas.ensures.small)) in
+    let first = c.in_ok-split_step.ensures.ok ends covers c.requires.steps (shared_flat segments areas) (λ p. let small = (shared_few segments areas c.requires.whole p).0 in omega (arith, small, c.count-areas.ensures.few)) in
     c.in-Ok.ensures.ok (λ p. ends p + more p) covers first (flat_more ends covers more (shared_flat segments areas))
     (λ p.
     let small = (shared_few segments areas c.requires.whole p).0 in
     let two = splits_few areas c.requires.apart a.pid a.first p in
     let fewer = masked_few segments (splits_at areas a.pid a.first) p in
-    omega (arith, small, two, fewer, c.count-areas.ensures.small))
+    omega (arith, small, two, fewer, c.count-areas.ensures.few))
 
-pub returns-in_err-split_step-clause-asked : goal.returns-in_err-split_step-clause-asked
-returns-in_err-split_step-clause-asked g c = err_always c.from_residual.result (inl c.in_err-split_step.ensures.asked)
+pub returns-in_err-split_step-clause-allocates : goal.returns-in_err-split_step-clause-allocates
+returns-in_err-split_step-clause-allocates g c = err_always c.from_residual.result (inl c.in_err-split_step.ensures.allocates)
 
-pub returns-in_default-clause-asked : goal.returns-in_default-clause-asked
-returns-in_default-clause-asked g c = inr c.in_default.ensures.asked
+pub returns-in_default-clause-allocates : goal.returns-in_default-clause-allocates
+returns-in_default-clause-allocates g c = inr c.in_default.ensures.allocates

@@ -47,8 +47,8 @@ returns-clause-lines g c =
     lines_end c.args.segments.now.entries areas c.args.pid c.loop-first.lines.items rest.0
     (λ v low high. c.in_default.ensures.none areas rest.0 rest.1 v low (omega (arith, high, c.new-in-loop-first.ensures))) rest.2
 
-pub returns-in_err-push-clause-asked : goal.returns-in_err-push-clause-asked
-returns-in_err-push-clause-asked g c =
+pub returns-in_err-push-clause-allocates : goal.returns-in_err-push-clause-allocates
+returns-in_err-push-clause-allocates g c =
     let segments = c.args.segments.now.entries in
     let areas = c.args.areas.now.entries in
     let lines = c.loop-first.lines.items in

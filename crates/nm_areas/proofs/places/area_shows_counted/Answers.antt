@@ -16,7 +16,7 @@ returns-clause-shown g c h =
       v,
       f.1,
       omega (arith, low, high, front, back, c.saturating_sub.ensures, c.number.ensures, c.number-2.ensures, c.number-3.ensures, c.number-4.ensures),
-      omega (arith, low, high, back, c.number-3.ensures, c.number-4.ensures, c.requires.begins),
+      omega (arith, low, high, back, c.number-3.ensures, c.number-4.ensures, c.requires.range),
       omega arith,
       omega (arith, low, high, back),
       ap (λ (i : ℕ). get page_cmp c.args.places.now.entries (page_in c.args.area.page.segment i)) there ∙ f.4,

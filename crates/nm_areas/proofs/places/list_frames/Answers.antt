@@ -29,5 +29,5 @@ loop-frame-preserved g c =
 pub returns-clause-frames : goal.returns-clause-frames
 returns-clause-frames g c = all_listed c.loop-frame.frames.items c.loop-frame.frame-iterator (values_of c.args.places.now.entries) c.loop-frame.invariant.frames c.in-None.ensures.steps.0
 
-pub returns-in_err-frames-clause-asked : goal.returns-in_err-frames-clause-asked
-returns-in_err-frames-clause-asked g c = search rules
+pub returns-in_err-frames-clause-allocates : goal.returns-in_err-frames-clause-allocates
+returns-in_err-frames-clause-allocates g c = search rules

@@ -27,5 +27,5 @@ loop-page-preserved g c =
 pub returns-clause-placed : goal.returns-clause-placed
 returns-clause-placed g c = all_listed c.loop-page.placed.items c.loop-page.page-iterator c.args.places.now.entries c.loop-page.invariant.placed c.in-None.ensures.steps.0
 
-pub returns-in_err-placed-clause-asked : goal.returns-in_err-placed-clause-asked
-returns-in_err-placed-clause-asked g c = search rules
+pub returns-in_err-placed-clause-allocates : goal.returns-in_err-placed-clause-allocates
+returns-in_err-placed-clause-allocates g c = search rules

@@ -23,8 +23,8 @@ loop-start-init g c =
       );
     }
 
-pub area_shows_counted-requires-clause-begins : goal.area_shows_counted-requires-clause-begins
-area_shows_counted-requires-clause-begins g c = let rest = c.loop-start.invariant.rest in (c.in-Some.ensures.some c.args.table.now.areas rest.0 rest.1).1
+pub area_shows_counted-requires-clause-range : goal.area_shows_counted-requires-clause-range
+area_shows_counted-requires-clause-range g c = let rest = c.loop-start.invariant.rest in (c.in-Some.ensures.some c.args.table.now.areas rest.0 rest.1).1
 
 pub area_shows_counted-requires-clause-indices : goal.area_shows_counted-requires-clause-indices
 area_shows_counted-requires-clause-indices g c =

@@ -17,8 +17,8 @@ returns-clause-split g c = split_changes
 pub returns-clause-join : goal.returns-clause-join
 returns-clause-join g c = join_changes
 
-pub returns-clause-drawn : goal.returns-clause-drawn
-returns-clause-drawn g c = draw_is
+pub returns-clause-machines : goal.returns-clause-machines
+returns-clause-machines g c = draw_is
 
 pub returns-clause-given : goal.returns-clause-given
 returns-clause-given g c = give_is

@@ -19,8 +19,8 @@ some_of k n m more is = omega (arith, more, is)
 all_of : (n k m : ℕ) → n ≡ k → m ≤ k → k ≤ m → n ≡ m
 all_of n k m is past end = omega (arith, is, past, end)
 
-pub returns-in_err-lists-clause-asked : goal.returns-in_err-lists-clause-asked
-returns-in_err-lists-clause-asked g c = on_err c.from_residual.result (takes_some _ c.in_err-lists.ensures.succeeds)
+pub returns-in_err-lists-clause-allocates : goal.returns-in_err-lists-clause-allocates
+returns-in_err-lists-clause-allocates g c = on_err c.from_residual.result (takes_some _ c.in_err-lists.ensures.succeeds)
 
 pub loop-init : goal.loop-init
 loop-init g c = record {
@@ -28,8 +28,8 @@ loop-init g c = record {
   empty = λ k. ap (λ lists. list_at (map lent_shown lists) k) c.in_ok-lists.ensures.items;
 }
 
-pub returns-in_err-push-clause-asked : goal.returns-in_err-push-clause-asked
-returns-in_err-push-clause-asked g c = on_err c.from_residual-in_err-push.result (some_of _ _ _ c.loop-test.true refl)
+pub returns-in_err-push-clause-allocates : goal.returns-in_err-push-clause-allocates
+returns-in_err-push-clause-allocates g c = on_err c.from_residual-in_err-push.result (some_of _ _ _ c.loop-test.true refl)
 
 pub loop-preserved : goal.loop-preserved
 loop-preserved g c =
@@ -50,8 +50,8 @@ loop-asked-init g c = record {
   lists = λ k lt. ap (λ l. l ++ accesses_of k (shown_during c.args.during.now)) (c.loop.invariant.empty k);
 }
 
-pub returns-in_err-push-2-clause-asked : goal.returns-in_err-push-2-clause-asked
-returns-in_err-push-2-clause-asked g c = on_err c.from_residual-in_err-push-2.result (some_of _ _ _ c.in-Some.ensures.item.3.0 c.loop-asked.invariant.count)
+pub returns-in_err-push-2-clause-allocates : goal.returns-in_err-push-2-clause-allocates
+returns-in_err-push-2-clause-allocates g c = on_err c.from_residual-in_err-push-2.result (some_of _ _ _ c.in-Some.ensures.item.3.0 c.loop-asked.invariant.count)
 
 pub loop-asked-preserved : goal.loop-asked-preserved
 loop-asked-preserved g c =

@@ -32,8 +32,8 @@ returns-then-is_empty-2-clause-moves g c =
     let x = c.args.request.now in
     none_made c.new.result c.new-then-is_empty-2.result c.args.machine.now c.args.limit c.args.permit.now.pid c.args.permit.now.all x.batch.pages.items x.batch.nodes.items x.during.items c.new.ensures.items c.new-then-is_empty-2.ensures.items (ap length (sym c.as_slice-pages.ensures.value) ∙ is_zero _ _ c.is_empty.ensures c.if-is_empty.true) (ap length (sym c.as_slice-during.ensures.value) ∙ is_zero _ _ c.is_empty-then-is_empty.ensures c.if-is_empty-2.true)
 
-pub returns-then-is_empty-2-clause-asked : goal.returns-then-is_empty-2-clause-asked
-returns-then-is_empty-2-clause-asked g c = tt
+pub returns-then-is_empty-2-clause-allocates : goal.returns-then-is_empty-2-clause-allocates
+returns-then-is_empty-2-clause-allocates g c = tt
 
 pub cut_pages-requires-clause-some : goal.cut_pages-requires-clause-some
 cut_pages-requires-clause-some g c = c.requires.some
@@ -77,11 +77,11 @@ returns-clause-moves g c =
     let runs = ap stretches_of c.as_slice-runs.ensures.value ∙ c.in_ok-runs.ensures.runs ∙ ap (cut_within c.args.limit) asked in
     batch_moved c.move_runs.result _ _ _ _ _ _ _ runs (ap shown_during c.as_slice-during.ensures.value) c.move_runs.ensures.moves
 
-pub returns-in_err-runs-clause-asked : goal.returns-in_err-runs-clause-asked
-returns-in_err-runs-clause-asked g c = on_err c.from_residual.result (omega (arith, c.in_err-runs.ensures.asked, ap length c.as_slice-pages.ensures.value))
+pub returns-in_err-runs-clause-allocates : goal.returns-in_err-runs-clause-allocates
+returns-in_err-runs-clause-allocates g c = on_err c.from_residual.result (omega (arith, c.in_err-runs.ensures.allocates, ap length c.as_slice-pages.ensures.value))
 
-pub returns-in_err-statuses-clause-asked : goal.returns-in_err-statuses-clause-asked
-returns-in_err-statuses-clause-asked g c = on_err c.from_residual-in_err-statuses.result (
+pub returns-in_err-statuses-clause-allocates : goal.returns-in_err-statuses-clause-allocates
+returns-in_err-statuses-clause-allocates g c = on_err c.from_residual-in_err-statuses.result (
     elim c.else-is_empty.branch [
       | else-is_empty-via-then-is_empty+else-is_empty-2 w ↦ omega (arith, is_more _ _ w.is_empty-then-is_empty.ensures w.if-is_empty-2.false, ap length c.as_slice-during.ensures.value)
       | else-is_empty-via-else-is_empty w ↦ omega (arith, is_more _ _ c.is_empty.ensures w.if-is_empty.false, ap length c.as_slice-pages.ensures.value)
@@ -91,8 +91,8 @@ returns-in_err-statuses-clause-asked g c = on_err c.from_residual-in_err-statuse
 pub move_runs-requires-clause-empty : goal.move_runs-requires-clause-empty
 move_runs-requires-clause-empty g c κs within = c.in_ok-statuses.ensures.items
 
-pub returns-clause-asked : goal.returns-clause-asked
-returns-clause-asked g c = on_err c.move_runs.result (
+pub returns-clause-allocates : goal.returns-clause-allocates
+returns-clause-allocates g c = on_err c.move_runs.result (
     elim c.else-is_empty.branch [
       | else-is_empty-via-then-is_empty+else-is_empty-2 w ↦ omega (arith, is_more _ _ w.is_empty-then-is_empty.ensures w.if-is_empty-2.false, ap length c.as_slice-during.ensures.value)
       | else-is_empty-via-else-is_empty w ↦ omega (arith, is_more _ _ c.is_empty.ensures w.if-is_empty.false, ap length c.as_slice-pages.ensures.value)

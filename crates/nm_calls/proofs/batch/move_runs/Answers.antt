@@ -165,22 +165,22 @@ returns-in_err-told-clause-moves g c = none_ran _ _ _ _ c.from_residual-in_err-t
 pub returns-in_err-answers-clause-moves : goal.returns-in_err-answers-clause-moves
 returns-in_err-answers-clause-moves g c = none_ran _ _ _ _ c.from_residual-in_err-answers.ensures.1
 
-pub returns-in_err-accesses-clause-asked : goal.returns-in_err-accesses-clause-asked
-returns-in_err-accesses-clause-asked g c = on_err c.from_residual.result (some_first _ _ c.in_err-accesses.ensures.asked)
+pub returns-in_err-accesses-clause-allocates : goal.returns-in_err-accesses-clause-allocates
+returns-in_err-accesses-clause-allocates g c = on_err c.from_residual.result (some_first _ _ c.in_err-accesses.ensures.allocates)
 
-pub returns-in_err-told-clause-asked : goal.returns-in_err-told-clause-asked
-returns-in_err-told-clause-asked g c = on_err c.from_residual-in_err-told.result (some_first _ _ (takes_some _ c.in_err-told.ensures.succeeds))
+pub returns-in_err-told-clause-allocates : goal.returns-in_err-told-clause-allocates
+returns-in_err-told-clause-allocates g c = on_err c.from_residual-in_err-told.result (some_first _ _ (takes_some _ c.in_err-told.ensures.succeeds))
 
-pub returns-in_err-answers-clause-asked : goal.returns-in_err-answers-clause-asked
-returns-in_err-answers-clause-asked g c = on_err c.from_residual-in_err-answers.result (some_last _ _ (takes_some _ c.in_err-answers.ensures.succeeds))
+pub returns-in_err-answers-clause-allocates : goal.returns-in_err-answers-clause-allocates
+returns-in_err-answers-clause-allocates g c = on_err c.from_residual-in_err-answers.result (some_last _ _ (takes_some _ c.in_err-answers.ensures.succeeds))
 
 pub index-requires : goal.index-requires
 index-requires g c =
     let lists = c.in_ok-accesses.accesses.items in
     one_of _ _ (length lists) _ _ c.loop-k-test.true c.in_ok-accesses.ensures.lists.0 (length-map lists (lent_shown {A = g.row.A.Denot})) c.in_ok-accesses.accesses.ok.0
 
-pub returns-in_default-clause-asked : goal.returns-in_default-clause-asked
-returns-in_default-clause-asked g c = some_after _ _ _ c.loop-k-test.true
+pub returns-in_default-clause-allocates : goal.returns-in_default-clause-allocates
+returns-in_default-clause-allocates g c = some_after _ _ _ c.loop-k-test.true
 
 pub push_reserved-requires : goal.push_reserved-requires
 push_reserved-requires g c = reserved _ _ _ _ _ c.loop-k-test.true c.loop-k.invariant.queues c.loop-k.invariant.places c.loop-k.told.ok.0
@@ -191,5 +191,5 @@ in_order-requires-clause-empty g c κs within = c.in_ok-answers.ensures.items
 pub in_order-requires-clause-room : goal.in_order-requires-clause-room
 in_order-requires-clause-room g c κs within = c.in_ok-answers.ensures.capacity
 
-pub returns-clause-asked : goal.returns-clause-asked
-returns-clause-asked g c = tt
+pub returns-clause-allocates : goal.returns-clause-allocates
+returns-clause-allocates g c = tt

@@ -26,14 +26,14 @@ loop-area-init g c = ap lines_shown c.in_ok-lines.ensures.items
 pub returns-in_err-area_text-clause-list : goal.returns-in_err-area_text-clause-list
 returns-in_err-area_text-clause-list g c = IfOk-from_err _ _ c.from_residual-in_err-area_text.ensures.0
 
-pub returns-in_err-area_text-clause-asked : goal.returns-in_err-area_text-clause-asked
-returns-in_err-area_text-clause-asked g c = on_err c.from_residual-in_err-area_text.result (omega (arith, c.loop-area-test.true))
+pub returns-in_err-area_text-clause-allocates : goal.returns-in_err-area_text-clause-allocates
+returns-in_err-area_text-clause-allocates g c = on_err c.from_residual-in_err-area_text.result (omega (arith, c.loop-area-test.true))
 
 pub returns-in_err-push-clause-list : goal.returns-in_err-push-clause-list
 returns-in_err-push-clause-list g c = IfOk-from_err _ _ c.from_residual-in_err-push.ensures.0
 
-pub returns-in_err-push-clause-asked : goal.returns-in_err-push-clause-asked
-returns-in_err-push-clause-asked g c = on_err c.from_residual-in_err-push.result (omega (arith, c.loop-area-test.true))
+pub returns-in_err-push-clause-allocates : goal.returns-in_err-push-clause-allocates
+returns-in_err-push-clause-allocates g c = on_err c.from_residual-in_err-push.result (omega (arith, c.loop-area-test.true))
 
 pub returns-clause-list : goal.returns-clause-list
 returns-clause-list g c = c.loop-area.invariant ∙ ap (map (line_text c.args.machine.now c.args.pid)) (take_all c.loop-area.area-index c.args.areas.now (omega (arith, c.loop-area-test.false)))

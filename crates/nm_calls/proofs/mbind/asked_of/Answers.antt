@@ -28,7 +28,7 @@ pub returns-clause-nodes : goal.returns-clause-nodes
 returns-clause-nodes g c =
     let s = c.args.machine.now in
     let allowed = c.in-Some.asking.allowed in
-    let good = good_names s allowed c.args.request.now.mode c.args.request.now.nodes c.in-Some-kept_nodes.ensures.good in
+    let good = good_names s allowed c.args.request.now.mode c.args.request.now.nodes c.in-Some-kept_nodes.ensures.some in
     let kept = subst (AllByRecursion (λ n. n < node_count s.layout)) (sym c.in-Some-kept_nodes.ensures.kept) (usable_nodes s allowed c.args.request.now.nodes good) in
     subst (λ p. AllByRecursion (λ n. n < node_count s.layout) (nodes_named p)) (sym c.policy_of.ensures)
     (named_of (λ n. n < node_count s.layout) c.args.request.now.mode c.in-Some-kept_nodes.kept kept)

@@ -34,8 +34,8 @@ pub make-requires-clause-can_go : goal.make-requires-clause-can_go
 make-requires-clause-can_go g c κs within =
     subst (λ (t : State). CanGo (node_count t.layout) c.in_ok-way.way) (sym c.in_ok-set_range_policy.ensures.ok) c.in_ok-way.ensures.can_go
 
-pub returns-in-Err-clause-asked : goal.returns-in-Err-clause-asked
-returns-in-Err-clause-asked g c = λ runs policy_set is.
+pub returns-in-Err-clause-allocates : goal.returns-in-Err-clause-allocates
+returns-in-Err-clause-allocates g c = λ runs policy_set is.
     let s = c.args.machine.now in
     let b = c.args.binding.now in
     let limit = c.args.limit in
@@ -112,17 +112,17 @@ way_of-requires-clause-few g c κs within = few_of _ _ _ _ (ap length c.as_slice
 pub make-requires-clause-some : goal.make-requires-clause-some
 make-requires-clause-some g c κs within = c.requires.some
 
-pub returns-in_err-pages-clause-asked : goal.returns-in_err-pages-clause-asked
-returns-in_err-pages-clause-asked g c = λ runs policy_set is. inl c.in_err-pages.ensures.asked
+pub returns-in_err-pages-clause-allocates : goal.returns-in_err-pages-clause-allocates
+returns-in_err-pages-clause-allocates g c = λ runs policy_set is. inl c.in_err-pages.ensures.allocates
 
-pub returns-in_err-way-clause-asked : goal.returns-in_err-way-clause-asked
-returns-in_err-way-clause-asked g c = λ runs policy_set is. inl (listed_moves c.args.machine.now c.args.binding.now c.args.asked.flags (subst (λ ps. 0 < length ps) (c.as_slice.ensures.value ∙ c.in_ok-pages.ensures.list) c.in_err-way.ensures.asked))
+pub returns-in_err-way-clause-allocates : goal.returns-in_err-way-clause-allocates
+returns-in_err-way-clause-allocates g c = λ runs policy_set is. inl (listed_moves c.args.machine.now c.args.binding.now c.args.asked.flags (subst (λ ps. 0 < length ps) (c.as_slice.ensures.value ∙ c.in_ok-pages.ensures.list) c.in_err-way.ensures.allocates))
 
-pub returns-then-is_late-clause-asked : goal.returns-then-is_late-clause-asked
-returns-then-is_late-clause-asked g c = λ runs policy_set is. absurd (cc is)
+pub returns-then-is_late-clause-allocates : goal.returns-then-is_late-clause-allocates
+returns-then-is_late-clause-allocates g c = λ runs policy_set is. absurd (cc is)
 
-pub returns-clause-asked : goal.returns-clause-asked
-returns-clause-asked g c = λ runs policy_set is. absurd (cc is)
+pub returns-clause-allocates : goal.returns-clause-allocates
+returns-clause-allocates g c = λ runs policy_set is. absurd (cc is)
 
 pub returns-in_err-set_range_policy-clause-bound : goal.returns-in_err-set_range_policy-clause-bound
 returns-in_err-set_range_policy-clause-bound g c =
@@ -133,5 +133,5 @@ returns-in_err-set_range_policy-clause-bound g c =
     let r = c.from_residual-in_err-set_range_policy.result in
     subst (λ (t : State). Binds r s set t b (mbind_runs c.args.limit set b flags) flags) (sym c.in_err-set_range_policy.ensures.err) (none_bound r s set b (mbind_runs c.args.limit set b flags) flags c.from_residual-in_err-set_range_policy.ensures.1)
 
-pub returns-in_err-set_range_policy-clause-asked : goal.returns-in_err-set_range_policy-clause-asked
-returns-in_err-set_range_policy-clause-asked g c = λ runs policy_set is. inr c.in_err-set_range_policy.ensures.asked
+pub returns-in_err-set_range_policy-clause-allocates : goal.returns-in_err-set_range_policy-clause-allocates
+returns-in_err-set_range_policy-clause-allocates g c = λ runs policy_set is. inr c.in_err-set_range_policy.ensures.allocates

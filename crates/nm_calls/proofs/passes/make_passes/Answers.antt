@@ -94,7 +94,7 @@ next_pass-requires-clause-pages g c κs within =
     something_is _ _ c.loop-node.left.wanted.ok.0 (sym c.is_empty.ensures ∙ c.if-is_empty.false)
 
 -- what is left when memory is refused was among what was asked for
-pub returns-in-Err-clause-asked : goal.returns-in-Err-clause-asked
-returns-in-Err-clause-asked g c =
+pub returns-in-Err-clause-allocates : goal.returns-in-Err-clause-allocates
+returns-in-Err-clause-allocates g c =
     let some : 0 < length c.loop-node.left.wanted.items = something_is _ _ c.loop-node.left.wanted.ok.0 (sym c.is_empty.ensures ∙ c.if-is_empty.false) in
     omega (arith, some, c.loop-node.invariant.fewer)

@@ -17,10 +17,10 @@ returns-in_err-moved-clause-made g c =
 pub returns-clause-made : goal.returns-clause-made
 returns-clause-made g c = ran_without c.in_ok-moved.moved _ _ _ _ _ refl (ap shown_during c.as_slice.ensures) c.in_ok-moved.ensures.moves
 
-pub returns-in_err-statuses-clause-asked : goal.returns-in_err-statuses-clause-asked
-returns-in_err-statuses-clause-asked g c = on_err c.from_residual.result (entries_some c.args.runs.now _ c.requires.count (takes_some _ c.in_err-statuses.ensures.succeeds))
+pub returns-in_err-statuses-clause-allocates : goal.returns-in_err-statuses-clause-allocates
+returns-in_err-statuses-clause-allocates g c = on_err c.from_residual.result (entries_some c.args.runs.now _ c.requires.count (takes_some _ c.in_err-statuses.ensures.succeeds))
 
-pub returns-in_err-moved-clause-asked : goal.returns-in_err-moved-clause-asked
-returns-in_err-moved-clause-asked g c =
+pub returns-in_err-moved-clause-allocates : goal.returns-in_err-moved-clause-allocates
+returns-in_err-moved-clause-allocates g c =
     let none = ap length c.as_slice.ensures in
-    on_err c.from_residual-in_err-moved.result (omega (arith, c.in_err-moved.ensures.asked, none))
+    on_err c.from_residual-in_err-moved.result (omega (arith, c.in_err-moved.ensures.allocates, none))

@@ -29,7 +29,7 @@ loop-page-preserved g c =
     let some : EachHasSome s c.match-place_of.nodes ws = elim c.match-place_of.branch [
       | in-Some+then-index-lt64 w ↦
           subst (λ ns. EachHasSome s ns ws) (sym (w.nodes-is ∙ w.insert.ensures))
-          (some_there s nodes ws k page w.in-Some.node c.loop-page-test.true c.page-item.is c.loop-page.invariant.some w.in-Some.ensures.alone)
+          (some_there s nodes ws k page w.in-Some.node c.loop-page-test.true c.page-item.is c.loop-page.invariant.some w.in-Some.ensures.node)
       | in-Some+else-index-lt64 w ↦ subst (λ ns. EachHasSome s ns ws) (sym w.nodes-is) c.loop-page.invariant.some
       | in_default w ↦ subst (λ ns. EachHasSome s ns ws) (sym w.nodes-is) c.loop-page.invariant.some
     ] in

@@ -23,7 +23,7 @@ returns-then-is_empty g c =
     record {
       runs = λ limit m. ap (λ sent. cut_within limit (each_to b.pid c.args.all sent)) empty ∙ sym (ap (runs_by limit (with_areas_of s m) b.policy c.args.home b.pid c.args.all) none ∙ no_moves limit (with_areas_of s m) b.policy c.args.home b.pid c.args.all);
       can_go = subst (AllByRecursion (λ page. page.to < node_count s.layout)) (sym empty) tt;
-      asked = tt;
+      allocates = tt;
     }
 
 pub returns-in-Interleave-clause-can_go : goal.returns-in-Interleave-clause-can_go
@@ -50,5 +50,5 @@ returns g c =
         subst HasOneAll (sym wanted) (spots_alike b.pid c.args.all c.args.pages.now),
         omega (arith, few, c.requires.few),
       );
-      asked = tt;
+      allocates = tt;
     }

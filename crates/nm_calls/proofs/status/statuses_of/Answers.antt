@@ -26,8 +26,8 @@ loop-address-init g c = c.in_ok-statuses.ensures.items
 pub returns-in_err-push-clause-list : goal.returns-in_err-push-clause-list
 returns-in_err-push-clause-list g c = IfOk-from_err _ _ c.from_residual-in_err-push.ensures.0
 
-pub returns-in_err-push-clause-asked : goal.returns-in_err-push-clause-asked
-returns-in_err-push-clause-asked g c = on_err c.from_residual-in_err-push.result (omega (arith, c.loop-address-test.true))
+pub returns-in_err-push-clause-allocates : goal.returns-in_err-push-clause-allocates
+returns-in_err-push-clause-allocates g c = on_err c.from_residual-in_err-push.result (omega (arith, c.loop-address-test.true))
 
 pub returns-clause-list : goal.returns-clause-list
 returns-clause-list g c =

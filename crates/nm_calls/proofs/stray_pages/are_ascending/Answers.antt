@@ -14,6 +14,6 @@ returns-clause-once c is =
     ascending_once (λ (l : LocatedPage). l.page) pages
     (subst (λ b. IsAllAdjacentAnswer (λ x y b. b ≡ before x y) pages b) is (c.is_sorted_by.ensures.cases before (answers_always _ _ _ (λ f a r h called. search rules))))
 
-pub returns-clause-told : goal.returns-clause-told
-returns-clause-told c =
+pub returns-clause-answer : goal.returns-clause-answer
+returns-clause-answer c =
     c.is_sorted_by.ensures.cases (λ (x y : LocatedPage). is_lt (page_cmp x.page y.page)) (answers_always _ _ _ (λ f a r h called. search rules))

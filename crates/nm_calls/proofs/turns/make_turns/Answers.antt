@@ -35,9 +35,9 @@ returns-clause-made g c =
     let runs = ap stretches_of c.as_slice.ensures.value ∙ c.in_ok-runs.ensures.runs in
     batch_given c.make_runs.result _ _ _ _ _ _ runs c.make_runs.ensures.made
 
-pub returns-clause-asked : goal.returns-clause-asked
-returns-clause-asked g c =
+pub returns-clause-allocates : goal.returns-clause-allocates
+returns-clause-allocates g c =
     let x = c.args in
     let len = sent_length x.pid x.all x.sent.now in
     let runs = ap stretches_of c.as_slice.ensures.value ∙ c.in_ok-runs.ensures.runs in
-    err_more c.make_runs.result (λ some. omega (arith, len, some_runs x.limit (each_to x.pid x.all x.sent.now) c.as_slice.result.now c.requires.some runs some)) c.make_runs.ensures.asked
+    err_more c.make_runs.result (λ some. omega (arith, len, some_runs x.limit (each_to x.pid x.all x.sent.now) c.as_slice.result.now c.requires.some runs some)) c.make_runs.ensures.allocates

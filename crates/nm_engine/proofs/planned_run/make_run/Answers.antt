@@ -70,11 +70,11 @@ begin-run-requires-clause-ready g c κs within =
     let accesses : List Access = accesses_shown {A = g.row.A.Denot} c.args.planned.accesses.now in
     let at = c.of-run.ensures.state in
     let ready = planned_phases r t moves accesses c.args.machine ws c.args.planned.plan at c.requires.plan c.moves-moves.ensures c.in-Ok.ensures.sound c.requires.target in
-    (t, ready_for c.prepare.new.self r c.args.machine t moves accesses at c.requires.target (early_left c.of-run.result t moves accesses c.prepare.new.self c.in-Ok.dues c.in-Ok.ensures.prepared) (early_state c.of-run.result t moves accesses c.prepare.new.self c.in-Ok.dues c.in-Ok.ensures.prepared) ready.1.back ready.1.can)
+    (t, ready_for c.prepare.new.self r c.args.machine t moves accesses at c.requires.target (early_left c.of-run.result t moves accesses c.prepare.new.self c.in-Ok.dues c.in-Ok.ensures.prepares) (early_state c.of-run.result t moves accesses c.prepare.new.self c.in-Ok.dues c.in-Ok.ensures.prepares) ready.1.back ready.1.can)
 
 pub begin-run-requires-clause-few : goal.begin-run-requires-clause-few
 begin-run-requires-clause-few g c κs within =
-    early_room c.of-run.result c.args.planned.requests.now.target c.moves-moves.result.now (accesses_shown {A = g.row.A.Denot} c.args.planned.accesses.now) c.prepare.new.self c.in-Ok.dues c.in-Ok.ensures.prepared
+    early_room c.of-run.result c.args.planned.requests.now.target c.moves-moves.result.now (accesses_shown {A = g.row.A.Denot} c.args.planned.accesses.now) c.prepare.new.self c.in-Ok.dues c.in-Ok.ensures.prepares
 
 pub copy_beside-run-requires-clause-can : goal.copy_beside-run-requires-clause-can
 copy_beside-run-requires-clause-can g c κs within =
@@ -87,12 +87,12 @@ copy_beside-run-requires-clause-can g c κs within =
     let many : length accesses ≡ length c.args.planned.accesses.now = length-map c.args.planned.accesses.now _ in
     record {
       can =
-          all_by (map pending_shown c.in-Ok.dues.items) c.begin-run.ensures.due
-          (subst (λ (ds : List PendingAccess). AllByRecursion (IsPending (pages_of moves) c.prepare.new.self.state) ds) (sym (early_dues c.of-run.result t moves accesses c.prepare.new.self c.in-Ok.dues c.in-Ok.ensures.prepared))
-          (subst (λ (x : State). AllByRecursion (IsPending (pages_of moves) x) (touched_all r t moves accesses).dues) (sym (early_state c.of-run.result t moves accesses c.prepare.new.self c.in-Ok.dues c.in-Ok.ensures.prepared)) ready.1.due));
-      room = c.in-Ok.ensures.prepared.touches.room;
-      unanswered = c.requires.unanswered;
-      space = omega (arith, c.in-Ok.ensures.prepared.touches.len, many, c.requires.space);
+          all_by (map pending_shown c.in-Ok.dues.items) c.begin-run.ensures.pending
+          (subst (λ (ds : List PendingAccess). AllByRecursion (IsPending (pages_of moves) c.prepare.new.self.state) ds) (sym (early_dues c.of-run.result t moves accesses c.prepare.new.self c.in-Ok.dues c.in-Ok.ensures.prepares))
+          (subst (λ (x : State). AllByRecursion (IsPending (pages_of moves) x) (touched_all r t moves accesses).dues) (sym (early_state c.of-run.result t moves accesses c.prepare.new.self c.in-Ok.dues c.in-Ok.ensures.prepares)) ready.1.due));
+      room = c.in-Ok.ensures.prepares.touches.room;
+      unanswered = c.requires.empty;
+      space = omega (arith, c.in-Ok.ensures.prepares.touches.len, many, c.requires.room);
     }
 
 pub copy_beside-run-requires-clause-out : goal.copy_beside-run-requires-clause-out
@@ -123,9 +123,9 @@ as_in_flight g c =
     let moves : List PageMove = c.moves-moves.result.now in
     let accesses : List Access = accesses_shown {A = g.row.A.Denot} c.args.planned.accesses.now in
     let at = c.of-run.ensures.state in
-    let touched = early_state c.of-run.result t moves accesses c.prepare.new.self c.in-Ok.dues c.in-Ok.ensures.prepared in
-    let told = early_dues c.of-run.result t moves accesses c.prepare.new.self c.in-Ok.dues c.in-Ok.ensures.prepared in
-    let left = early_left c.of-run.result t moves accesses c.prepare.new.self c.in-Ok.dues c.in-Ok.ensures.prepared in
+    let touched = early_state c.of-run.result t moves accesses c.prepare.new.self c.in-Ok.dues c.in-Ok.ensures.prepares in
+    let told = early_dues c.of-run.result t moves accesses c.prepare.new.self c.in-Ok.dues c.in-Ok.ensures.prepares in
+    let left = early_left c.of-run.result t moves accesses c.prepare.new.self c.in-Ok.dues c.in-Ok.ensures.prepares in
     let ready = (planned_phases r t moves accesses c.args.machine ws c.args.planned.plan at c.requires.plan c.moves-moves.ensures c.in-Ok.ensures.sound c.requires.target).1 in
     let begun = c.begin-run.ensures.state t (ready_for c.prepare.new.self r c.args.machine t moves accesses at c.requires.target left touched ready.back ready.can) in
     ap (λ (x : State). all_after_copy x (map pending_shown c.in-Ok.dues.items)) begun
@@ -180,9 +180,9 @@ asked_for : (s : State) (t : ℕ) (ws : List Wanted) (p : RunPlan) (moves : List
 asked_for s t [] p moves n plan same h = subst (λ (ms : List PageMove). 0 < length ms + n) (same ∙ ap (λ (q : RunPlan). q.taken) plan.planned) h
 asked_for s t (w ∷ ws) p moves n plan same h = omega arith
 
-pub returns-in-Err-clause-asked : goal.returns-in-Err-clause-asked
-returns-in-Err-clause-asked g c =
-    asked_for _ c.args.planned.requests.now.target c.args.planned.requests.now.wanted.items c.args.planned.plan c.moves-moves.result.now (length c.args.planned.accesses.now) c.requires.plan c.moves-moves.ensures c.in-Err.ensures.asked
+pub returns-in-Err-clause-allocates : goal.returns-in-Err-clause-allocates
+returns-in-Err-clause-allocates g c =
+    asked_for _ c.args.planned.requests.now.target c.args.planned.requests.now.wanted.items c.args.planned.plan c.moves-moves.result.now (length c.args.planned.accesses.now) c.requires.plan c.moves-moves.ensures c.in-Err.ensures.allocates
 
 pub into_machine-requires-clause-none : goal.into_machine-requires-clause-none
 into_machine-requires-clause-none g c κs within = ap (λ (x : RunState). x.left) c.in-Err.ensures.err ∙ c.of-run.ensures.left

@@ -6,11 +6,11 @@ use Rattle.nm_laws.proofs.Soundness.Touched.{reading_keeps}
 use Rattle.nm_laws.proofs.Soundness.Policed.{policy_shows, policy_keeps}
 use Rattle.nm_laws.proofs.laws.mem_stays.Goals as goal
 
-pub returns-clause-decided : goal.returns-clause-decided
-returns-clause-decided c = each_keeps
+pub returns-clause-deciding : goal.returns-clause-deciding
+returns-clause-deciding c = each_keeps
 
-pub returns-clause-freed : goal.returns-clause-freed
-returns-clause-freed c = λ s frames. frees_keep frames s
+pub returns-clause-freeing : goal.returns-clause-freeing
+returns-clause-freeing c = λ s frames. frees_keep frames s
 
 pub returns-clause-batches : goal.returns-clause-batches
 returns-clause-batches c = batch_keeps
@@ -18,11 +18,11 @@ returns-clause-batches c = batch_keeps
 pub returns-clause-runs : goal.returns-clause-runs
 returns-clause-runs c = run_writes
 
-pub returns-clause-together : goal.returns-clause-together
-returns-clause-together c = runs_write
+pub returns-clause-run : goal.returns-clause-run
+returns-clause-run c = runs_write
 
-pub returns-clause-read : goal.returns-clause-read
-returns-clause-read c = λ s left pid address len q at h. reading_keeps s left pid address len h q at
+pub returns-clause-reading : goal.returns-clause-reading
+returns-clause-reading c = λ s left pid address len q at h. reading_keeps s left pid address len h q at
 
 pub returns-clause-policies : goal.returns-clause-policies
 returns-clause-policies c = λ s pid address len policy q v at h.

@@ -5,8 +5,8 @@ use Rattle.nm_memory.specs.views.Frames.{CanFree, with_freed}
 use Rattle.nm_laws.proofs.Lists.{drop_item}
 use Rattle.nm_memory.proofs.frames.free_frames.Goals as goal
 
-pub append-requires-clause-in_machine : goal.append-requires-clause-in_machine
-append-requires-clause-in_machine g c =
+pub append-requires-clause-frame : goal.append-requires-clause-frame
+append-requires-clause-frame g c =
     let at = drop_item c.args.frames.now c.loop-frame.frame-index c.frame-item.result c.loop-frame-test.true c.frame-item.is in
     (subst (CanFree c.loop-frame.nodes) at c.loop-frame.invariant.can).0
 

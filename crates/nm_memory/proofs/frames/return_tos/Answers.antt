@@ -7,8 +7,8 @@ use Rattle.nm_model.specs.definitions.BeforeCopy.{frames_taken}
 use Rattle.nm_memory.proofs.FreeLists.Returned.{left_from, can_left, one_back, there_now}
 use Rattle.nm_memory.proofs.frames.return_tos.Goals as goal
 
-pub prepend-requires-clause-in_machine : goal.prepend-requires-clause-in_machine
-prepend-requires-clause-in_machine g c =
+pub prepend-requires-clause-frame : goal.prepend-requires-clause-frame
+prepend-requires-clause-frame g c =
     let item = (slice_index_or c.args.moves.now (c.loop-left.left - 1) c.index-moves-left.result).to in
     let can = can_left c.args.moves.now c.loop-left.left c.index-moves-left.result c.args.nodes.now c.args.node c.loop-left-test.true c.loop-left.invariant.few c.requires.can in
     subst (λ (q : Pool). item < sum q.sizes) (sym c.loop-left.invariant.nodes) can.0

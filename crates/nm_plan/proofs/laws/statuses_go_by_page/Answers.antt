@@ -5,5 +5,5 @@ use Rattle.nm_plan.proofs.laws.statuses_go_by_page.Goals as goal
 pub returns-clause-status : goal.returns-clause-status
 returns-clause-status c classes front target = statuses_closed classes target [] front
 
-pub returns-clause-repeats : goal.returns-clause-repeats
-returns-clause-repeats c classes front target i j page from other first later = alike classes front target i j page from other first later
+pub returns-clause-classes : goal.returns-clause-classes
+returns-clause-classes c classes front target i j page from other first later = alike classes front target i j page from other first later

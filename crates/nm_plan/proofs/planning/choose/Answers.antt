@@ -16,7 +16,7 @@ returns-in_default g c =
       front = ap (λ (n : Choice). n.front) (sym is);
       found = c.requires.found;
       capacity = refl;
-      asked = tt;
+      allocates = tt;
       moving = tt;
     }
 
@@ -35,7 +35,7 @@ returns-then-has g c =
       front = ap (λ (n : Choice). n.front) (sym is);
       found = c.requires.found;
       capacity = refl;
-      asked = tt;
+      allocates = tt;
       moving = tt;
     }
 
@@ -53,7 +53,7 @@ returns-in_default-get g c =
       front = none_left c.args.free_front.now c.len.result (length c.args.moves.now.items) at few ∙ ap (λ (n : Choice). n.front) (sym is);
       found = c.requires.found;
       capacity = refl;
-      asked = tt;
+      allocates = tt;
       moving = tt;
     }
 
@@ -77,8 +77,8 @@ returns g c =
       status = node_status c.number-2.result c.args.target c.number-2.ensures c.requires.target ∙ ap (λ (n : Choice). n.status) (sym is);
       moves = one_taken c.args.class c.args.moves.now.items c.args.free_front.now c.args.target t c.push_reserved.new.self.items made (ap (λ (n : Choice). n.taken) is);
       front = front_after c.args.class c.args.moves.now.items c.args.free_front.now c.args.target t c.push_reserved.new.self.items made (ap (λ (n : Choice). n.front) is);
-      found = subst (λ (us : List PageMove). Finds c.add.new.self us) (ap (λ (us : List PageMove). us ++ t ∷ []) c.as_slice-2.ensures.value ∙ sym made) (c.in_ok-add.ensures.noted t refl);
+      found = subst (λ (us : List PageMove). Finds c.add.new.self us) (ap (λ (us : List PageMove). us ++ t ∷ []) c.as_slice-2.ensures.value ∙ sym made) (c.in_ok-add.ensures.finds t refl);
       capacity = c.push_reserved.ensures.capacity;
-      asked = tt;
+      allocates = tt;
       moving = tt;
     }

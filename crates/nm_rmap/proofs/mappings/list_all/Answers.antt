@@ -30,5 +30,5 @@ loop-spot-preserved g c =
 pub returns-clause-all : goal.returns-clause-all
 returns-clause-all g c = sym (append-nil c.loop-spot.spots.items) ∙ sym (ap (λ xs. c.loop-spot.spots.items ++ xs) c.in-None.ensures.steps.0) ∙ c.loop-spot.invariant.spots
 
-pub returns-in_err-spots-clause-asked : goal.returns-in_err-spots-clause-asked
-returns-in_err-spots-clause-asked g c = search rules
+pub returns-in_err-spots-clause-allocates : goal.returns-in_err-spots-clause-allocates
+returns-in_err-spots-clause-allocates g c = search rules

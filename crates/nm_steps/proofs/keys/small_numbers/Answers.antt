@@ -3,8 +3,8 @@ use Rattle.nm_steps.specs.Form.{number_below}
 use Rattle.nm_steps.proofs.Memory.{has_listed, starts_listed}
 use Rattle.nm_steps.proofs.keys.small_numbers.Goals as goal
 
-pub returns-clause-asked : goal.returns-clause-asked
-returns-clause-asked g c = λ is. has_listed g.V.JsonValue.as_data c.in_ok-list.field-0.now _ c.in_ok-list.ensures.value (c.smalls_of.ensures.asked is)
+pub returns-clause-allocates : goal.returns-clause-allocates
+returns-clause-allocates g c = λ is. has_listed g.V.JsonValue.as_data c.in_ok-list.field-0.now _ c.in_ok-list.ensures.value (c.smalls_of.ensures.allocates is)
 
 pub returns-clause-first : goal.returns-clause-first
 returns-clause-first g c = λ is. starts_listed g.V.JsonValue.as_data c.in_ok-list.field-0.now (number_below (2 ^ 32)) _ c.in_ok-list.ensures.value (c.smalls_of.ensures.first is)

@@ -16,15 +16,15 @@ loop-value-preserved g c =
       first = λ more. begins_by (flight_asks c.args.runs) g.V.JsonValue.as_data c.args.values.now c.loop-value.value-index c.value-item.result c.loop-value-test.true c.value-item.is (is_read _ _ _ c.in_ok-flight.ensures.flight) c.loop-value.invariant.first;
     }
 
-pub returns-in_err-put-clause-asked : goal.returns-in_err-put-clause-asked
-returns-in_err-put-clause-asked g c = λ memory.
+pub returns-in_err-put-clause-allocates : goal.returns-in_err-put-clause-allocates
+returns-in_err-put-clause-allocates g c = λ memory.
     begins_by (flight_asks c.args.runs) g.V.JsonValue.as_data c.args.values.now c.loop-value.value-index c.value-item.result c.loop-value-test.true c.value-item.is (is_read _ _ _ c.in_ok-flight.ensures.flight) c.loop-value.invariant.first
 
-pub returns-in_err-flight-clause-asked : goal.returns-in_err-flight-clause-asked
-returns-in_err-flight-clause-asked g c = λ is.
+pub returns-in_err-flight-clause-allocates : goal.returns-in_err-flight-clause-allocates
+returns-in_err-flight-clause-allocates g c = λ is.
     let memory = handed_on c.from_residual.result c.in_flight.result _ _ c.from_residual.ensures c.in_err-flight.was is in
     begins_by (flight_asks c.args.runs) g.V.JsonValue.as_data c.args.values.now c.loop-value.value-index c.value-item.result c.loop-value-test.true c.value-item.is
-    (is_asked_in _ _ _ (c.in_flight.ensures.run memory) (c.in_flight.ensures.asked memory)) c.loop-value.invariant.first
+    (is_asked_in _ _ _ (c.in_flight.ensures.run memory) (c.in_flight.ensures.allocates memory)) c.loop-value.invariant.first
 
 pub returns-in_err-flight-clause-flights : goal.returns-in_err-flight-clause-flights
 returns-in_err-flight-clause-flights g c =

@@ -25,7 +25,7 @@ loop-k-preserved g c = record {
 
 pub returns-in-Err-Memory-clause-first : goal.returns-in-Err-Memory-clause-first
 returns-in-Err-Memory-clause-first g c = λ memory.
-    begins_by (step_asks c.args.limit) g.V.JsonValue.as_data c.args.values.now c.loop-k.k c.index-values-k.result c.loop-k-test.true c.index-values-k.is (is_asked _ _ (c.in-Err-Memory.ensures.asked (ap Err c.in-Err-Memory.field-0-is))) c.loop-k.invariant.first
+    begins_by (step_asks c.args.limit) g.V.JsonValue.as_data c.args.values.now c.loop-k.k c.index-values-k.result c.loop-k-test.true c.index-values-k.is (is_asked _ _ (c.in-Err-Memory.ensures.allocates (ap Err c.in-Err-Memory.field-0-is))) c.loop-k.invariant.first
 
 pub returns-in_err-put-clause-first : goal.returns-in_err-put-clause-first
 returns-in_err-put-clause-first g c = λ memory.

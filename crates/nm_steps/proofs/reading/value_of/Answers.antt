@@ -14,7 +14,7 @@ returns-in-Ok-read-clause-value c =
     let text = c.in-Ok.ensures.cases in
     rw (value_is c.args.bytes.now _ text.1 (ap read (sym text.0) ∙ c.in-Ok-read.ensures.value)) refl
 
-pub returns-in-Err-Memory-clause-asked : goal.returns-in-Err-Memory-clause-asked
-returns-in-Err-Memory-clause-asked c = λ _.
+pub returns-in-Err-Memory-clause-allocates : goal.returns-in-Err-Memory-clause-allocates
+returns-in-Err-Memory-clause-allocates c = λ _.
     let text = c.in-Ok.ensures.cases in
-    (is_utf8-from_IsUtf8 c.args.bytes.now text.1, subst (NeedsMemory (room c.args.scratch.now)) text.0 (c.in-Err-Memory.ensures.asked (ap Err c.in-Err-Memory.field-0-is)))
+    (is_utf8-from_IsUtf8 c.args.bytes.now text.1, subst (NeedsMemory (room c.args.scratch.now)) text.0 (c.in-Err-Memory.ensures.allocates (ap Err c.in-Err-Memory.field-0-is)))

@@ -15,10 +15,10 @@ returns-then-all_in_range-clause-value c =
     let fits : is_some (of_json j) ≡ true = search rules in
     ap (option_and_then of_json) (ap (λ ts. option_and_then (λ p. if_last p.0 p.1) (value 127 ts)) (sym tokens_are) ∙ found) ∙ in_range j fits
 
-pub returns-in_err-reader-clause-asked : goal.returns-in_err-reader-clause-asked
-returns-in_err-reader-clause-asked c = λ _. inl c.in_err-reader.ensures.full
+pub returns-in_err-reader-clause-allocates : goal.returns-in_err-reader-clause-allocates
+returns-in_err-reader-clause-allocates c = λ _. inl c.in_err-reader.ensures.full
 
-pub returns-in_err-value-clause-asked : goal.returns-in_err-value-clause-asked
-returns-in_err-value-clause-asked c = λ is.
+pub returns-in_err-value-clause-allocates : goal.returns-in_err-value-clause-allocates
+returns-in_err-value-clause-allocates c = λ is.
     let memory = handed_on c.from_residual-in_err-value.result c.next_tree.result _ _ c.from_residual-in_err-value.ensures c.in_err-value.was is in
-    inr (ap opens (sym c.in_ok-reader.ensures.ok) ∙ c.next_tree.ensures.asked memory)
+    inr (ap opens (sym c.in_ok-reader.ensures.ok) ∙ c.next_tree.ensures.allocates memory)

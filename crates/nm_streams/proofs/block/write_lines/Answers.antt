@@ -20,8 +20,8 @@ returns-in-Ok-eq0-clause-broken g c = (take c.loop-at.at c.args.lines.now, drop 
 pub returns-in-Err-clause-broken : goal.returns-in-Err-clause-broken
 returns-in-Err-clause-broken g c = (take c.loop-at.at c.args.lines.now, drop c.loop-at.at c.args.lines.now, take-append-drop c.loop-at.at c.args.lines.now, omega (arith, length-drop c.loop-at.at c.args.lines.now, c.loop-at-test.true), appends_kept (g.W.Write.contents c.args.writer.now) (g.W.Write.contents c.loop-at.writer) (g.W.Write.contents c.write_telling.new.self) _ c.loop-at.invariant.written c.in-Err.ensures.bytes)
 
-pub returns-in-Ok-eq0-clause-told : goal.returns-in-Ok-eq0-clause-told
-returns-in-Ok-eq0-clause-told g c =
+pub returns-in-Ok-eq0-clause-failure : goal.returns-in-Ok-eq0-clause-failure
+returns-in-Ok-eq0-clause-failure g c =
     let rest : c.split_at.result.1.now ≡ drop c.loop-at.at c.args.lines.now = search rules in
     let some : 0 < length c.split_at.result.1.now = rw rest (omega (arith, length-drop c.loop-at.at c.args.lines.now, c.loop-at-test.true)) in
     nothing_taken _ c.split_at.result.1.now _ _ c.in-Ok-eq0.field-0-test some c.in-Ok-eq0.ensures.failed

@@ -19,8 +19,8 @@ returns-then-count-eq0-clause-given g c =
     subst (λ (n : ℕ). g.R.TellingReader.gave c.args.reader.now c.read_telling.new.self n) none
     (g.met.R.TellingReader.gave_more c.args.reader.now c.loop-buffer.reader c.read_telling.new.self so_far c.in-Ok.count c.loop-buffer.invariant.given c.in-Ok.ensures.given)
 
-pub returns-then-count-eq0-clause-told : goal.returns-then-count-eq0-clause-told
-returns-then-count-eq0-clause-told g c =
+pub returns-then-count-eq0-clause-failure : goal.returns-then-count-eq0-clause-failure
+returns-then-count-eq0-clause-failure g c =
     let so_far = length c.loop-buffer.bytes.items in
     let none : so_far + c.in-Ok.count ≡ so_far = omega arith in
     let few : so_far ≤ c.args.limit = search rules in (
@@ -33,8 +33,8 @@ returns-then-count-eq0-clause-told g c =
       ),
     )
 
-pub returns-then-is_err-clause-told : goal.returns-then-is_err-clause-told
-returns-then-is_err-clause-told g c =
+pub returns-then-is_err-clause-failure : goal.returns-then-is_err-clause-failure
+returns-then-is_err-clause-failure g c =
     let so_far = length c.loop-buffer.bytes.items in
     let some : 0 < so_far + c.in-Ok.count = omega arith in (
       c.in-Ok.ensures.failed ∙ c.loop-buffer.invariant.failed,
@@ -46,8 +46,8 @@ returns-then-is_err-clause-told g c =
     )
 
 -- a read that fails comes after no more bytes than the limit, and gives none
-pub returns-in-Err-clause-told : goal.returns-in-Err-clause-told
-returns-in-Err-clause-told g c =
+pub returns-in-Err-clause-failure : goal.returns-in-Err-clause-failure
+returns-in-Err-clause-failure g c =
     let so_far = length c.loop-buffer.bytes.items in
     let few : so_far + 0 ≤ c.args.limit = search rules in
     inl (

@@ -10,7 +10,7 @@ pub loop-place-init : goal.loop-place-init
 loop-place-init g c =
     record {
       fits = c.place_from-from.ensures.fits;
-      left = ap (λ m. c.args.list.now.items ++ m) (sym (leaf-first c.args.leaf.now c.args.last c.args.first c.place_from-from.result c.place_from-from.ensures.reached c.place_from-from.ensures.past));
+      left = ap (λ m. c.args.list.now.items ++ m) (sym (leaf-first c.args.leaf.now c.args.last c.args.first c.place_from-from.result c.place_from-from.ensures.first c.place_from-from.ensures.last));
       before = unextended c.args.list.now.items;
     }
 

@@ -4,8 +4,8 @@ use Rattle.nm_board.proofs.Callers.{can_give}
 use Rattle.nm_threads.proofs.Tickets.{beyond, beyond_at_most, beyond_last}
 use Rattle.nm_threads.proofs.worker.work_off.Goals as goal
 
-pub give-requires-clause-copied : goal.give-requires-clause-copied
-give-requires-clause-copied g c = can_give c.args.board.now.jobs c.in-Some.job c.copy.new.self (search (rules, c.in-Some.ensures.job.laid, c.loop-job.invariant.0.own)) c.copy.ensures
+pub give-requires-clause-job : goal.give-requires-clause-job
+give-requires-clause-job g c = can_give c.args.board.now.jobs c.in-Some.job c.copy.new.self (search (rules, c.in-Some.ensures.job.laid, c.loop-job.invariant.0.own)) c.copy.ensures
 
 pub loop-job-smaller : goal.loop-job-smaller
 loop-job-smaller g c =

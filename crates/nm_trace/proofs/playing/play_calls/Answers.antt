@@ -14,8 +14,8 @@ returns-in_default-finish-clause-plays g c =
     let calls = map call_of c.args.calls.now in
     let at = call_at call_of c.args.calls.now c.loop-k.k c.index-calls-k.result c.loop-k-test.true c.index-calls-k.is in
     let l = c.loop-k.invariant in
-    let stop = rw l.made at c.in_default.ensures.told in
-    let asks = rw l.made at c.in_default.ensures.asked in (
+    let stop = rw l.made at c.in_default.ensures.lines in
+    let asks = rw l.made at c.in_default.ensures.allocates in (
       c.loop-k.k,
       omega (arith, at.0),
       inr (_, slice_get_read calls _ c.loop-k.k _ refl at.0 at.1, asks, stop.0),
@@ -27,8 +27,8 @@ returns-in_default-clause-plays g c =
     let calls = map call_of c.args.calls.now in
     let at = call_at call_of c.args.calls.now c.loop-k.k c.index-calls-k.result c.loop-k-test.true c.index-calls-k.is in
     let l = c.loop-k.invariant in
-    let stop = rw l.made at c.in_default.ensures.told in
-    let asks = rw l.made at c.in_default.ensures.asked in (
+    let stop = rw l.made at c.in_default.ensures.lines in
+    let asks = rw l.made at c.in_default.ensures.allocates in (
       (_, slice_get_read calls _ c.loop-k.k _ refl at.0 at.1, asks, stop.0),
       ends_whole g.W.Write.contents _ _ _ _ _ _ _ l.whole stop.1 stop.2 l.stands c.in-Ok-finish.ensures.whole,
     )
@@ -38,7 +38,7 @@ returns-then-is_broken-clause-plays g c =
     let calls = map call_of c.args.calls.now in
     let at = call_at call_of c.args.calls.now c.loop-k.k c.index-calls-k.result c.loop-k-test.true c.index-calls-k.is in
     let l = c.loop-k.invariant in
-    let line = rw l.made at c.in-Ok.ensures.told in
+    let line = rw l.made at c.in-Ok.ensures.lines in
     let next : c.loop-k.k + 1 - 1 ≡ c.loop-k.k = omega arith in (
       c.loop-k.k + 1,
       omega (arith, at.0),
@@ -46,15 +46,15 @@ returns-then-is_broken-clause-plays g c =
       rw next (puts_broken g.W.Write.contents g.W.TellingWriter.has_failed 65536 _ _ _ _ _ _ (report_from 0 c.args.system.now (take c.loop-k.k calls)) _ _ l.whole (sym c.is_broken.ensures ∙ c.if-is_broken.true) l.stands l.few (omega arith) (report_more c.args.system.now calls c.loop-k.k _ at.0 at.1) line.0),
     )
 
-pub returns-then-is_broken-clause-told : goal.returns-then-is_broken-clause-told
-returns-then-is_broken-clause-told g c = rw (sym c.is_broken.ensures ∙ c.if-is_broken.true) at (c.in-Ok.ensures.told.0.fails _ c.loop-k.invariant.failed)
+pub returns-then-is_broken-clause-failure : goal.returns-then-is_broken-clause-failure
+returns-then-is_broken-clause-failure g c = rw (sym c.is_broken.ensures ∙ c.if-is_broken.true) at (c.in-Ok.ensures.lines.0.fails _ c.loop-k.invariant.failed)
 
 pub loop-k-preserved : goal.loop-k-preserved
 loop-k-preserved g c =
     let calls = map call_of c.args.calls.now in
     let at = call_at call_of c.args.calls.now c.loop-k.k c.index-calls-k.result c.loop-k-test.true c.index-calls-k.is in
     let l = c.loop-k.invariant in
-    let line = rw l.made at c.in-Ok.ensures.told in record {
+    let line = rw l.made at c.in-Ok.ensures.lines in record {
       made = line.1 ∙ sym (state_more c.args.system.now calls c.loop-k.k _ at.0 at.1);
       whole = sym c.is_broken.ensures ∙ c.if-is_broken.false;
       stands = subst (Stands _ _ _ _) (sym (report_more c.args.system.now calls c.loop-k.k _ at.0 at.1)) (line.0.stands _ _ l.stands);

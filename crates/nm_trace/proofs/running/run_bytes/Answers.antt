@@ -13,7 +13,7 @@ returns-in_err-trace-clause-runs g c =
     let is : c.from_residual.result ≡ Err c.in_err-trace.field-0.0 = search rules in
     no_trace _ c.args.bytes.now (g.W.Write.contents c.args.writer.now) c.in_err-trace.field-0.0 c.from_residual.result
     (unread_fails contents_of (trace_of c.args.bytes.now) c.read_trace.result _ c.in_err-trace.was c.read_trace.ensures.trace)
-    (λ k e. (c.read_trace.ensures.asked (before_steps contents_of (trace_of c.args.bytes.now) c.read_trace.result k c.read_trace.ensures.trace (c.in_err-trace.was ∙ ap Err e))).1)
+    (λ k e. (c.read_trace.ensures.allocates (before_steps contents_of (trace_of c.args.bytes.now) c.read_trace.result k c.read_trace.ensures.trace (c.in_err-trace.was ∙ ap Err e))).1)
     is
 
 pub returns-in_default-clause-runs : goal.returns-in_default-clause-runs
@@ -41,4 +41,4 @@ returns-clause-runs g c =
 pub returns-in_err-summary-clause-writes : goal.returns-in_err-summary-clause-writes
 returns-in_err-summary-clause-writes g c =
     let is : c.from_residual-in_err-summary.result ≡ Err c.in_err-summary.field-0.0 = search rules in
-    writes_of_err _ _ c.in_err-summary.field-0.0 c.play_calls.result c.from_residual-in_err-summary.result c.in_err-summary.was is c.play_calls.ensures.told
+    writes_of_err _ _ c.in_err-summary.field-0.0 c.play_calls.result c.from_residual-in_err-summary.result c.in_err-summary.was is c.play_calls.ensures.failure

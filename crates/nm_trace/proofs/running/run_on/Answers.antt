@@ -7,7 +7,7 @@ use Rattle.nm_trace.proofs.running.run_on.Goals as goal
 pub returns-in_err-bytes-clause-runs : goal.returns-in_err-bytes-clause-runs
 returns-in_err-bytes-clause-runs g c =
     let is : c.from_residual.result ≡ Err c.in_err-bytes.field-0.0 = search rules in
-    (Err c.in_err-bytes.field-0.0, c.in_err-bytes.ensures.told, (is, appends_none (g.W.Write.contents c.args.writer.now)), tt)
+    (Err c.in_err-bytes.field-0.0, c.in_err-bytes.ensures.trace, (is, appends_none (g.W.Write.contents c.args.writer.now)), tt)
 
 pub returns-clause-runs : goal.returns-clause-runs
 returns-clause-runs g c =

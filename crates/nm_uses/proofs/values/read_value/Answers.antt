@@ -18,14 +18,14 @@ returns-clause-trace c =
     let text = c.in-Ok.ensures.cases in
     rw (value_is c.args.bytes.now _ text.1 (ap read (sym text.0) ∙ c.in-Ok-from_str.ensures.ok)) c.from_value.ensures.trace
 
-pub returns-clause-asked : goal.returns-clause-asked
-returns-clause-asked c = λ _.
+pub returns-clause-allocates : goal.returns-clause-allocates
+returns-clause-allocates c = λ _.
     let text = c.in-Ok.ensures.cases in
     let found = value_is c.args.bytes.now _ text.1 (ap read (sym text.0) ∙ c.in-Ok-from_str.ensures.ok) in
     text_of_read c.args.bytes.now _ (ap (λ (o : Option Data). ok_or o NotJson) found)
 
-pub returns-then-is_memory-clause-asked : goal.returns-then-is_memory-clause-asked
-returns-then-is_memory-clause-asked c = λ _.
+pub returns-then-is_memory-clause-allocates : goal.returns-then-is_memory-clause-allocates
+returns-then-is_memory-clause-allocates c = λ _.
     let text = c.in-Ok.ensures.cases in
     let memory = c.in-Err.ensures.memory (c.is_memory.ensures.0 c.if-is_memory.true) in
     (is_utf8-from_IsUtf8 c.args.bytes.now text.1, subst (λ (xs : List ℕ). 0 < length xs) text.0 memory)

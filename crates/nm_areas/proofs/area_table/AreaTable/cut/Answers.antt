@@ -53,10 +53,10 @@ returns-clause-ok g c =
 
 -- ---- memory is asked for only where there is something to split
 
-pub returns-in_err-cut-clause-asked : goal.returns-in_err-cut-clause-asked
-returns-in_err-cut-clause-asked g c = err_always c.from_residual.result (inl c.in_err-cut.ensures.asked)
+pub returns-in_err-cut-clause-allocates : goal.returns-in_err-cut-clause-allocates
+returns-in_err-cut-clause-allocates g c = err_always c.from_residual.result (inl c.in_err-cut.ensures.allocates)
 
-pub returns-in-Some-clause-asked : goal.returns-in-Some-clause-asked
-returns-in-Some-clause-asked g c =
+pub returns-in-Some-clause-allocates : goal.returns-in-Some-clause-allocates
+returns-in-Some-clause-allocates g c =
     inr (still_split c.args.pid c.args.first c.args.end c.args.self.now.areas c.requires.whole c.requires.apart
-    (subst (λ (t : Table). HasSplit t.areas c.args.pid c.args.end) c.in_ok-cut.ensures.ok c.in-Err.ensures.asked))
+    (subst (λ (t : Table). HasSplit t.areas c.args.pid c.args.end) c.in_ok-cut.ensures.ok c.in-Err.ensures.allocates))

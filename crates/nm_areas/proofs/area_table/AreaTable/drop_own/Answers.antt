@@ -17,7 +17,7 @@ loop-start-preserved-then-not-is_shown g c =
           ∙ step_others c.args.pid c.args.first c.args.end c.loop-start.self.areas c.take.new.self.areas _ _ some.2 gone some.0 some.1 _ c.loop-start.invariant.others;
       next = ap (λ (t : Table). t.next) c.drop_segment.ensures ∙ ap (λ (t : Table). t.next) c.take.ensures.gone ∙ c.loop-start.invariant.next;
       segments = step_gone c.args.pid c.args.first c.args.end c.loop-start.self.areas c.take.new.self.areas _ _ some.2 gone c.is_shown.result c.is_shown.ensures c.if-not-is_shown.true
-          c.loop-start.self.segments c.drop_segment.new.self.segments all c.requires.named c.loop-start.invariant.segments
+          c.loop-start.self.segments c.drop_segment.new.self.segments all c.requires.sorted c.loop-start.invariant.segments
           (dropped_from c.loop-start.self c.take.new.self c.drop_segment.new.self _ _ c.take.ensures.gone c.drop_segment.ensures)
           ∙ sym (ap (λ (t : Table). segments_left all t.areas) c.drop_segment.ensures);
     }

@@ -27,6 +27,6 @@ returns-clause-ok g c =
     ∙ all_repoliced pid first end c.args.policy (omega (arith, c.requires.some)) areas c.requires.whole)
     ∙ ap (λ (m : Table). with_areas m after) split
 
-pub returns-in_err-cut-clause-asked : goal.returns-in_err-cut-clause-asked
-returns-in_err-cut-clause-asked g c =
-    err_always c.from_residual.result c.in_err-cut.ensures.asked
+pub returns-in_err-cut-clause-allocates : goal.returns-in_err-cut-clause-allocates
+returns-in_err-cut-clause-allocates g c =
+    err_always c.from_residual.result c.in_err-cut.ensures.allocates

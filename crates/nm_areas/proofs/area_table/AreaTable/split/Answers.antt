@@ -50,7 +50,7 @@ returns-clause-ok g c =
     c.in-Some.ensures (omega (arith, facts.1, c.number.ensures, c.number-2.ensures)) (omega (arith, facts.1, c.if-front-eq0.false, c.number.ensures, c.number-2.ensures))
     c.requires.whole c.requires.apart c.in_ok-add.ensures.ordered c.in_ok-add.ensures.ok c.put.ensures
 
-pub returns-in_err-add-clause-asked : goal.returns-in_err-add-clause-asked
-returns-in_err-add-clause-asked g c =
+pub returns-in_err-add-clause-allocates : goal.returns-in_err-add-clause-allocates
+returns-in_err-add-clause-allocates g c =
     let facts = over_facts c.args.pid c.args.at c.args.self.now.areas _ _ c.in-Some.ensures in
     err_always c.from_residual.result (_, sym c.in-Some.ensures, omega (arith, facts.1, c.if-front-eq0.false, c.number.ensures, c.number-2.ensures))

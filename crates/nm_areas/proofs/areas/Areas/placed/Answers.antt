@@ -6,5 +6,5 @@ use Rattle.nm_areas.proofs.areas.Areas.placed.Goals as goal
 pub returns-clause-placed : goal.returns-clause-placed
 returns-clause-placed g c = subst (λ (m : Mapping). IfOk c.list_placed.result (λ placed. placed.items ≡ m.place)) c.self.view_is c.list_placed.ensures.placed
 
-pub returns-clause-asked : goal.returns-clause-asked
-returns-clause-asked g c = subst (λ (m : Mapping). OnErr c.list_placed.result (0 < length m.place)) c.self.view_is c.list_placed.ensures.asked
+pub returns-clause-allocates : goal.returns-clause-allocates
+returns-clause-allocates g c = subst (λ (m : Mapping). OnErr c.list_placed.result (0 < length m.place)) c.self.view_is c.list_placed.ensures.allocates

@@ -147,8 +147,8 @@ lose_all-requires-clause-range g c = omega (arith, c.requires.some)
 pub lose_all-requires-clause-steps : goal.lose_all-requires-clause-steps
 lose_all-requires-clause-steps g c = c.count_out_own.ensures
 
-pub drop_own-requires-clause-named : goal.drop_own-requires-clause-named
-drop_own-requires-clause-named g c = subst (λ (t : Table). IsStrictlySortedBy nat_cmp (keys_of t.segments)) (sym c.in-Ok.ensures.ok) c.self.invariant.0.named
+pub drop_own-requires-clause-sorted : goal.drop_own-requires-clause-sorted
+drop_own-requires-clause-sorted g c = subst (λ (t : Table). IsStrictlySortedBy nat_cmp (keys_of t.segments)) (sym c.in-Ok.ensures.ok) c.self.invariant.0.named
 
 pub returns-clause-room : goal.returns-clause-room
 returns-clause-room g c =
@@ -176,16 +176,16 @@ returns-then-is_free-clause-freed g c =
 
 -- ---- memory is asked for only where an area overlaps the range
 
-pub returns-in_err-freed-clause-asked : goal.returns-in_err-freed-clause-asked
-returns-in_err-freed-clause-asked g c = err_always c.from_residual.result
+pub returns-in_err-freed-clause-allocates : goal.returns-in_err-freed-clause-allocates
+returns-in_err-freed-clause-allocates g c = err_always c.from_residual.result
     (taken (mapping_of c.self.inside.table c.self.inside.places.entries) c.args.self.now c.args.pid c.args.range.first c.args.range.end c.is_free.result c.self.view_is c.is_free.ensures c.if-is_free.false)
 
-pub returns-in_err-split_steps-clause-asked : goal.returns-in_err-split_steps-clause-asked
-returns-in_err-split_steps-clause-asked g c = err_always c.from_residual-in_err-split_steps.result
+pub returns-in_err-split_steps-clause-allocates : goal.returns-in_err-split_steps-clause-allocates
+returns-in_err-split_steps-clause-allocates g c = err_always c.from_residual-in_err-split_steps.result
     (taken (mapping_of c.self.inside.table c.self.inside.places.entries) c.args.self.now c.args.pid c.args.range.first c.args.range.end c.is_free.result c.self.view_is c.is_free.ensures c.if-is_free.false)
 
-pub returns-in_default-clause-asked : goal.returns-in_default-clause-asked
-returns-in_default-clause-asked g c =
+pub returns-in_default-clause-allocates : goal.returns-in_default-clause-allocates
+returns-in_default-clause-allocates g c =
     taken (mapping_of c.self.inside.table c.self.inside.places.entries) c.args.self.now c.args.pid c.args.range.first c.args.range.end c.is_free.result c.self.view_is c.is_free.ensures c.if-is_free.false
 
 -- ---- it is asked for a list of pages that have frames, or where an area is split
@@ -204,8 +204,8 @@ returns-in_err-freed-clause-needed g c =
 
 pub returns-in_err-split_steps-clause-needed : goal.returns-in_err-split_steps-clause-needed
 returns-in_err-split_steps-clause-needed g c = err_always c.from_residual-in_err-split_steps.result
-    (inr (split_in c.self.inside.table.areas c.args.self.now.areas c.args.pid _ _ _ _ (ap (λ (m : Mapping). m.areas) c.self.view_is) refl refl c.in_err-split_steps.ensures.asked))
+    (inr (split_in c.self.inside.table.areas c.args.self.now.areas c.args.pid _ _ _ _ (ap (λ (m : Mapping). m.areas) c.self.view_is) refl refl c.in_err-split_steps.ensures.allocates))
 
 pub returns-in_default-clause-needed : goal.returns-in_default-clause-needed
 returns-in_default-clause-needed g c =
-    inr (split_in c.self.inside.table.areas c.args.self.now.areas c.args.pid _ _ _ _ (ap (λ (m : Mapping). m.areas) c.self.view_is) refl refl c.in_default.ensures.asked)
+    inr (split_in c.self.inside.table.areas c.args.self.now.areas c.args.pid _ _ _ _ (ap (λ (m : Mapping). m.areas) c.self.view_is) refl refl c.in_default.ensures.allocates)

@@ -11,7 +11,7 @@ pub fetch_add-requires : goal.fetch_add-requires
 fetch_add-requires g c =
     let own = own_is _ _ _ _ _ c.hand.inside.seat.me _ _ c.hand.view_is c.requires.own c.self.view_is in
     let last = ap (λ h. slice_get h.out 0) c.hand.view_is ∙ c.requires.last in
-    let copy = laid_for c.self.inside.table.shared.key.value.items c.args.job.ticket c.args.job (ap (λ b. slice_get (map job_after_copy b.jobs) c.args.job.ticket) c.self.view_is ∙ c.requires.copied) in (
+    let copy = laid_for c.self.inside.table.shared.key.value.items c.args.job.ticket c.args.job (ap (λ b. slice_get (map job_after_copy b.jobs) c.args.job.ticket) c.self.view_is ∙ c.requires.job) in (
       c.put_in.ensures.0 ∙ own.0,
       omega (arith, c.self.invariant.words),
       gives_at _ _ _ c.hand.inside.seat.me _ c.args.job copy.0 _ _ c.hand.invariant last copy.1 copy.2 c.put_in.ensures.2,

@@ -26,10 +26,10 @@ pub invariant_of-self : goal.invariant_of-self
 invariant_of-self g c = fits_less c.self.inside.seat.me _ c.self.inside.shares c.args.shares _ c.self.invariant c.requires.some (omega (arith, ap (λ h. h.shares) c.self.view_is, c.requires.fewer)) c.cut-seat.ensures.left
 
 pub invariant_of-result : goal.invariant_of-result
-invariant_of-result g c = fits_part c.self.inside.seat.me _ c.self.inside.shares c.args.shares _ c.self.invariant c.requires.some (omega (arith, ap (λ h. h.shares) c.self.view_is, c.requires.fewer)) c.cut-seat.ensures.right
+invariant_of-result g c = fits_part c.self.inside.seat.me _ c.self.inside.shares c.args.shares _ c.self.invariant c.requires.some (omega (arith, ap (λ h. h.shares) c.self.view_is, c.requires.fewer)) c.cut-seat.ensures.part
 
 pub returns-clause-left : goal.returns-clause-left
 returns-clause-left g c = left_shown _ _ _ _ _ _ _ _ c.cut-seat.ensures.table.0 c.cut-seat.ensures.left c.self.view_is
 
 pub returns-clause-new : goal.returns-clause-new
-returns-clause-new g c = new_shown _ _ c.self.inside.seat.me _ c.self.inside.shares _ _ _ c.cut-seat.ensures.table.1 c.cut-seat.ensures.right c.self.view_is
+returns-clause-new g c = new_shown _ _ c.self.inside.seat.me _ c.self.inside.shares _ _ _ c.cut-seat.ensures.table.1 c.cut-seat.ensures.part c.self.view_is

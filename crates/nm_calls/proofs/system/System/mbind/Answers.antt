@@ -40,12 +40,12 @@ returns-then-request-eq0-clause-done g c =
     subst (λ (z : SystemState). outcome z (Mbind x.caller x.addr x.len x.mode x.nodes x.flags) ≡ record { answer = Failed 0; system = z }) c.self.view_is
     (nothing_bound y x.caller x.addr x.mode x.nodes x.flags x.len c.if-request-eq0.true c.in_ok-asked.ensures.exact)
 
-pub returns-clause-asked : goal.returns-clause-asked
-returns-clause-asked g c = λ runs policy_set is.
+pub returns-clause-allocates : goal.returns-clause-allocates
+returns-clause-allocates g c = λ runs policy_set is.
     let x = c.args.request.now in
     let s = c.self.inside.machine in
     let b = c.in_ok-asked.binding in
     let some : 0 < x.len = omega (arith, c.if-request-eq0.false) in
-    let moved = subst (λ (f : ℕ). (has_move f ≡ true) ⊎ (HasSplit s.areas b.pid b.first ⊎ HasSplit s.areas b.pid b.end)) c.in_ok-asked.ensures.flags (c.bind.ensures.asked runs policy_set is) in
+    let moved = subst (λ (f : ℕ). (has_move f ≡ true) ⊎ (HasSplit s.areas b.pid b.first ⊎ HasSplit s.areas b.pid b.end)) c.in_ok-asked.ensures.flags (c.bind.ensures.allocates runs policy_set is) in
     let needed = subst (λ (d : Binding). (has_move x.flags ≡ true) ⊎ (HasSplit s.areas d.pid d.first ⊎ HasSplit s.areas d.pid d.end)) c.in_ok-asked.ensures.binding moved in
     subst (λ (z : SystemState). MayAllocate z.state (Mbind x.caller x.addr x.len x.mode x.nodes x.flags)) c.self.view_is (some, needed)

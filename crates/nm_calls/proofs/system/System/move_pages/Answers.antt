@@ -26,8 +26,8 @@ returns-in_err-permit-clause-done g c =
     subst (λ (z : SystemState). Does (λ moved. Statuses moved.failed moved.statuses.items (map answer_shown moved.answers.items)) c.from_residual.result z z call) c.self.view_is
     (refuses_by _ y call c.from_residual.result c.in_err-permit.field-0.0 unasked c.from_residual.ensures)
 
-pub returns-in_err-permit-clause-asked : goal.returns-in_err-permit-clause-asked
-returns-in_err-permit-clause-asked g c = λ runs policy_set is. no_lack _ c.in_err-permit.field-0.0 runs policy_set c.from_residual.ensures is
+pub returns-in_err-permit-clause-allocates : goal.returns-in_err-permit-clause-allocates
+returns-in_err-permit-clause-allocates g c = λ runs policy_set is. no_lack _ c.in_err-permit.field-0.0 runs policy_set c.from_residual.ensures is
 
 pub returns-in_err-check_targets-clause-done : goal.returns-in_err-check_targets-clause-done
 unfolding refusal_of
@@ -41,8 +41,8 @@ returns-in_err-check_targets-clause-done g c =
     subst (λ (z : SystemState). Does (λ moved. Statuses moved.failed moved.statuses.items (map answer_shown moved.answers.items)) c.from_residual-in_err-check_targets.result z z call) c.self.view_is
     (refuses_by _ y call c.from_residual-in_err-check_targets.result c.in_err-check_targets.field-0.0 (checked ∙ refusal) c.from_residual-in_err-check_targets.ensures)
 
-pub returns-in_err-check_targets-clause-asked : goal.returns-in_err-check_targets-clause-asked
-returns-in_err-check_targets-clause-asked g c = λ runs policy_set is. no_lack _ c.in_err-check_targets.field-0.0 runs policy_set c.from_residual-in_err-check_targets.ensures is
+pub returns-in_err-check_targets-clause-allocates : goal.returns-in_err-check_targets-clause-allocates
+returns-in_err-check_targets-clause-allocates g c = λ runs policy_set is. no_lack _ c.in_err-check_targets.field-0.0 runs policy_set c.from_residual-in_err-check_targets.ensures is
 
 pub invariant_of-self : goal.invariant_of-self
 invariant_of-self g c = c.self.invariant
@@ -65,8 +65,8 @@ returns-clause-done g c =
     subst (λ (z : SystemState). Does (λ moved. Statuses moved.failed moved.statuses.items (map answer_shown moved.answers.items)) c.move_batch.result z (in_state y new) call) c.self.view_is
     (moves_does y x.caller x.pid pages nodes x.flags during c.move_batch.result new none moves)
 
-pub returns-clause-asked : goal.returns-clause-asked
-returns-clause-asked g c = λ runs policy_set is.
+pub returns-clause-allocates : goal.returns-clause-allocates
+returns-clause-allocates g c = λ runs policy_set is.
     let x = c.args.request.now in
-    let some : 0 < length x.batch.pages.items + length x.during.items = subst (λ r. OnErr r (0 < length x.batch.pages.items + length x.during.items)) is c.move_batch.ensures.asked in
+    let some : 0 < length x.batch.pages.items + length x.during.items = subst (λ r. OnErr r (0 < length x.batch.pages.items + length x.during.items)) is c.move_batch.ensures.allocates in
     subst (λ n. 0 < length x.batch.pages.items + n) (sym (length-map x.during.items _)) some

@@ -27,8 +27,8 @@ returns-then-is_none-clause-done g c =
     let unknown = unlisted (get nat_cmp s.processes c.args.pid) c.info.result true info (c.is_none.ensures ∙ ap not c.if-is_none.true) in
     subst (λ (z : SystemState). outcome z (NumaMaps c.args.pid) ≡ record { answer = Refusal Esrch; system = z }) c.self.view_is (refuses y (NumaMaps c.args.pid) Esrch unknown)
 
-pub returns-then-is_none-clause-asked : goal.returns-then-is_none-clause-asked
-returns-then-is_none-clause-asked g c = λ runs policy_set is. absurd (cc)
+pub returns-then-is_none-clause-allocates : goal.returns-then-is_none-clause-allocates
+returns-then-is_none-clause-allocates g c = λ runs policy_set is. absurd (cc)
 
 pub returns-in_err-areas-clause-done : goal.returns-in_err-areas-clause-done
 unfolding refusal_of refused_at_once
@@ -39,11 +39,11 @@ returns-in_err-areas-clause-done g c =
     let known = unlisted (get nat_cmp s.processes c.args.pid) c.info.result false info (c.is_none.ensures ∙ ap not c.if-is_none.false) in
     subst (λ (z : SystemState). Does (λ lines. Lines (lines_shown lines.items)) c.from_residual.result z z (NumaMaps c.args.pid)) c.self.view_is (out_at_once _ y (NumaMaps c.args.pid) c.from_residual.result known c.from_residual.ensures)
 
-pub returns-in_err-areas-clause-asked : goal.returns-in_err-areas-clause-asked
-returns-in_err-areas-clause-asked g c = λ runs policy_set is.
+pub returns-in_err-areas-clause-allocates : goal.returns-in_err-areas-clause-allocates
+returns-in_err-areas-clause-allocates g c = λ runs policy_set is.
     let lines = ap (λ (m : Mapping). lines_of m.segments m.areas c.args.pid) c.areas.ensures.areas ∙ ap (λ (y : AddressSpacesView). lines_of y.segments y.areas c.args.pid) c.spaces-spaces.ensures in
     subst (λ (z : SystemState). 0 < length (lines_of z.state.segments z.state.areas c.args.pid)) c.self.view_is
-    (subst (λ (l : List Area). 0 < length l) lines c.in_err-areas.ensures.asked)
+    (subst (λ (l : List Area). 0 < length l) lines c.in_err-areas.ensures.allocates)
 
 pub areas_text-requires-after_bounds : goal.areas_text-requires-after_bounds
 areas_text-requires-after_bounds g c = λ lifetimes bound.
@@ -60,11 +60,11 @@ returns-in_err-areas_text-clause-done g c =
     subst (λ (z : SystemState). Does (λ lines. Lines (lines_shown lines.items)) c.from_residual-in_err-areas_text.result z z (NumaMaps c.args.pid)) c.self.view_is
     (out_at_once _ y (NumaMaps c.args.pid) c.from_residual-in_err-areas_text.result known c.from_residual-in_err-areas_text.ensures)
 
-pub returns-in_err-areas_text-clause-asked : goal.returns-in_err-areas_text-clause-asked
-returns-in_err-areas_text-clause-asked g c = λ runs policy_set is.
+pub returns-in_err-areas_text-clause-allocates : goal.returns-in_err-areas_text-clause-allocates
+returns-in_err-areas_text-clause-allocates g c = λ runs policy_set is.
     let lines = c.in_ok-areas.ensures.lines ∙ ap (λ (m : Mapping). lines_of m.segments m.areas c.args.pid) c.areas.ensures.areas ∙ ap (λ (y : AddressSpacesView). lines_of y.segments y.areas c.args.pid) c.spaces-spaces.ensures in
     subst (λ (z : SystemState). 0 < length (lines_of z.state.segments z.state.areas c.args.pid)) c.self.view_is
-    (subst (λ (l : List Area). 0 < length l) (c.as_slice.ensures.value ∙ lines) c.in_err-areas_text.ensures.asked)
+    (subst (λ (l : List Area). 0 < length l) (c.as_slice.ensures.value ∙ lines) c.in_err-areas_text.ensures.allocates)
 
 pub returns-clause-done : goal.returns-clause-done
 unfolding refusal_of end_of_call
@@ -78,5 +78,5 @@ returns-clause-done g c =
     subst (λ (z : SystemState). outcome z (NumaMaps c.args.pid) ≡ record { answer = Lines (lines_shown c.in_ok-areas_text.field-0.items); system = z }) c.self.view_is
     (answers y (NumaMaps c.args.pid) (record { answer = Lines (lines_shown c.in_ok-areas_text.field-0.items); system = y }) known (ap (λ (ls : List (List ℕ)). record { answer = Lines ls; system = y }) (sym text)))
 
-pub returns-clause-asked : goal.returns-clause-asked
-returns-clause-asked g c = λ runs policy_set is. absurd (cc)
+pub returns-clause-allocates : goal.returns-clause-allocates
+returns-clause-allocates g c = λ runs policy_set is. absurd (cc)

@@ -17,8 +17,8 @@ returns-in_err-permit-clause-done g c =
     subst (λ (z : SystemState). Does (λ statuses. Statuses 0 statuses.items []) c.from_residual.result z z call) c.self.view_is
     (refuses_by _ y call c.from_residual.result c.in_err-permit.field-0.0 c.in_err-permit.ensures.exact c.from_residual.ensures)
 
-pub returns-in_err-permit-clause-asked : goal.returns-in_err-permit-clause-asked
-returns-in_err-permit-clause-asked g c = λ runs policy_set is. no_lack _ c.in_err-permit.field-0.0 runs policy_set c.from_residual.ensures is
+pub returns-in_err-permit-clause-allocates : goal.returns-in_err-permit-clause-allocates
+returns-in_err-permit-clause-allocates g c = λ runs policy_set is. no_lack _ c.in_err-permit.field-0.0 runs policy_set c.from_residual.ensures is
 
 pub returns-in_err-statuses_of-clause-done : goal.returns-in_err-statuses_of-clause-done
 unfolding refusal_of refused_at_once
@@ -29,8 +29,8 @@ returns-in_err-statuses_of-clause-done g c =
     subst (λ (z : SystemState). Does (λ statuses. Statuses 0 statuses.items []) c.from_residual-in_err-statuses_of.result z z call) c.self.view_is
     (out_at_once _ y call c.from_residual-in_err-statuses_of.result c.in_ok-permit.ensures.exact c.from_residual-in_err-statuses_of.ensures)
 
-pub returns-in_err-statuses_of-clause-asked : goal.returns-in_err-statuses_of-clause-asked
-returns-in_err-statuses_of-clause-asked g c = λ runs policy_set is. subst (λ l. 0 < length l) c.as_slice.ensures.value c.in_err-statuses_of.ensures.asked
+pub returns-in_err-statuses_of-clause-allocates : goal.returns-in_err-statuses_of-clause-allocates
+returns-in_err-statuses_of-clause-allocates g c = λ runs policy_set is. subst (λ l. 0 < length l) c.as_slice.ensures.value c.in_err-statuses_of.ensures.allocates
 
 pub returns-clause-done : goal.returns-clause-done
 unfolding refusal_of end_of_call
@@ -43,5 +43,5 @@ returns-clause-done g c =
     subst (λ (z : SystemState). outcome z call ≡ record { answer = Statuses 0 c.in_ok-statuses_of.field-0.items []; system = z }) c.self.view_is
     (answers y call _ c.in_ok-permit.ensures.exact (ap (λ (l : List ℤ). record { answer = Statuses 0 l []; system = y }) (sym told)))
 
-pub returns-clause-asked : goal.returns-clause-asked
-returns-clause-asked g c = λ runs policy_set is. absurd (cc)
+pub returns-clause-allocates : goal.returns-clause-allocates
+returns-clause-allocates g c = λ runs policy_set is. absurd (cc)

@@ -7,6 +7,6 @@ pub returns-clause-moved : goal.returns-clause-moved
 unfolding refusal_of refused_at_once end_of_call runs_asked start sets_policy accesses_asked
 returns-clause-moved g c = grind (arith, answers, refuses, unchanged)
 
-pub returns-clause-told : goal.returns-clause-told
+pub returns-clause-answer : goal.returns-clause-answer
 unfolding refusal_of refused_at_once end_of_call runs_asked start sets_policy accesses_asked
-returns-clause-told g c = grind (arith, answers, refuses, unchanged)
+returns-clause-answer g c = grind (arith, answers, refuses, unchanged)

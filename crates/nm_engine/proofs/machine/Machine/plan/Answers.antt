@@ -44,13 +44,13 @@ returns-clause-plan g c =
     (h ∙ planned_is s t (length c.as_slice.result.now) c.as_slice.result.now c.as_slice-2.result.now ws classes front few))) c.plan.ensures.plan
 
 -- there are as many classes as requests
-pub returns-in_err-front-clause-asked : goal.returns-in_err-front-clause-asked
-returns-in_err-front-clause-asked g c =
+pub returns-in_err-front-clause-allocates : goal.returns-in_err-front-clause-allocates
+returns-in_err-front-clause-allocates g c =
     let ws = c.args.requests.now.wanted.items in
     let many = ap length c.in_ok-classes.ensures.classes ∙ length-map ws _ in
-    err_always c.from_residual-in_err-front.result (omega (arith, c.in_err-front.ensures.asked, c.len.ensures, many))
+    err_always c.from_residual-in_err-front.result (omega (arith, c.in_err-front.ensures.allocates, c.len.ensures, many))
 
-pub returns-clause-asked : goal.returns-clause-asked
-returns-clause-asked g c =
+pub returns-clause-allocates : goal.returns-clause-allocates
+returns-clause-allocates g c =
     let ws = c.args.requests.now.wanted.items in
-    subst (λ n. OnErr c.plan.result (0 < n)) (ap length c.as_slice.ensures.value ∙ ap length c.in_ok-classes.ensures.classes ∙ length-map ws _) c.plan.ensures.asked
+    subst (λ n. OnErr c.plan.result (0 < n)) (ap length c.as_slice.ensures.value ∙ ap length c.in_ok-classes.ensures.classes ∙ length-map ws _) c.plan.ensures.allocates

@@ -15,8 +15,8 @@ module _ {A E : Type 0} where
   orders_of (Ok f) s new asked law made = λ m events n starts unfolds same ended.
       subst (IsRun n) ((λ i. run (starts i) asked.target asked.wanted (same i)) ∙ sym made) (law m asked.target asked.wanted events n unfolds ended)
 
-pub returns-clause-orders : goal.returns-clause-orders
-returns-clause-orders g c =
+pub returns-clause-ends : goal.returns-clause-ends
+returns-clause-ends g c =
     orders_of c.replace_with.result c.args.self.now _ (asked_by c.args.requests.now c.args.accesses.now) c.interleavings.ensures.orders c.replace_with.ensures.0
 
 pub returns-clause-run : goal.returns-clause-run

@@ -51,7 +51,7 @@ invariant_of-self-2 g c =
     record {
       none = after ∙ c.touch.ensures.left ∙ c.self.invariant.none;
       kept = subst (λ l. IsSoundMachine (shown_by y c.write.new.self i.online i.totals.moved i.totals.failed) l y.frames) (sym after)
-          (written_kept y.processes (table_of y) (paged_frames y k) i.online i.totals.moved i.totals.failed _ c.args.pid c.args.addr c.in-Some.frame c.args.bytes.now (paged_frames y c.write.new.self) kept (kept_stocked y k i.online i.totals.moved i.totals.failed kept c.write.ensures.shelf) seen (ap (paged_frames y) (c.write.ensures.written ∙ ap (overwritten k c.in-Some.frame c.args.bytes.now) c.offset.ensures.value)) c.in_ok-resolved.ensures.inside);
+          (written_kept y.processes (table_of y) (paged_frames y k) i.online i.totals.moved i.totals.failed _ c.args.pid c.args.addr c.in-Some.frame c.args.bytes.now (paged_frames y c.write.new.self) kept (kept_stocked y k i.online i.totals.moved i.totals.failed kept c.write.ensures.whole) seen (ap (paged_frames y) (c.write.ensures.written ∙ ap (overwritten k c.in-Some.frame c.args.bytes.now) c.offset.ensures.value)) c.in_ok-resolved.ensures.inside);
     }
 
 pub returns-clause-answer : goal.returns-clause-answer
@@ -69,7 +69,7 @@ returns-clause-answer g c =
     let done : by s ≡ write_after s c.args.pid c.args.addr c.args.bytes.now (Ok new) = ap (write_after s c.args.pid c.args.addr c.args.bytes.now) touch_site in
     let at = c.self.view_is in (
       ap (λ (z : State). (by z).answer) (sym at) ∙ ap (λ (z : AccessResult). z.answer) done,
-      written_is y.processes (table_of y) (paged_frames y k) i.online i.totals.moved i.totals.failed _ c.args.pid c.args.addr c.in-Some.frame c.args.bytes.now (paged_frames y c.write.new.self) kept (kept_stocked y k i.online i.totals.moved i.totals.failed kept c.write.ensures.shelf) seen (ap (paged_frames y) (c.write.ensures.written ∙ ap (overwritten k c.in-Some.frame c.args.bytes.now) c.offset.ensures.value))
+      written_is y.processes (table_of y) (paged_frames y k) i.online i.totals.moved i.totals.failed _ c.args.pid c.args.addr c.in-Some.frame c.args.bytes.now (paged_frames y c.write.new.self) kept (kept_stocked y k i.online i.totals.moved i.totals.failed kept c.write.ensures.whole) seen (ap (paged_frames y) (c.write.ensures.written ∙ ap (overwritten k c.in-Some.frame c.args.bytes.now) c.offset.ensures.value))
           ∙ sym (ap (λ (z : AccessResult). z.state) done) ∙ ap (λ (z : State). (by z).state) at,
     )
 

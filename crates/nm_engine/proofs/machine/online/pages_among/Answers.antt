@@ -33,8 +33,8 @@ bounds-placed-page-index g c = c.loop-page-test.true
 pub returns-in_err-push-clause-pages : goal.returns-in_err-push-clause-pages
 returns-in_err-push-clause-pages g c = IfOk-from_err _ _ c.from_residual.ensures.0
 
-pub returns-in_err-push-clause-asked : goal.returns-in_err-push-clause-asked
-returns-in_err-push-clause-asked g c = on_any c.from_residual.result (omega (arith, c.loop-page-test.true))
+pub returns-in_err-push-clause-allocates : goal.returns-in_err-push-clause-allocates
+returns-in_err-push-clause-allocates g c = on_any c.from_residual.result (omega (arith, c.loop-page-test.true))
 
 pub loop-page-smaller : goal.loop-page-smaller
 loop-page-smaller g c = omega (arith, c.loop-page-test.true)

@@ -42,7 +42,7 @@ take_out-frames-requires-clause-can g c =
     let i = c.self.inside in
     let r = c.requires.ready in
     let moves = c.args.moves.now in
-    let h = prepared i.spaces i.frames i.online i.totals.moved i.totals.failed r.0 moves [] c.args.self c.self.view_is c.self.invariant c.vacate_each.ensures.shelf
+    let h = prepared i.spaces i.frames i.online i.totals.moved i.totals.failed r.0 moves [] c.args.self c.self.view_is c.self.invariant c.vacate_each.ensures.whole
     r.1.node r.1.taken r.1.sound r.1.can tt c.vacate_each.ensures.populated in
     subst (λ (v : FramesView). CanCopy v.frames moves) (sym c.vacate_each.ensures.vacated) (can_copy i.spaces i.frames i.online i.totals.moved i.totals.failed r.0 moves [] h)
 
@@ -51,7 +51,7 @@ take_out-frames-requires-clause-populated g c =
     let i = c.self.inside in
     let r = c.requires.ready in
     let moves = c.args.moves.now in
-    let h = prepared i.spaces i.frames i.online i.totals.moved i.totals.failed r.0 moves [] c.args.self c.self.view_is c.self.invariant c.vacate_each.ensures.shelf
+    let h = prepared i.spaces i.frames i.online i.totals.moved i.totals.failed r.0 moves [] c.args.self c.self.view_is c.self.invariant c.vacate_each.ensures.whole
     r.1.node r.1.taken r.1.sound r.1.can tt c.vacate_each.ensures.populated in
     subst (λ (v : FramesView). AllByRecursion (HasBoth v.frames) moves) (sym c.vacate_each.ensures.vacated) (both_whole i.spaces i.frames i.online i.totals.moved i.totals.failed r.0 moves [] h)
 
@@ -66,7 +66,7 @@ hold-requires g c =
     let i = c.self.inside in
     let r = c.requires.ready in
     let moves = c.args.moves.now in
-    let h = prepared i.spaces i.frames i.online i.totals.moved i.totals.failed r.0 moves [] c.args.self c.self.view_is c.self.invariant c.vacate_each.ensures.shelf
+    let h = prepared i.spaces i.frames i.online i.totals.moved i.totals.failed r.0 moves [] c.args.self c.self.view_is c.self.invariant c.vacate_each.ensures.whole
     r.1.node r.1.taken r.1.sound r.1.can tt c.vacate_each.ensures.populated in
     record { moves = remap i.spaces i.frames i.online i.totals.moved i.totals.failed r.0 moves [] h }
 
@@ -76,7 +76,7 @@ invariant_of-run g c =
     let r = c.requires.ready in
     let y = i.spaces in
     let moves = c.args.moves.now in
-    let h = prepared i.spaces i.frames i.online i.totals.moved i.totals.failed r.0 moves [] c.args.self c.self.view_is c.self.invariant c.vacate_each.ensures.shelf
+    let h = prepared i.spaces i.frames i.online i.totals.moved i.totals.failed r.0 moves [] c.args.self c.self.view_is c.self.invariant c.vacate_each.ensures.whole
     r.1.node r.1.taken r.1.sound r.1.can tt c.vacate_each.ensures.populated in
     let can = remap i.spaces i.frames i.online i.totals.moved i.totals.failed r.0 moves [] h in
     record {
@@ -100,7 +100,7 @@ returns-clause-state g c target ready =
     let i = c.self.inside in
     let k : FramesView = i.frames in
     let moves = c.args.moves.now in
-    let h = prepared i.spaces i.frames i.online i.totals.moved i.totals.failed target moves [] c.args.self c.self.view_is c.self.invariant c.vacate_each.ensures.shelf
+    let h = prepared i.spaces i.frames i.online i.totals.moved i.totals.failed target moves [] c.args.self c.self.view_is c.self.invariant c.vacate_each.ensures.whole
     ready.node ready.taken ready.sound ready.can tt c.vacate_each.ensures.populated in
     let w : FramesView = c.take_out-frames.result.0 in
     let jobs = c.take_out-frames.result.1.items in
@@ -120,7 +120,7 @@ returns-clause-out g c =
     let k : FramesView = i.frames in
     let r = c.requires.ready in
     let moves = c.args.moves.now in
-    let h = prepared i.spaces i.frames i.online i.totals.moved i.totals.failed r.0 moves [] c.args.self c.self.view_is c.self.invariant c.vacate_each.ensures.shelf
+    let h = prepared i.spaces i.frames i.online i.totals.moved i.totals.failed r.0 moves [] c.args.self c.self.view_is c.self.invariant c.vacate_each.ensures.whole
     r.1.node r.1.taken r.1.sound r.1.can tt c.vacate_each.ensures.populated in
     let can = can_copy i.spaces i.frames i.online i.totals.moved i.totals.failed r.0 moves [] h in
     let v : FramesView = c.vacate_each.new.self in
@@ -135,7 +135,7 @@ returns-clause-out g c =
     let stays : w.vacated ≡ frames_left moves = ap (λ (x : FramesView). x.vacated) is in
     record {
       can = can_home {A = g.row.A.Denot} k v w moves jobs left out.frames out.jobs can;
-      whole = whole_then {A = g.row.A.Denot} k v w moves jobs left out.frames out.jobs can c.vacate_each.ensures.shelf;
+      whole = whole_then {A = g.row.A.Denot} k v w moves jobs left out.frames out.jobs can c.vacate_each.ensures.whole;
       kept = subst (λ (z : AddressSpacesView). IsSoundMachine (shown_by z (record w { frames = with_jobs_back w.frames (map job_after_copy jobs) }) i.online i.totals.moved i.totals.failed) w.vacated z.frames) (sym c.hold.ensures.spaces)
           (subst (λ (x : FramesView). IsSoundMachine (shown_by (all_moved i.spaces moves) x i.online i.totals.moved i.totals.failed) x.vacated (all_moved i.spaces moves).frames) (sym is)
           (finished_kept i.spaces i.frames i.online i.totals.moved i.totals.failed r.0 moves [] h then refl));
@@ -160,13 +160,13 @@ returns-clause-tickets g c t job at =
     let is = tickets_from g.row.A.Denot c.args.moves.now 0 v.frames t job (ap (λ js. slice_get js t) (sym c.take_out-frames.ensures.jobs) ∙ at) in
     omega (arith, is)
 
-pub returns-clause-due : goal.returns-clause-due
-returns-clause-due g c d pending =
+pub returns-clause-pending : goal.returns-clause-pending
+returns-clause-pending g c d pending =
     let i = c.self.inside in
     let k : FramesView = i.frames in
     let r = c.requires.ready in
     let moves = c.args.moves.now in
-    let h = prepared i.spaces i.frames i.online i.totals.moved i.totals.failed r.0 moves (d ∷ []) c.args.self c.self.view_is c.self.invariant c.vacate_each.ensures.shelf
+    let h = prepared i.spaces i.frames i.online i.totals.moved i.totals.failed r.0 moves (d ∷ []) c.args.self c.self.view_is c.self.invariant c.vacate_each.ensures.whole
     r.1.node r.1.taken r.1.sound r.1.can (pending, tt) c.vacate_each.ensures.populated in
     let can = can_meanwhile i.spaces i.frames i.online i.totals.moved i.totals.failed r.0 moves (d ∷ []) h in
     let gone = c.take_out-frames.ensures.frames ∙ ap (λ (v : FramesView). record v { frames = without_moves v.frames moves; room = c.take_out-frames.result.0.room }) c.vacate_each.ensures.vacated in

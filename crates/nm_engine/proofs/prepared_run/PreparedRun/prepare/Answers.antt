@@ -52,8 +52,8 @@ returns-in-Err-clause-err g c =
     let left = ap (λ (k : FramesView). k.vacated) given ∙ sym c.requires.none in
     λ j. record { state = state j; left = left j; room = c.give_back.new.self.room }
 
-pub returns-in-Ok-clause-prepared : goal.returns-in-Ok-clause-prepared
-returns-in-Ok-clause-prepared g c = record { between = c.take_frames.new.self; frames = c.in_ok-take_frames.ensures.taken; touches = c.in-Ok.ensures.touched }
+pub returns-in-Ok-clause-prepares : goal.returns-in-Ok-clause-prepares
+returns-in-Ok-clause-prepares g c = record { between = c.take_frames.new.self; frames = c.in_ok-take_frames.ensures.taken; touches = c.in-Ok.ensures.touched }
 
 pub returns-in-Ok-clause-sound : goal.returns-in-Ok-clause-sound
 returns-in-Ok-clause-sound g c = c.in_ok-take_frames.ensures.sound

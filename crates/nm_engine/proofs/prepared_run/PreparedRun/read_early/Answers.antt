@@ -87,14 +87,14 @@ returns-clause-err g c =
     let there = found_in c.args.self.now.state c.self.inside.spaces.processes c.self.inside.spaces.areas c.in-Ok.resolved c.args.pid c.args.addr c.args.len (ap (λ (x : RunState). x.state.processes) (sym c.self.view_is)) (ap (λ (x : RunState). x.state.areas) (sym c.self.view_is)) c.in-Ok.ensures.ok in
     c.in-Err-HostMemory.ensures.same ∙ ap (λ (s : State). with_state c.args.self.now s) (touches_err c.in-Err-HostMemory.field-0 c.args.self.now.state c.touch_noted.new.self.state _ (c.in-Err-HostMemory.ensures.touches there.0 there.1 there.3))
 
-pub returns-in_err-bytes-clause-asked : goal.returns-in_err-bytes-clause-asked
-returns-in_err-bytes-clause-asked g c =
+pub returns-in_err-bytes-clause-allocates : goal.returns-in_err-bytes-clause-allocates
+returns-in_err-bytes-clause-allocates g c =
     let there = found_in c.args.self.now.state c.self.inside.spaces.processes c.self.inside.spaces.areas c.in-Ok.resolved c.args.pid c.args.addr c.args.len (ap (λ (x : RunState). x.state.processes) (sym c.self.view_is)) (ap (λ (x : RunState). x.state.areas) (sym c.self.view_is)) c.in-Ok.ensures.ok in
     let free = ap (λ p. list_any (same_page p) c.args.moving.now.keys) there.3.page ∙ sym c.contains.ensures ∙ c.if-contains.false in
     err_always c.from_residual.result (ap result_err there.2, ap (is_held c.args.moving.now.keys) there.2 ∙ free)
 
-pub returns-clause-asked : goal.returns-clause-asked
-returns-clause-asked g c =
+pub returns-clause-allocates : goal.returns-clause-allocates
+returns-clause-allocates g c =
     let there = found_in c.args.self.now.state c.self.inside.spaces.processes c.self.inside.spaces.areas c.in-Ok.resolved c.args.pid c.args.addr c.args.len (ap (λ (x : RunState). x.state.processes) (sym c.self.view_is)) (ap (λ (x : RunState). x.state.areas) (sym c.self.view_is)) c.in-Ok.ensures.ok in
     let free = ap (λ p. list_any (same_page p) c.args.moving.now.keys) there.3.page ∙ sym c.contains.ensures ∙ c.if-contains.false in
     (ap result_err there.2, ap (is_held c.args.moving.now.keys) there.2 ∙ free)

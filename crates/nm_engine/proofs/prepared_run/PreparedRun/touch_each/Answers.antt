@@ -129,5 +129,5 @@ returns-then-is_empty-clause-touched g c =
       len = c.in_ok-dues.ensures.len ∙ ap (λ xs. length xs) (sym none) ∙ sym (length-map c.args.accesses.now _);
     }
 
-pub returns-in-Err-clause-asked : goal.returns-in-Err-clause-asked
-returns-in-Err-clause-asked g c = omega (arith, c.loop-access-test.true)
+pub returns-in-Err-clause-allocates : goal.returns-in-Err-clause-allocates
+returns-in-Err-clause-allocates g c = omega (arith, c.loop-access-test.true)

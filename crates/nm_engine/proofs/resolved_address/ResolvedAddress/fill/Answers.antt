@@ -39,12 +39,12 @@ unreachable-requires g c =
 pub allocate-requires-clause-frame : goal.allocate-requires-clause-frame
 allocate-requires-clause-frame g c =
     let front : slice_get (free_on c.args.frames.now c.in-Some.node) 0 ≡ Some c.in-Some-front.frame = sym c.front.ensures.front ∙ c.in-Some-front.is in
-    (front_spare c.args.spaces.now c.args.frames.now c.args.online 0 0 (c.requires.kept 0 0) c.front.ensures.shelf c.in-Some.node c.in-Some-front.frame front).known
+    (front_spare c.args.spaces.now c.args.frames.now c.args.online 0 0 (c.requires.kept 0 0) c.front.ensures.whole c.in-Some.node c.in-Some-front.frame front).known
 
 pub allocate-requires-clause-spare : goal.allocate-requires-clause-spare
 allocate-requires-clause-spare g c =
     let front : slice_get (free_on c.args.frames.now c.in-Some.node) 0 ≡ Some c.in-Some-front.frame = sym c.front.ensures.front ∙ c.in-Some-front.is in
-    (front_spare c.args.spaces.now c.args.frames.now c.args.online 0 0 (c.requires.kept 0 0) c.front.ensures.shelf c.in-Some.node c.in-Some-front.frame front).place
+    (front_spare c.args.spaces.now c.args.frames.now c.args.online 0 0 (c.requires.kept 0 0) c.front.ensures.whole c.in-Some.node c.in-Some-front.frame front).place
 
 pub allocate-requires-clause-known : goal.allocate-requires-clause-known
 allocate-requires-clause-known g c = subst (λ (o : Option Process). IsSome o) (sym c.requires.touched.2.known) refl
@@ -57,7 +57,7 @@ allocate-requires-clause-shown g c =
 pub populate-requires : goal.populate-requires
 populate-requires g c =
     let front : slice_get (free_on c.args.frames.now c.in-Some.node) 0 ≡ Some c.in-Some-front.frame = sym c.front.ensures.front ∙ c.in-Some-front.is in
-    (front_spare c.args.spaces.now c.args.frames.now c.args.online 0 0 (c.requires.kept 0 0) c.front.ensures.shelf c.in-Some.node c.in-Some-front.frame front).below
+    (front_spare c.args.spaces.now c.args.frames.now c.args.online 0 0 (c.requires.kept 0 0) c.front.ensures.whole c.in-Some.node c.in-Some-front.frame front).below
 
 pub take_front-requires : goal.take_front-requires
 take_front-requires g c =
@@ -70,7 +70,7 @@ zero-requires-clause-frame g c =
     let front : slice_get (free_on c.args.frames.now c.in-Some.node) 0 ≡ Some c.in-Some-front.frame = sym c.front.ensures.front ∙ c.in-Some-front.is in
     subst (λ (k : FramesView). c.in-Some-front.frame < frame_count k.layout) (sym c.take_front.ensures.rest)
     (subst (λ (k : FramesView). c.in-Some-front.frame < frame_count k.layout) (sym c.in_ok-populate.ensures.same)
-    (front_spare c.args.spaces.now c.args.frames.now c.args.online 0 0 (c.requires.kept 0 0) c.front.ensures.shelf c.in-Some.node c.in-Some-front.frame front).below)
+    (front_spare c.args.spaces.now c.args.frames.now c.args.online 0 0 (c.requires.kept 0 0) c.front.ensures.whole c.in-Some.node c.in-Some-front.frame front).below)
 
 pub zero-requires-clause-populated : goal.zero-requires-clause-populated
 zero-requires-clause-populated g c = subst (λ (k : FramesView). IsPopulated k.frames c.in-Some-front.frame) (sym c.take_front.ensures.rest) c.in_ok-populate.ensures.populated
@@ -87,11 +87,11 @@ returns-clause-kept g c m f =
     let touched = c.requires.touched.2 in
     let is = c.in_ok-allocate.ensures.ok p touched.known in
     let to = stocked_both y c.allocate.new.self c.populate.new.self c.take_front.new.self c.zero.new.self t.pid t.vpn p t.page c.in-Some.node c.in-Some-front.frame is c.take_front.ensures.rest c.zero.ensures front in
-    let whole = kept_stocked y c.populate.new.self o m f kept c.in_ok-populate.ensures.shelf in
+    let whole = kept_stocked y c.populate.new.self o m f kept c.in_ok-populate.ensures.whole in
     let vacated : c.zero.new.self.vacated ≡ c.populate.new.self.vacated = ap (λ (k : FramesView). k.vacated) c.zero.ensures ∙ ap (λ (k : FramesView). k.vacated) c.take_front.ensures.rest in
     subst (λ l. IsSoundMachine (shown_by c.allocate.new.self c.zero.new.self o m f) l c.allocate.new.self.frames) (sym vacated)
     (subst (λ (z : AddressSpacesView). IsSoundMachine (state_of_parts z.processes (table_of z) (paged_frames c.allocate.new.self c.zero.new.self) o m f) c.populate.new.self.vacated z.frames) (sym is)
-    (filled_kept y.processes (table_of y) (paged_frames y c.populate.new.self) o m f _ t p c.requires.touched.1 kept touched c.in-Some.node (with_new_page y t.pid p t.vpn t.page c.in-Some-front.frame).processes (paged_frames c.allocate.new.self c.zero.new.self) whole refl to c.requires.unplaced (found_free c.populate.new.self.free _ c.in-Some.node found) c.requires.unseen))
+    (filled_kept y.processes (table_of y) (paged_frames y c.populate.new.self) o m f _ t p c.requires.touched.1 kept touched c.in-Some.node (with_new_page y t.pid p t.vpn t.page c.in-Some-front.frame).processes (paged_frames c.allocate.new.self c.zero.new.self) whole refl to c.requires.absent (found_free c.populate.new.self.free _ c.in-Some.node found) c.requires.unseen))
 
 pub returns-clause-touches : goal.returns-clause-touches
 returns-clause-touches g c m f p a touched =
@@ -104,11 +104,11 @@ returns-clause-touches g c m f p a touched =
     let front : slice_get (free_on c.populate.new.self c.in-Some.node) 0 ≡ Some c.in-Some-front.frame = subst (λ (k : FramesView). slice_get (free_on k c.in-Some.node) 0 ≡ Some c.in-Some-front.frame) (sym c.in_ok-populate.ensures.same) (sym c.front.ensures.front ∙ c.in-Some-front.is) in
     let is = c.in_ok-allocate.ensures.ok p touched.known in
     let to = stocked_both y c.allocate.new.self c.populate.new.self c.take_front.new.self c.zero.new.self t.pid t.vpn p t.page c.in-Some.node c.in-Some-front.frame is c.take_front.ensures.rest c.zero.ensures front in
-    let whole = kept_stocked y c.populate.new.self o m f kept c.in_ok-populate.ensures.shelf in
+    let whole = kept_stocked y c.populate.new.self o m f kept c.in_ok-populate.ensures.whole in
     ap (λ (s : State). fill_page s (access_site t p a)) (sym same)
     ∙ filled_is y.processes (table_of y) (paged_frames y c.populate.new.self) o m f _ t p a kept touched c.in-Some.node found
     ∙ ap Ok (sym (ap (λ (z : AddressSpacesView). state_of_parts z.processes (table_of z) (paged_frames c.allocate.new.self c.zero.new.self) o m f) is
-    ∙ filled_shows y.processes (table_of y) (paged_frames y c.populate.new.self) o m f _ t p a kept touched c.in-Some.node (with_new_page y t.pid p t.vpn t.page c.in-Some-front.frame).processes (paged_frames c.allocate.new.self c.zero.new.self) whole refl to c.requires.unplaced (found_free c.populate.new.self.free _ c.in-Some.node found)))
+    ∙ filled_shows y.processes (table_of y) (paged_frames y c.populate.new.self) o m f _ t p a kept touched c.in-Some.node (with_new_page y t.pid p t.vpn t.page c.in-Some-front.frame).processes (paged_frames c.allocate.new.self c.zero.new.self) whole refl to c.requires.absent (found_free c.populate.new.self.free _ c.in-Some.node found)))
 
 pub returns-clause-frame : goal.returns-clause-frame
 returns-clause-frame g c =

@@ -63,8 +63,8 @@ returns-clause-undo g c =
 
 -- ---- it has none yet
 
-pub fill-requires-clause-unplaced : goal.fill-requires-clause-unplaced
-fill-requires-clause-unplaced g c =
+pub fill-requires-clause-absent : goal.fill-requires-clause-absent
+fill-requires-clause-absent g c =
     sym (c.page_frame.ensures ∙ ap (λ (m : Mapping). get page_cmp m.place c.args.self.page) c.areas.ensures.areas) ∙ c.in_default.is
 
 pub fill-requires-clause-unseen : goal.fill-requires-clause-unseen

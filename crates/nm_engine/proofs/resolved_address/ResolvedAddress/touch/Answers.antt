@@ -68,14 +68,14 @@ private_touched s t p a writes h e private w =
     ∙ ap (λ b. if b then share_page s at (get page_cmp s.place (shown_at at)) else (if writes then fill_page s at else Ok (with_sight s at ZeroPage))) (shared_at s t p a h private)
     ∙ ap (λ b. if b then fill_page s at else Ok (with_sight s at ZeroPage)) w
 
-pub fill-requires-clause-unplaced : goal.fill-requires-clause-unplaced
-fill-requires-clause-unplaced g c =
+pub fill-requires-clause-absent : goal.fill-requires-clause-absent
+fill-requires-clause-absent g c =
     let touched = c.requires.site.2 in
     let sees : sight_at (state_of_parts c.args.spaces.now.processes (table_of c.args.spaces.now) (paged_frames c.args.spaces.now c.args.frames.now) c.args.online 0 0) c.args.self.pid c.args.self.vpn ≡ Some ZeroPage = sym c.sight.ensures.sight ∙ ap seen_sight c.in-Some.is ∙ ap Some c.in-ZeroPage.is in
     zero_unplaced c.args.spaces.now.processes (table_of c.args.spaces.now) (paged_frames c.args.spaces.now c.args.frames.now) c.args.online 0 0 _ c.args.self c.requires.site.0 c.requires.site.1 (c.requires.kept 0 0) touched sees
 
-pub fill-requires-then-writes-2-clause-unplaced : goal.fill-requires-then-writes-2-clause-unplaced
-fill-requires-then-writes-2-clause-unplaced g c =
+pub fill-requires-then-writes-2-clause-absent : goal.fill-requires-then-writes-2-clause-absent
+fill-requires-then-writes-2-clause-absent g c =
     let touched = c.requires.site.2 in
     let sees : sight_at (state_of_parts c.args.spaces.now.processes (table_of c.args.spaces.now) (paged_frames c.args.spaces.now c.args.frames.now) c.args.online 0 0) c.args.self.pid c.args.self.vpn ≡ None = sym c.sight.ensures.sight ∙ ap seen_sight c.in-None.is in
     private_unplaced_here c.args.spaces.now.processes (table_of c.args.spaces.now) (paged_frames c.args.spaces.now c.args.frames.now) c.args.online 0 0 _ c.args.self c.requires.site.0 c.requires.site.1 (c.requires.kept 0 0) touched (none_sees sees) (sym (c.is_shared.ensures ∙ ap (λ (m : Mapping). is_shared m.segments c.args.self.page.segment) c.areas.ensures.areas) ∙ c.if-is_shared.false)
@@ -210,14 +210,14 @@ returns-in_err-see_zero-in-None-clause-kept g c m f =
     subst (λ (z : AddressSpacesView). IsSoundMachine (shown_by z c.args.frames.now c.args.online m f) c.args.frames.now.vacated z.frames) (sym c.in_err-see_zero-in-None.ensures.err) (c.requires.kept m f)
 
 -- memory is refused only where no page is seen
-pub returns-in_err-frame-in-ZeroPage-clause-asked : goal.returns-in_err-frame-in-ZeroPage-clause-asked
-returns-in_err-frame-in-ZeroPage-clause-asked g c = on_any c.from_residual.result (zero_sees ((sym c.sight.ensures.sight ∙ ap seen_sight c.in-Some.is ∙ ap Some c.in-ZeroPage.is)))
+pub returns-in_err-frame-in-ZeroPage-clause-allocates : goal.returns-in_err-frame-in-ZeroPage-clause-allocates
+returns-in_err-frame-in-ZeroPage-clause-allocates g c = on_any c.from_residual.result (zero_sees ((sym c.sight.ensures.sight ∙ ap seen_sight c.in-Some.is ∙ ap Some c.in-ZeroPage.is)))
 
-pub returns-in_err-frame-in-None-clause-asked : goal.returns-in_err-frame-in-None-clause-asked
-returns-in_err-frame-in-None-clause-asked g c = on_any c.from_residual-in_err-frame-in-None.result (none_sees ((sym c.sight.ensures.sight ∙ ap seen_sight c.in-None.is)))
+pub returns-in_err-frame-in-None-clause-allocates : goal.returns-in_err-frame-in-None-clause-allocates
+returns-in_err-frame-in-None-clause-allocates g c = on_any c.from_residual-in_err-frame-in-None.result (none_sees ((sym c.sight.ensures.sight ∙ ap seen_sight c.in-None.is)))
 
-pub returns-in_err-see_zero-in-None-clause-asked : goal.returns-in_err-see_zero-in-None-clause-asked
-returns-in_err-see_zero-in-None-clause-asked g c = on_any c.from_residual-in_err-see_zero-in-None.result (none_sees ((sym c.sight.ensures.sight ∙ ap seen_sight c.in-None.is)))
+pub returns-in_err-see_zero-in-None-clause-allocates : goal.returns-in_err-see_zero-in-None-clause-allocates
+returns-in_err-see_zero-in-None-clause-allocates g c = on_any c.from_residual-in_err-see_zero-in-None.result (none_sees ((sym c.sight.ensures.sight ∙ ap seen_sight c.in-None.is)))
 
 -- .. and only where the touch is not refused
 pub returns-in_err-frame-in-ZeroPage-clause-memory : goal.returns-in_err-frame-in-ZeroPage-clause-memory

@@ -5,8 +5,8 @@ use Rattle.nm_memory.proofs.Shelves.{list_set, free_changed, can_free}
 use Rattle.nm_memory.proofs.Boxed.{seen, held}
 use Rattle.nm_memory.proofs.frames.Frames.free.Goals as goal
 
-pub append-requires-clause-in_machine : goal.append-requires-clause-in_machine
-append-requires-clause-in_machine g c =
+pub append-requires-clause-frame : goal.append-requires-clause-frame
+append-requires-clause-frame g c =
     let own = held c.self.inside.jobs c.deref_mut-parts.ensures.value c.self.invariant in
     let shown = seen c.self.inside.jobs c.deref_mut-parts.ensures.value c.self.view_is in
     (can_free _ c.args.self.now c.deref_mut-parts.result.now.nodes.sizes (c.args.frame ∷ []) shown own.0 c.requires).0

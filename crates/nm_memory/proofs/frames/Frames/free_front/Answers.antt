@@ -24,7 +24,7 @@ returns-clause-front g c =
     let all = ap (λ n. take n list) many ∙ take_min c.args.count list ∙ ap (λ (v : FramesView). take c.args.count (free_on v c.args.node)) (seen c.self.inside.jobs c.deref-parts.ensures c.self.view_is) in
     IfOk-weaker c.front_in_place.result _ _ (λ frames front. front ∙ all) c.front_in_place.ensures.frames
 
-pub returns-clause-asked : goal.returns-clause-asked
-returns-clause-asked g c =
+pub returns-clause-allocates : goal.returns-clause-allocates
+returns-clause-allocates g c =
     let many = c.min-count.ensures ∙ ap (λ n. min c.args.count n) c.free_count.ensures.count in
-    subst (λ n. OnErr c.front_in_place.result (1 < n)) (many ∙ ap (λ (v : FramesView). min c.args.count (length (free_on v c.args.node))) (seen c.self.inside.jobs c.deref-parts.ensures c.self.view_is)) c.front_in_place.ensures.asked
+    subst (λ n. OnErr c.front_in_place.result (1 < n)) (many ∙ ap (λ (v : FramesView). min c.args.count (length (free_on v c.args.node))) (seen c.self.inside.jobs c.deref-parts.ensures c.self.view_is)) c.front_in_place.ensures.allocates

@@ -22,7 +22,7 @@ returns-clause-frames g c =
     let all = take_all c.free_count.result list (omega (arith, c.free_count.ensures.count)) ∙ ap (λ (v : FramesView). free_on v c.args.node) (seen c.self.inside.jobs c.deref-parts.ensures c.self.view_is) in
     IfOk-weaker c.front_of.result _ _ (λ frames front. front ∙ all) c.front_of.ensures.frames
 
-pub returns-clause-asked : goal.returns-clause-asked
-returns-clause-asked g c =
+pub returns-clause-allocates : goal.returns-clause-allocates
+returns-clause-allocates g c =
     let same = ap (λ (v : FramesView). length (free_on v c.args.node)) (seen c.self.inside.jobs c.deref-parts.ensures c.self.view_is) in
-    on_err_weaker c.front_of.result (λ some. omega (arith, some, same, c.free_count.ensures.count)) c.front_of.ensures.asked
+    on_err_weaker c.front_of.result (λ some. omega (arith, some, same, c.free_count.ensures.count)) c.front_of.ensures.allocates

@@ -30,5 +30,5 @@ invariant_of-self g c =
       subst (AllByRecursion (IsPopulated (in_memory c.deref_mut-parts.result.now.frames))) (sym c.clear.ensures.items) tt,
     )
 
-pub returns-clause-shelf : goal.returns-clause-shelf
-returns-clause-shelf g c = subst HasAllFrames c.self.view_is c.self.invariant.1
+pub returns-clause-whole : goal.returns-clause-whole
+returns-clause-whole g c = subst HasAllFrames c.self.view_is c.self.invariant.1

@@ -18,8 +18,8 @@ invariant_of-result g c = held c.new-4.result c.in_ok-parts.ensures.ok (
   subst (AllByRecursion (IsPopulated (in_memory c.in_ok-frames.frames))) (sym c.new-2.ensures.items) tt,
 )
 
-pub returns-clause-shelf : goal.returns-clause-shelf
-returns-clause-shelf g c =
+pub returns-clause-whole : goal.returns-clause-whole
+returns-clause-whole g c =
     subst (λ (p : FrameParts g.row.A.Denot). HasAllFrames (shown_with p c.new-4.result)) (sym c.in_ok-parts.ensures.ok)
     (new_shelf c.args.geometry (in_memory c.in_ok-frames.frames) c.in_ok-nodes.nodes.lists c.new-2.result.items _ c.frame_count.result
     c.frame_count.ensures (ap in_memory c.in_ok-frames.ensures.ok ∙ new_frames c.frame_count.result (replicate 4096 0)) (ap (λ (p : Pool). p.lists) c.in_ok-nodes.ensures))

@@ -26,5 +26,5 @@ returns-clause-kept g c = subst (λ (v : FramesView). KeepsBytes v.frames (in_me
 pub returns-clause-same : goal.returns-clause-same
 returns-clause-same g c = ap (λ (v : FramesView). record v { frames = in_memory c.populate.new.frames }) (seen c.self.inside.jobs c.deref_mut-parts.ensures.value c.self.view_is)
 
-pub returns-clause-shelf : goal.returns-clause-shelf
-returns-clause-shelf g c = store_kept _ (in_memory c.populate.new.frames) c.populate.ensures.kept (held c.self.inside.jobs c.deref_mut-parts.ensures.value c.self.invariant).1
+pub returns-clause-whole : goal.returns-clause-whole
+returns-clause-whole g c = store_kept _ (in_memory c.populate.new.frames) c.populate.ensures.kept (held c.self.inside.jobs c.deref_mut-parts.ensures.value c.self.invariant).1

@@ -32,8 +32,8 @@ invariant_of-self g c =
           (subst (λ (v : FramesView). AllByRecursion (IsPopulated v.frames) (take c.args.count (free_on v c.args.node))) (sym shown) c.requires.populated)),
     )
 
-pub returns-clause-shelf : goal.returns-clause-shelf
-returns-clause-shelf g c = subst HasAllFrames c.self.view_is c.self.invariant.1
+pub returns-clause-whole : goal.returns-clause-whole
+returns-clause-whole g c = subst HasAllFrames c.self.view_is c.self.invariant.1
 
 pub returns-clause-taken : goal.returns-clause-taken
 returns-clause-taken g c =

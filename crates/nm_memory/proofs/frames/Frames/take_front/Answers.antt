@@ -20,5 +20,5 @@ invariant_of-self g c =
       own.3,
     )
 
-pub returns-clause-shelf : goal.returns-clause-shelf
-returns-clause-shelf g c = subst HasAllFrames c.self.view_is c.self.invariant.1
+pub returns-clause-whole : goal.returns-clause-whole
+returns-clause-whole g c = subst HasAllFrames c.self.view_is c.self.invariant.1

@@ -60,8 +60,8 @@ returns-clause-room g c =
     let room = vec_capacity c.deref_mut.result.now.vacated in
     sym (ap (λ (v : FramesView). v.room) (seen c.self.inside.jobs c.deref_mut.ensures.value c.self.view_is)) ∙ ap (min room) (sym c.take_out_each.ensures.room)
 
-pub returns-clause-shelf : goal.returns-clause-shelf
-returns-clause-shelf g c = subst HasAllFrames c.self.view_is c.self.invariant.1
+pub returns-clause-whole : goal.returns-clause-whole
+returns-clause-whole g c = subst HasAllFrames c.self.view_is c.self.invariant.1
 
 pub returns-clause-vacated : goal.returns-clause-vacated
 returns-clause-vacated g c = subst (λ (v : FramesView). AllByRecursion (IsPopulated v.frames) v.vacated) c.self.view_is c.self.invariant.3

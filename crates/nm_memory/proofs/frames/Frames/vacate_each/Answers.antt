@@ -22,8 +22,8 @@ invariant_of-self g c =
 pub returns-clause-populated : goal.returns-clause-populated
 returns-clause-populated g c = subst (λ (v : FramesView). AllByRecursion (IsPopulated v.frames) v.vacated) c.self.view_is c.self.invariant.3
 
-pub returns-clause-shelf : goal.returns-clause-shelf
-returns-clause-shelf g c = subst HasAllFrames c.self.view_is c.self.invariant.1
+pub returns-clause-whole : goal.returns-clause-whole
+returns-clause-whole g c = subst HasAllFrames c.self.view_is c.self.invariant.1
 
 pub push_left-requires : goal.push_left-requires
 push_left-requires g c =

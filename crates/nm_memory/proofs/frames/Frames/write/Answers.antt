@@ -46,5 +46,5 @@ returns-clause-written g c =
     let written = bytes_changed store c.args.frame c.write.new.self (λ bytes. overwrite bytes c.args.at c.args.bytes.now) whole c.write.ensures in
     frames_changed (λ (s : Store). slice_set s c.args.frame (Some (overwrite (bytes_of s c.args.frame) c.args.at c.args.bytes.now))) _ c.args.self.now (in_memory c.write.new.self) shown written
 
-pub returns-clause-shelf : goal.returns-clause-shelf
-returns-clause-shelf g c = subst HasAllFrames c.self.view_is c.self.invariant.1
+pub returns-clause-whole : goal.returns-clause-whole
+returns-clause-whole g c = subst HasAllFrames c.self.view_is c.self.invariant.1

@@ -18,6 +18,6 @@ pub returns : goal.returns
 returns g c =
     let now = c.index_mut.result.now in
     let value = c.index_mut.ensures.value in record {
-      dropped = writes_mappers c.self.inside.mappings.items c.self.inside.pins.items c.args.self.now c.self.view_is c.args.frame c.index.result c.index.ensures c.requires now value c.remove.new.self (λ ss. without_spot ss (c.args.pid, c.args.vpn)) c.remove.ensures.without_mapper;
+      mapper = writes_mappers c.self.inside.mappings.items c.self.inside.pins.items c.args.self.now c.self.view_is c.args.frame c.index.result c.index.ensures c.requires now value c.remove.new.self (λ ss. without_spot ss (c.args.pid, c.args.vpn)) c.remove.ensures.mapper;
       ordered = subst (λ (ss : List Mapper). IsStrictlySortedBy spot_cmp ss) (sym (reads_mappers c.self.inside.mappings.items c.self.inside.pins.items c.args.self.now c.self.view_is c.args.frame c.index.result c.index.ensures c.requires now value)) c.remove.ensures.ordered;
     }

@@ -41,7 +41,7 @@ set-requires g c =
 taken_back : (g : Over) (c : goal.After-self-in-Err-1 g) → c.drop_frame.new.self ≡ c.deref_mut-parts.result.now.areas
 taken_back g c =
     let x = c.deref_mut-parts.result.now in
-    areas_undone c.args.self.now x.tasks x.areas c.set_frame.new.self c.drop_frame.new.self x.rmap c.args.page c.args.frame (seen c.deref_mut-parts.ensures.value c.self.view_is) (tied c.deref_mut-parts.ensures.value c.self.invariant) c.requires.unplaced c.in_ok-set_frame.ensures.ok c.drop_frame.ensures
+    areas_undone c.args.self.now x.tasks x.areas c.set_frame.new.self c.drop_frame.new.self x.rmap c.args.page c.args.frame (seen c.deref_mut-parts.ensures.value c.self.view_is) (tied c.deref_mut-parts.ensures.value c.self.invariant) c.requires.absent c.in_ok-set_frame.ensures.ok c.drop_frame.ensures
 
 pub invariant_of-self-in-Err : goal.invariant_of-self-in-Err
 invariant_of-self-in-Err g c =
@@ -54,13 +54,13 @@ returns-in-Err-clause-err g c = (λ i. spaces_view c.deref_mut-parts.result.now.
 all_taken_back : (g : Over) (c : goal.After-self-in-Err-set-1 g) → c.drop_frame-in-Err-set.new.self ≡ c.deref_mut-parts.result.now.areas
 all_taken_back g c =
     let x = c.deref_mut-parts.result.now in
-    areas_undone c.args.self.now x.tasks x.areas c.set_frame.new.self c.drop_frame-in-Err-set.new.self x.rmap c.args.page c.args.frame (seen c.deref_mut-parts.ensures.value c.self.view_is) (tied c.deref_mut-parts.ensures.value c.self.invariant) c.requires.unplaced c.in_ok-set_frame.ensures.ok c.drop_frame-in-Err-set.ensures
+    areas_undone c.args.self.now x.tasks x.areas c.set_frame.new.self c.drop_frame-in-Err-set.new.self x.rmap c.args.page c.args.frame (seen c.deref_mut-parts.ensures.value c.self.view_is) (tied c.deref_mut-parts.ensures.value c.self.invariant) c.requires.absent c.in_ok-set_frame.ensures.ok c.drop_frame-in-Err-set.ensures
 
 rmap_undone : (g : Over) (c : goal.After-self-in-Err-set-1 g) → c.drop_one.new.self ≡ c.deref_mut-parts.result.now.rmap
 rmap_undone g c =
     let x = c.deref_mut-parts.result.now in
     let spare = spare_in c.args.self.now x.tasks x.areas x.rmap c.args.frame (seen c.deref_mut-parts.ensures.value c.self.view_is) c.requires.frame c.requires.spare in
-    c.drop_one.ensures.dropped
+    c.drop_one.ensures.mapper
     ∙ ap (λ r. without_mapper r c.args.frame (c.args.pid, c.args.vpn)) c.in_default.ensures.ok
     ∙ mapper_undone c.args.self.now x.tasks x.areas x.rmap c.args.pid c.args.vpn c.args.frame (seen c.deref_mut-parts.ensures.value c.self.view_is) (tied c.deref_mut-parts.ensures.value c.self.invariant) c.requires.known c.requires.unseen spare.frame
 
@@ -82,7 +82,7 @@ invariant_of-self-2 g c =
     let free = unmapped_at y x.tasks x.areas x.rmap c.args.pid c.args.vpn is c.requires.unseen in
     let at = ap (λ (y : AddressSpacesView). page_at y.areas c.args.pid c.args.vpn) is ∙ c.requires.shown in
     let spare = spare_in y x.tasks x.areas x.rmap c.args.frame is c.requires.frame c.requires.spare in
-    let none = ap (λ (y : AddressSpacesView). get page_cmp y.place c.args.page) is ∙ c.requires.unplaced in
+    let none = ap (λ (y : AddressSpacesView). get page_cmp y.place c.args.page) is ∙ c.requires.absent in
     let m = with_frame x.areas c.args.page c.args.frame in
     subst (λ (m : Mapping). IsTied c.set.new.self m c.add.new.self) (sym c.in_ok-set_frame.ensures.ok)
     (subst (λ (r : Mappers). IsTied c.set.new.self m r) (sym c.in_default.ensures.ok)
@@ -99,7 +99,7 @@ returns-clause-ok g c = λ p h.
     let free = unmapped_at y x.tasks x.areas x.rmap c.args.pid c.args.vpn is c.requires.unseen in
     let at = ap (λ (y : AddressSpacesView). page_at y.areas c.args.pid c.args.vpn) is ∙ c.requires.shown in
     let spare = spare_in y x.tasks x.areas x.rmap c.args.frame is c.requires.frame c.requires.spare in
-    let none = ap (λ (y : AddressSpacesView). get page_cmp y.place c.args.page) is ∙ c.requires.unplaced in
+    let none = ap (λ (y : AddressSpacesView). get page_cmp y.place c.args.page) is ∙ c.requires.absent in
     let m = with_frame x.areas c.args.page c.args.frame in
     let same = process_at y x.tasks x.areas x.rmap c.args.pid t.0 p is t.1 h in
     (λ i. spaces_view (c.in_default-set.ensures.ok t.0 t.1 i) (c.in_ok-set_frame.ensures.ok i) (c.in_default.ensures.ok i))

@@ -31,12 +31,12 @@ returns-clause-memory g c =
     let there = info_shown c.args.self.now x.tasks x.areas x.rmap c.args.pid (seen c.deref-parts.ensures c.self.view_is) in
     on_err c.entries.result (λ some. some_mapped _ (get nat_cmp c.args.self.now.processes c.args.pid) (subst IsSome there (mapped_some _ (get nat_cmp x.tasks c.args.pid) some))) c.entries.ensures.memory
 
-pub returns-clause-asked : goal.returns-clause-asked
-returns-clause-asked g c =
+pub returns-clause-allocates : goal.returns-clause-allocates
+returns-clause-allocates g c =
     let x = c.deref-parts.result.now in
     let y = c.args.self.now in
     let shown : Process → Map ℕ Entry = λ p. with_values (λ v sight. entry_of y.place sight) p.sees in
     on_err c.entries.result (λ some p found.
     subst (λ n. 0 < n) (as_many-values (λ v sight. entry_of y.place sight) p.sees)
     (subst (λ (o : Option (Map ℕ Entry)). 0 < length (unwrap_or o [])) (table_shown x.tasks x.areas x.rmap (tied c.deref-parts.ensures c.self.invariant) y c.args.pid (seen c.deref-parts.ensures c.self.view_is) ∙ ap (option_map shown) found) some))
-    c.entries.ensures.asked
+    c.entries.ensures.allocates

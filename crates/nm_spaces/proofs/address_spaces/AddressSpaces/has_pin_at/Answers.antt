@@ -21,8 +21,8 @@ returns-in-None-clause-pinned g c =
     let y = c.args.self.now in
     sym (unplaced_pins y x.tasks x.areas x.rmap (seen c.deref-parts.ensures c.self.view_is) c.in-Some.page (sym c.in-None.ensures)) ∙ ap (is_page_pinned y) c.in-Some.ensures
 
-pub returns-in-Some-page_frame-clause-around : goal.returns-in-Some-page_frame-clause-around
-returns-in-Some-page_frame-clause-around g c pinned first end low high =
+pub returns-in-Some-page_frame-clause-range : goal.returns-in-Some-page_frame-clause-range
+returns-in-Some-page_frame-clause-range g c pinned first end low high =
     let x = c.deref-parts.result.now in
     let y = c.args.self.now in
     let pins = placed_pins y x.tasks x.areas x.rmap (seen c.deref-parts.ensures c.self.view_is) c.in-Some.page c.in-Some-page_frame.frame (sym c.in-Some-page_frame.ensures) in

@@ -101,13 +101,13 @@ returns-clause-few g c =
 
 -- ---- memory is asked for only where there is something to list
 
-pub returns-in_err-entries-clause-asked : goal.returns-in_err-entries-clause-asked
-returns-in_err-entries-clause-asked g c =
+pub returns-in_err-entries-clause-allocates : goal.returns-in_err-entries-clause-allocates
+returns-in_err-entries-clause-allocates g c =
     let x = c.deref-parts.result.now in
-    on_any c.from_residual.result (some_seen c.args.self.now x.tasks x.areas x.rmap c.args.pid (seen c.deref-parts.ensures c.self.view_is) (tied c.deref-parts.ensures c.self.invariant) c.args.first c.args.end c.in_err-entries.ensures.asked)
+    on_any c.from_residual.result (some_seen c.args.self.now x.tasks x.areas x.rmap c.args.pid (seen c.deref-parts.ensures c.self.view_is) (tied c.deref-parts.ensures c.self.invariant) c.args.first c.args.end c.in_err-entries.ensures.allocates)
 
-pub returns-in_err-push-clause-asked : goal.returns-in_err-push-clause-asked
-returns-in_err-push-clause-asked g c =
+pub returns-in_err-push-clause-allocates : goal.returns-in_err-push-clause-allocates
+returns-in_err-push-clause-allocates g c =
     let x = c.deref-parts.result.now in
     let range = c.deref-vpn-items.ensures.value ∙ c.in_ok-entries.ensures.entries in
     let some : 0 < length c.deref-vpn-items.result.now = omega (arith, c.loop-vpn-test.true) in

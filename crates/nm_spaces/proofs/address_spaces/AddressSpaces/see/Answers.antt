@@ -23,7 +23,7 @@ rmap_undone : (g : Over) (c : goal.After-self-in-Err-1 g) → c.drop_one.new.sel
 rmap_undone g c =
     let x = c.deref_mut-parts.result.now in
     let placed = placed_in c.args.self.now x.tasks x.areas x.rmap c.args.page c.args.frame (seen c.deref_mut-parts.ensures.value c.self.view_is) c.requires.placed in
-    c.drop_one.ensures.dropped
+    c.drop_one.ensures.mapper
     ∙ ap (λ r. without_mapper r c.args.frame (c.args.pid, c.args.vpn)) c.in_ok-add.ensures.ok
     ∙ mapper_undone c.args.self.now x.tasks x.areas x.rmap c.args.pid c.args.vpn c.args.frame (seen c.deref_mut-parts.ensures.value c.self.view_is) (tied c.deref_mut-parts.ensures.value c.self.invariant) c.requires.known c.requires.unseen ((tied c.deref_mut-parts.ensures.value c.self.invariant).in_range c.args.page c.args.frame placed)
 

@@ -68,7 +68,7 @@ loop-vpn-preserved g c =
       | in-Some-frame_named w ↦
           let f = w.in-Some-frame_named.frame in
           let named = sym c.frame_named.ensures ∙ w.in-Some-frame_named.is in
-          less_named r t f (c.args.pid, v) e named (frame_below f e (λ f v. c.requires.frames f v) some.0 some.1 (names_it e f named)) w.drop_one.ensures.ordered (w.rmap-is ∙ w.drop_one.ensures.dropped)
+          less_named r t f (c.args.pid, v) e named (frame_below f e (λ f v. c.requires.frames f v) some.0 some.1 (names_it e f named)) w.drop_one.ensures.ordered (w.rmap-is ∙ w.drop_one.ensures.mapper)
     ]) in
     let at = c.number-at-in-Some.ensures in
     record {

@@ -27,4 +27,4 @@ returns-in-Some-frame_named g c =
     let f = c.in-Some-frame_named.frame in
     let named = sym c.frame_named.ensures ∙ c.in-Some-frame_named.is in
     subst (λ (o : Option Entry). IsWithout c.args.rmap.now c.drop_one.new.self (c.args.pid, c.args.vpn) o) (sym c.in-Some.is ∙ c.entry.ensures)
-    (less_named c.args.rmap.now c.drop_one.new.self f (c.args.pid, c.args.vpn) c.in-Some.entry named (c.requires f (ap (names f) (sym c.entry.ensures ∙ c.in-Some.is) ∙ names_it c.in-Some.entry f named)) c.drop_one.ensures.ordered c.drop_one.ensures.dropped)
+    (less_named c.args.rmap.now c.drop_one.new.self f (c.args.pid, c.args.vpn) c.in-Some.entry named (c.requires f (ap (names f) (sym c.entry.ensures ∙ c.in-Some.is) ∙ names_it c.in-Some.entry f named)) c.drop_one.ensures.ordered c.drop_one.ensures.mapper)

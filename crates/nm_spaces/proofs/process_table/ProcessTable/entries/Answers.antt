@@ -18,7 +18,7 @@ returns-in_ok-entries-in-Some-clause-entries g c =
 pub returns-in-None-clause-entries : goal.returns-in-None-clause-entries
 returns-in-None-clause-entries g c = ap (option_map task_table) (sym (none_found c.self.inside.tasks.entries c.args.self.now c.args.pid c.self.view_is c.in-None.ensures))
 
-pub returns-in_err-entries-in-Some-clause-asked : goal.returns-in_err-entries-in-Some-clause-asked
-returns-in_err-entries-in-Some-clause-asked g c =
+pub returns-in_err-entries-in-Some-clause-allocates : goal.returns-in_err-entries-in-Some-clause-allocates
+returns-in_err-entries-in-Some-clause-allocates g c =
     let found = found_value c.self.inside.tasks.entries c.args.self.now c.args.pid c.in-Some.task.now c.self.view_is c.in-Some.ensures ∙ ap Some (sym c.task.view_is) in
-    on_any c.from_residual.result (subst (λ (o : Option Task). 0 < length (unwrap_or (option_map task_table o) [])) (sym found) c.in_err-entries-in-Some.ensures.asked)
+    on_any c.from_residual.result (subst (λ (o : Option Task). 0 < length (unwrap_or (option_map task_table o) [])) (sym found) c.in_err-entries-in-Some.ensures.allocates)

@@ -25,8 +25,8 @@ returns-clause-entries g c =
     ∙ ranged c.task.inside.table c.args.first c.args.end
     ∙ ap (λ (o : Option Task). between c.args.first c.args.end (unwrap_or (option_map task_table o) [])) found
 
-pub returns-in_err-list_between-clause-asked : goal.returns-in_err-list_between-clause-asked
-returns-in_err-list_between-clause-asked g c =
+pub returns-in_err-list_between-clause-allocates : goal.returns-in_err-list_between-clause-allocates
+returns-in_err-list_between-clause-allocates g c =
     let found = sym (found_value c.self.inside.tasks.entries c.args.self.now c.args.pid c.in-Some.task.now c.self.view_is c.in-Some.ensures ∙ ap Some (sym c.task.view_is)) in
     let all =
     ap (λ es. es ++ entries_between nat_cmp (Included c.args.first) (Excluded c.args.end) c.task.inside.table) c.new-entries.ensures.items

@@ -37,8 +37,8 @@ remove_leaf-requires-clause-there g c =
     let b = c.args.self.now in
     ap (get nat_cmp b.index) (sym c.block_of-block.ensures.number) ∙ sym c.in-Some.ensures.slot ∙ ap Some c.in-Leaf.is
 
-pub remove_leaf-requires-clause-only : goal.remove_leaf-requires-clause-only
-remove_leaf-requires-clause-only g c =
+pub remove_leaf-requires-clause-none : goal.remove_leaf-requires-clause-none
+remove_leaf-requires-clause-none g c =
     let b = c.args.self.now in
     let i = c.in-Leaf.number in
     let at : get nat_cmp b.index (c.args.vpn / 512) ≡ Some (Leaf i) = ap (get nat_cmp b.index) (sym c.block_of-block.ensures.number) ∙ sym c.in-Some.ensures.slot ∙ ap Some c.in-Leaf.is in

@@ -25,7 +25,7 @@ returns-then-number-len-clause-entries g c =
     let now_len = c.len.ensures in
     let last : n + 1 ≡ length b.leaves.items = omega (arith, old_len, less, same, now_len) in
     ap (λ ls. entries_by ls c.remove.new.self) c.swap_remove.ensures.items ∙ ap (entries_by (swap_remove b.leaves.items n x)) index_less ∙ last-entries b.leaves.items b.index c.requires.kept.0 c.requires.kept.3 c.requires.kept.4 c.args.vpn n c.requires.there x last
-    ∙ blocks-gone b.leaves.items b.index c.requires.kept.0 c.args.vpn (Leaf n) c.requires.there c.requires.only
+    ∙ blocks-gone b.leaves.items b.index c.requires.kept.0 c.args.vpn (Leaf n) c.requires.there c.requires.none
 
 pub returns-then-number-len-clause-kept : goal.returns-then-number-len-clause-kept
 returns-then-number-len-clause-kept g c =
@@ -100,7 +100,7 @@ returns-clause-entries g c =
     let moved : slice_get (swap_remove b.leaves.items n x) n ≡ Some p = ap (λ ls. slice_get ls n) (sym c.swap_remove.ensures.items) ∙ slice_get_read c.swap_remove.new.self.items (vec_len c.swap_remove.new.self) n p new_len below c.index.ensures in
     let index_now : c.replace.new.self ≡ replace nat_cmp (without nat_cmp b.index (c.args.vpn / 512)) p.block (Leaf n) = c.replace.ensures.slot ∙ ap (λ m. replace nat_cmp m p.block (Leaf n)) index_less in
     ap (λ ls. entries_by ls c.replace.new.self) c.swap_remove.ensures.items ∙ ap (entries_by (swap_remove b.leaves.items n x)) index_now ∙ moved-entries b.leaves.items b.index c.requires.kept.0 c.requires.kept.3 c.requires.kept.4 c.args.vpn n c.requires.there x more p moved
-    ∙ blocks-gone b.leaves.items b.index c.requires.kept.0 c.args.vpn (Leaf n) c.requires.there c.requires.only
+    ∙ blocks-gone b.leaves.items b.index c.requires.kept.0 c.args.vpn (Leaf n) c.requires.there c.requires.none
 
 pub returns-clause-kept : goal.returns-clause-kept
 returns-clause-kept g c =

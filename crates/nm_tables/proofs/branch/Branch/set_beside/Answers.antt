@@ -42,7 +42,7 @@ both g c =
 pub returns-clause-ok : goal.returns-clause-ok
 returns-clause-ok g c =
     ap (λ ps. flatten (slots_shown g.T.Subtree.slots ps)) (both g c)
-    ∙ node.node-new g.T.Subtree.slots g.T.Subtree.number g.T.Subtree.whole g.T.Subtree.is_in g.met.T.Subtree.parted g.met.T.Subtree.upwards (parts_of c.args.self.now) c.requires.kept.0 c.args.block c.in_ok-part.part c.args.slot c.requires.apart c.in_ok-part.ensures.one
+    ∙ node.node-new g.T.Subtree.slots g.T.Subtree.number g.T.Subtree.whole g.T.Subtree.is_in g.met.T.Subtree.parted g.met.T.Subtree.upwards (parts_of c.args.self.now) c.requires.kept.0 c.args.block c.in_ok-part.part c.args.slot c.requires.apart c.in_ok-part.ensures.slots
 
 pub returns-clause-kept : goal.returns-clause-kept
 returns-clause-kept g c = (

@@ -23,12 +23,12 @@ loop-number-init g c =
     sym (take_all (length xs - from) (drop from xs) (omega (arith, length-drop from xs)) ∙ ap (drop from) c.deref.ensures.value) in
     record {
       kept = subst (IsNode t.whole t.is_in) left
-          (listed.rest_kept t.slots t.number t.whole t.is_in g.met.T.Subtree.parted g.met.T.Subtree.upwards leaves c.args.first c.args.last parts from c.requires.kept.0 c.requires.named);
+          (listed.rest_kept t.slots t.number t.whole t.is_in g.met.T.Subtree.parted g.met.T.Subtree.upwards leaves c.args.first c.args.last parts from c.requires.kept.0 c.requires.blocks);
       named = subst (λ ps. AreBlocks leaves (flatten (slots_shown t.slots ps))) left
-          (listed.rest_named t.slots t.number t.whole t.is_in g.met.T.Subtree.parted g.met.T.Subtree.upwards leaves c.args.first c.args.last parts from c.requires.kept.0 c.requires.named);
+          (listed.rest_named t.slots t.number t.whole t.is_in g.met.T.Subtree.parted g.met.T.Subtree.upwards leaves c.args.first c.args.last parts from c.requires.kept.0 c.requires.blocks);
       left = ap (λ m. c.args.list.now.items ++ m)
           (ap (λ ps. within c.args.first c.args.last (entries_by leaves (flatten (slots_shown t.slots ps)))) (sym left)
-          ∙ listed.rest_there t.slots t.number t.whole t.is_in g.met.T.Subtree.parted g.met.T.Subtree.upwards leaves c.args.first c.args.last parts from c.requires.kept.0 c.requires.named begins);
+          ∙ listed.rest_there t.slots t.number t.whole t.is_in g.met.T.Subtree.parted g.met.T.Subtree.upwards leaves c.args.first c.args.last parts from c.requires.kept.0 c.requires.blocks begins);
       before = listed.unextended c.args.list.now.items;
     }
 
@@ -47,8 +47,8 @@ returns-then-end-number-clause-ok g c =
     l.list.items _ (ap (λ ps. l.list.items ++ within c.args.first c.args.last (entries_by leaves (flatten (slots_shown t.slots ps)))) (sym here) ∙ l.invariant.left)
     (subst (λ n. n < e.0) number c.if-end-number.true)
 
-pub list_within-requires-clause-named : goal.list_within-requires-clause-named
-list_within-requires-clause-named g c =
+pub list_within-requires-clause-blocks : goal.list_within-requires-clause-blocks
+list_within-requires-clause-blocks g c =
     let t = g.T.Subtree in
     let l = c.loop-number in
     let leaves = c.args.leaves.now in

@@ -59,7 +59,7 @@ returns-in_ok-insert-in-Err-clause-ok g c =
     let part = c.in_ok-part-in-Err.part in
     let none = absent_at parts c.as_slice.result.now (g.T.Subtree.number c.args.block) c.number_of-number.result c.in-Err.place c.as_slice.ensures.value c.number_of-number.ensures c.in-Err.ensures.fits in
     let more = c.in_ok-insert-in-Err.ensures.items ∙ inserted_at parts c.as_slice.result.now (g.T.Subtree.number c.args.block) c.number_of-number.result c.in-Err.place c.as_slice.ensures.value c.number_of-number.ensures c.in-Err.ensures.fits part in
-    ap (λ ps. flatten (slots_shown g.T.Subtree.slots ps)) more ∙ node.node-new g.T.Subtree.slots g.T.Subtree.number g.T.Subtree.whole g.T.Subtree.is_in g.met.T.Subtree.parted g.met.T.Subtree.upwards parts c.requires.kept.0 c.args.block part c.args.slot none c.in_ok-part-in-Err.ensures.one
+    ap (λ ps. flatten (slots_shown g.T.Subtree.slots ps)) more ∙ node.node-new g.T.Subtree.slots g.T.Subtree.number g.T.Subtree.whole g.T.Subtree.is_in g.met.T.Subtree.parted g.met.T.Subtree.upwards parts c.requires.kept.0 c.args.block part c.args.slot none c.in_ok-part-in-Err.ensures.slots
 
 pub returns-in_ok-insert-in-Err-clause-kept : goal.returns-in_ok-insert-in-Err-clause-kept
 returns-in_ok-insert-in-Err-clause-kept g c =

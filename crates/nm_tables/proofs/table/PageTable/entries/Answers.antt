@@ -12,8 +12,8 @@ returns-in_err-list_within-clause-ordered g c = ordered_by c.self.inside.blocks 
 pub returns-clause-ordered : goal.returns-clause-ordered
 returns-clause-ordered g c = ordered_by c.self.inside.blocks c.args.self.now c.self.view_is c.self.invariant
 
-pub returns-in_err-list_within-clause-asked : goal.returns-in_err-list_within-clause-asked
-returns-in_err-list_within-clause-asked g c =
+pub returns-in_err-list_within-clause-allocates : goal.returns-in_err-list_within-clause-allocates
+returns-in_err-list_within-clause-allocates g c =
     let b = c.self.inside.blocks in
     let last = c.new-2.ensures in
     let all =
