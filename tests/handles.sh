@@ -5,7 +5,7 @@
 set -eu
 cd "$(dirname "$0")/.."
 # shellcheck disable=SC2046 # (the names of crates and files have no spaces)
-found=$(find crates/*/src -name '*.rt' -exec grep -lE '\b(Threads|Wait)\b' {} + | grep -vE '^crates/(nm_threads|nm_tests|nm_checks|numatrace|numatrace_session)/|^crates/nm_runs/src/parallel\.rt$' || :)
+found=$(find crates/*/src -name '*.rt' -exec grep -lE '\b(Threads|Wait)\b' {} + | grep -vE '^crates/(nm_threads|nm_crate_tests|nm_system_tests|numatrace|numatrace_session)/|^crates/nm_runs/src/parallel\.rt$' || :)
 [ -z "$found" ] && exit 0
 printf '%s: names a handle for threads\n' $found
 exit 1

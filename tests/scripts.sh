@@ -216,7 +216,7 @@ until_free() {
 build_all '' '' || fail "a build fails: $(cat "$there/err" "$there/notes")"
 proved=$(count stamp)
 [ "$(grep -c '^begins' "$there/notes")" = "$proved" ] || fail "a crate is proved more than once"
-[ ! -e "$all/crates/nm_checks/out" ] || fail "a build proves what the program does not depend on"
+[ ! -e "$all/crates/nm_system_tests/out" ] || fail "a build proves what the program does not depend on"
 [ "$(tail -n 6 "$there/notes" | tr '\n' ' ')" = "ends numatrace begins numatrace_session ends numatrace_session begins nm_library ends nm_library links " ] ||
     fail "a build does not make the program for sessions and the library last: $(tail -n 6 "$there/notes")"
 for program in numatrace numatrace_session nm_library; do

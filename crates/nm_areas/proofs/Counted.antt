@@ -16,14 +16,14 @@ use Rattle.nm_model.specs.definitions.Areas.{AreasAreApart, IsSomePages}
 use Rattle.nm_model.specs.definitions.Areas.{parts_outside, shows_page, covers_page, is_covered}
 use Rattle.nm_model.specs.definitions.Areas.{split_at, with_policy_in}
 use Rattle.nm_model.specs.definitions.Areas.{page_in, begins_in, is_own}
-use Rattle.nm_counts.specs.Shifted.{is_between}
+use Rattle.nm_coverage.specs.Shifted.{is_between}
 use Rattle.nm_model.proofs.areas.Apart.{behind_last, covers_parts, covers_from}
 use Rattle.nm_model.proofs.areas.Parted.{Among, All-among}
 use Rattle.nm_model.proofs.areas.Cut.{shorter, later, cut_not, cut_mid}
 use Rattle.nm_areas.proofs.Own.{same_test}
 use Rattle.nm_model.proofs.areas.Repoliced.{split_some}
-use Rattle.nm_counts.proofs.Orders.{pages_same, page_itself}
-use Rattle.nm_counts.proofs.Between.{between_parts, between_from}
+use Rattle.nm_coverage.proofs.Orders.{pages_same, page_itself}
+use Rattle.nm_coverage.proofs.Between.{between_parts, between_from}
 
 -- ---- sums
 

@@ -3,7 +3,7 @@ use Rattle.std.proofs.Common.{◌≡◌, ℕ, [], ◌∷◌, refl}
 use Rattle.nm_types.specs.declared.page.Page.{Page}
 use Rattle.nm_types.specs.declared.area.Area.{Area}
 use Rattle.nm_types.specs.Map.{Map, get, page_cmp}
-use Rattle.nm_counts.specs.declared.step.Step.{Step}
+use Rattle.nm_coverage.specs.declared.step.Step.{Step}
 use Rattle.nm_areas.specs.Coverage.{step_at, ends_at, covers_at}
 use Rattle.nm_model.specs.definitions.Areas.{new_area}
 use Rattle.nm_model.specs.definitions.Areas.{page_in}

@@ -7,7 +7,7 @@ use Rattle.nm_types.specs.declared.area.Area.{Area}
 use Rattle.nm_types.specs.declared.area.Segment.{Segment}
 use Rattle.nm_types.specs.declared.area.Policy.{Policy}
 use Rattle.nm_types.specs.Map.{Map, get, set, spot_cmp, with_values}
-use Rattle.nm_counts.specs.declared.step.Step.{Step}
+use Rattle.nm_coverage.specs.declared.step.Step.{Step}
 use Rattle.nm_areas.specs.Coverage.{IsSteps, IsCoverage, IsWith, of_shared, ends_of, covers_of, ends_at, covers_at, splits_at}
 use Rattle.nm_model.specs.definitions.Areas.{is_shared}
 use Rattle.nm_model.specs.definitions.Areas.{IsWellFormed, IsSomePages, mapping_of, shows_segment}

@@ -14,7 +14,7 @@ use Rattle.nm_types.specs.Map.{Map, get, set, same_page, spot_cmp}
 use Rattle.nm_types.specs.State.{PlacedArea, covers, page_of}
 use Rattle.nm_types.proofs.Cases.{true_false}
 use Rattle.nm_types.proofs.Maps.{equal, get-set}
-use Rattle.nm_counts.specs.declared.step.Step.{Step}
+use Rattle.nm_coverage.specs.declared.step.Step.{Step}
 use Rattle.nm_areas.specs.Coverage.{sum_over_areas, IsSteps, IsFlat, IsCoverage, IsWith, of_shared, ends_at, covers_at, ends_of, covers_of, end_of, split_of}
 use Rattle.nm_model.specs.definitions.Areas.{is_shared}
 use Rattle.nm_model.specs.definitions.Areas.{IsSomePages, shows_segment}
@@ -22,8 +22,8 @@ use Rattle.nm_model.specs.definitions.Areas.{shows_page}
 use Rattle.nm_model.specs.definitions.Areas.{page_in, segments_left}
 use Rattle.nm_areas.proofs.Counted.{areas_flat, areas_few, total_set}
 use Rattle.nm_areas.proofs.Private.{get_kept}
-use Rattle.nm_counts.proofs.Orders.{pages_same}
-use Rattle.nm_counts.proofs.Between.{between_parts}
+use Rattle.nm_coverage.proofs.Orders.{pages_same}
+use Rattle.nm_coverage.proofs.Between.{between_parts}
 use Rattle.nm_areas.proofs.Steps.{steps_same}
 
 -- ---- at one page

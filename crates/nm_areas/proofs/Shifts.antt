@@ -5,7 +5,7 @@ use Rattle.std.proofs.lemmas.Bool.{and_parts, and_from, eqb-true, eq-eqb, leb-tr
 use Rattle.nm_types.specs.declared.area.Policy.{Policy}
 use Rattle.nm_types.specs.declared.area.Area.{Area}
 use Rattle.nm_model.specs.definitions.Areas.{with_policy_in}
-use Rattle.nm_counts.proofs.Between.{among_spots, spots_from, spots_parts}
+use Rattle.nm_coverage.proofs.Between.{among_spots, spots_from, spots_parts}
 use Rattle.nm_areas.proofs.Own.{same_test}
 
 module _ (pid first past : ℕ) (policy : Policy) where

@@ -9,9 +9,9 @@ use Rattle.std.proofs.lemmas.Bool.{eqb-true, false_from_ne_true}
 use Rattle.nm_types.specs.declared.page.Page.{Page}
 use Rattle.nm_types.specs.Map.{Map, get, page_cmp, same_page}
 use Rattle.nm_types.proofs.Cases.{some_none, none_some, some_is}
-use Rattle.nm_counts.specs.declared.step.Step.{Step}
-use Rattle.nm_counts.specs.Shifted.{shift_step, shifted_in, is_between}
-use Rattle.nm_counts.proofs.Orders.{pages_same, page_itself}
+use Rattle.nm_coverage.specs.declared.step.Step.{Step}
+use Rattle.nm_coverage.specs.Shifted.{shift_step, shifted_in, is_between}
+use Rattle.nm_coverage.proofs.Orders.{pages_same, page_itself}
 use Rattle.nm_areas.specs.Coverage.{step_at, IsSteps, IsFlat}
 use Rattle.nm_model.specs.definitions.Areas.{page_in}
 use Rattle.nm_model.proofs.areas.Overs.{up_to, from_up_to, spot_same}

@@ -6,7 +6,7 @@ use Rattle.nm_types.specs.declared.page.Page.{Page}
 use Rattle.nm_types.specs.declared.area.Area.{Area}
 use Rattle.nm_types.specs.declared.area.Segment.{Segment}
 use Rattle.nm_types.specs.Map.{Map, get, without, page_cmp}
-use Rattle.nm_counts.specs.declared.step.Step.{Step}
+use Rattle.nm_coverage.specs.declared.step.Step.{Step}
 use Rattle.nm_areas.specs.Coverage.{step_at, IsCoverage, ends_at, covers_at}
 use Rattle.nm_model.specs.definitions.Areas.{is_shared}
 use Rattle.nm_model.specs.definitions.Areas.{pages_from, is_covered}

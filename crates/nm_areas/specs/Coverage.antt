@@ -5,7 +5,7 @@ use Rattle.nm_types.specs.declared.area.Area.{Area}
 use Rattle.nm_types.specs.declared.area.Segment.{Segment}
 use Rattle.nm_types.specs.Map.{Map, get, page_cmp, same_page}
 use Rattle.nm_types.specs.State.{PlacedArea, covers, page_of}
-use Rattle.nm_counts.specs.declared.step.Step.{Step}
+use Rattle.nm_coverage.specs.declared.step.Step.{Step}
 use Rattle.nm_model.specs.definitions.Areas.{is_shared}
 use Rattle.nm_model.specs.definitions.Areas.{shows_page}
 use Rattle.nm_model.specs.definitions.Areas.{page_in}

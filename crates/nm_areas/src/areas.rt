@@ -13,7 +13,7 @@ use crate::area_table::{AreaTable, new_area};
 use crate::counting::{count_in, count_out};
 use crate::lines::{Area, line_of};
 use crate::ranges::PageRange;
-use nm_counts::Steps;
+use nm_coverage::Coverage;
 use nm_types::limits::MAX_SEGMENTS;
 use nm_types::{Errno, FrameId, MachineError, Page, Pid, Vpn};
 use std::alloc::Allocator;
@@ -27,7 +27,7 @@ use std::marker::Model;
 #[derive(Drop)]
 pub struct Areas<A: Allocator + Copy> {
     pub(crate) table: AreaTable<A>,
-    pub(crate) steps: Steps<A>,
+    pub(crate) steps: Coverage<A>,
     pub(crate) places: BTreeMap<Page, FrameId, A>,
     pub(crate) alloc: A,
 }
@@ -50,7 +50,7 @@ impl<A: Allocator + Copy> Areas<A> {
     {
         Areas {
             table: AreaTable::new(alloc),
-            steps: Steps::new(alloc),
+            steps: Coverage::new(alloc),
             places: BTreeMap::new(alloc),
             alloc,
         }

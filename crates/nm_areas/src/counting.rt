@@ -13,7 +13,7 @@ ghost use Rattle.nm_types.specs.declared.area.Segment.{Segment};
 
 use crate::area_table::AreaTable;
 use crate::coverage::{cover, mark, uncover, unmark};
-use nm_counts::Steps;
+use nm_coverage::Coverage;
 use nm_types::{Area, Page, Pid, Vpn};
 use std::alloc::{AllocError, Allocator};
 
@@ -21,7 +21,7 @@ use std::alloc::{AllocError, Allocator};
 /// still those of the table. Allocates only for a shared segment.
 pub(crate) fn count_in<A: Allocator + Copy>(
     table: &AreaTable<A>,
-    steps: &mut Steps<A>,
+    steps: &mut Coverage<A>,
     area: Area,
     shared: bool,
 ) -> Result<(), AllocError>
@@ -48,7 +48,7 @@ pub(crate) fn count_in<A: Allocator + Copy>(
 }
 
 /// Removes an area that was counted from the count, if it is over a shared segment. Does not allocate.
-pub(crate) fn count_out<A: Allocator + Copy>(steps: &mut Steps<A>, area: Area, shared: bool)
+pub(crate) fn count_out<A: Allocator + Copy>(steps: &mut Coverage<A>, area: Area, shared: bool)
     requires indices { area.page.index + area.pages < 2 ^ 64 }
     ensures { (segments : Map ℕ Segment) (areas : Map (ℕ × ℕ) Area) →
         IsWith steps.old segments areas area shared →
@@ -63,7 +63,7 @@ pub(crate) fn count_out<A: Allocator + Copy>(steps: &mut Steps<A>, area: Area, s
 /// those of the other areas. Does not allocate.
 pub(crate) fn count_out_own<A: Allocator + Copy>(
     table: &AreaTable<A>,
-    steps: &mut Steps<A>,
+    steps: &mut Coverage<A>,
     pid: Pid,
     first: Vpn,
     end: Vpn,
@@ -81,7 +81,7 @@ pub(crate) fn count_out_own<A: Allocator + Copy>(
 }
 
 /// Removes an area of a table from the count, if it is over a shared segment. Does not allocate.
-fn count_out_one<A: Allocator + Copy>(table: &AreaTable<A>, steps: &mut Steps<A>, area: Area)
+fn count_out_one<A: Allocator + Copy>(table: &AreaTable<A>, steps: &mut Coverage<A>, area: Area)
     requires indices { area.page.index + area.pages < 2 ^ 64 }
     ensures { (ends covers : Page → ℕ) →
         IsSteps steps.old (of_shared table.now.segments (λ p. ends p + ends_of p area))
@@ -98,7 +98,7 @@ fn count_out_one<A: Allocator + Copy>(table: &AreaTable<A>, steps: &mut Steps<A>
 /// steps are still those of the table. Allocates only if an area covers one of the page numbers and begins before it.
 pub(crate) fn split_steps<A: Allocator + Copy>(
     table: &AreaTable<A>,
-    steps: &mut Steps<A>,
+    steps: &mut Coverage<A>,
     pid: Pid,
     first: Vpn,
     end: Vpn,
@@ -135,7 +135,7 @@ pub(crate) fn split_steps<A: Allocator + Copy>(
 /// Undoes what `split_steps` counted, where the areas were not split after all. Does not allocate.
 pub(crate) fn join_steps<A: Allocator + Copy>(
     table: &AreaTable<A>,
-    steps: &mut Steps<A>,
+    steps: &mut Coverage<A>,
     pid: Pid,
     first: Vpn,
     end: Vpn,
@@ -158,7 +158,7 @@ pub(crate) fn join_steps<A: Allocator + Copy>(
 /// has changed. Allocates only if an area covers the page number and begins before it.
 fn split_step<A: Allocator + Copy>(
     table: &AreaTable<A>,
-    steps: &mut Steps<A>,
+    steps: &mut Coverage<A>,
     pid: Pid,
     at: Vpn,
 ) -> Result<(), AllocError>
@@ -187,7 +187,7 @@ fn split_step<A: Allocator + Copy>(
 }
 
 /// Undoes what `split_step` counted. Does not allocate.
-fn join_step<A: Allocator + Copy>(table: &AreaTable<A>, steps: &mut Steps<A>, pid: Pid, at: Vpn)
+fn join_step<A: Allocator + Copy>(table: &AreaTable<A>, steps: &mut Coverage<A>, pid: Pid, at: Vpn)
     requires apart { AreasAreApart table.now.areas }
     requires whole { AllByRecursion IsSomePages table.now.areas }
     requires indices { AllByRecursion HasIndices table.now.areas }

@@ -9,12 +9,12 @@ ghost use Rattle.std.specs.Prelude.{false, None, OnErr, OnOk, Some, ℕ, ◌+◌
 ghost use Rattle.nm_areas.specs.Coverage.{IsFlat, IsSteps, covers_of, end_of, ends_of};
 ghost use Rattle.nm_types.specs.Map.{get, page_cmp, same_page};
 
-use nm_counts::{Step, Steps};
+use nm_coverage::{Step, Coverage};
 use nm_types::{Area, Page};
 use std::alloc::{AllocError, Allocator};
 
 /// Counts an area. An error means that nothing has changed. Allocates only if one of the area's ends has no step yet.
-pub(crate) fn cover<A: Allocator + Copy>(steps: &mut Steps<A>, area: Area) -> Result<(), AllocError>
+pub(crate) fn cover<A: Allocator + Copy>(steps: &mut Coverage<A>, area: Area) -> Result<(), AllocError>
     requires indices { area.page.index + area.pages < 2 ^ 64 }
     ensures ok { OnOk result
         ((ends covers : Page → ℕ) →
@@ -50,7 +50,7 @@ pub(crate) fn cover<A: Allocator + Copy>(steps: &mut Steps<A>, area: Area) -> Re
 }
 
 /// Removes an area that was counted. Does not allocate.
-pub(crate) fn uncover<A: Allocator + Copy>(steps: &mut Steps<A>, area: Area)
+pub(crate) fn uncover<A: Allocator + Copy>(steps: &mut Coverage<A>, area: Area)
     requires indices { area.page.index + area.pages < 2 ^ 64 }
     ensures { (ends covers : Page → ℕ) →
         IsSteps steps.old (λ p. ends p + ends_of p area)
@@ -74,7 +74,7 @@ pub(crate) fn uncover<A: Allocator + Copy>(steps: &mut Steps<A>, area: Area)
 /// Counts `times` more areas that begin or end at a page. An error means that nothing has changed. Allocates only if
 /// the page has no step yet.
 pub(crate) fn mark<A: Allocator + Copy>(
-    steps: &mut Steps<A>,
+    steps: &mut Coverage<A>,
     page: Page,
     times: u64,
 ) -> Result<(), AllocError>
@@ -101,7 +101,7 @@ pub(crate) fn mark<A: Allocator + Copy>(
 }
 
 /// Counts `times` fewer areas that begin or end at a page. Does not allocate.
-pub(crate) fn unmark<A: Allocator + Copy>(steps: &mut Steps<A>, page: Page, times: u64)
+pub(crate) fn unmark<A: Allocator + Copy>(steps: &mut Coverage<A>, page: Page, times: u64)
     ensures { (ends covers : Page → ℕ) →
         IsSteps steps.old (λ p. ends p + (if same_page page p then times else 0)) covers →
         IsSteps steps.new ends covers }
@@ -119,7 +119,7 @@ pub(crate) fn unmark<A: Allocator + Copy>(steps: &mut Steps<A>, page: Page, time
 }
 
 /// How many areas cover a page.
-pub(crate) fn count_at<A: Allocator + Copy>(steps: &Steps<A>, page: Page) -> u64
+pub(crate) fn count_at<A: Allocator + Copy>(steps: &Coverage<A>, page: Page) -> u64
     ensures { (ends covers : Page → ℕ) →
         IsSteps steps.now ends covers →
         IsFlat ends covers →
@@ -138,7 +138,7 @@ pub(crate) fn count_at<A: Allocator + Copy>(steps: &Steps<A>, page: Page) -> u64
 }
 
 /// How many areas begin or end at a page.
-fn ends_at<A: Allocator + Copy>(steps: &Steps<A>, page: Page) -> u64
+fn ends_at<A: Allocator + Copy>(steps: &Coverage<A>, page: Page) -> u64
     ensures { (ends covers : Page → ℕ) → IsSteps steps.now ends covers → result ≡ ends page }
 {
     match steps.get(page) {

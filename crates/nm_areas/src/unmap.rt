@@ -22,7 +22,7 @@ use crate::counting::{count_out_own, join_steps, split_steps};
 use crate::coverage::count_at;
 use crate::ranges::PageRange;
 use crate::scan::next_of;
-use nm_counts::Steps;
+use nm_coverage::Coverage;
 use nm_types::{Area, FrameId, Page, Pid, Vpn};
 use std::alloc::{AllocError, Allocator};
 use std::collections::BTreeMap;
@@ -91,7 +91,7 @@ impl<A: Allocator + Copy> AreaTable<A> {
     /// other areas.
     fn lose_all(
         &self,
-        steps: &Steps<A>,
+        steps: &Coverage<A>,
         pid: Pid,
         first: Vpn,
         end: Vpn,
@@ -167,7 +167,7 @@ impl<A: Allocator + Copy> AreaTable<A> {
 /// Takes the frames of pages that an area shows and that none of the areas covers whose steps these are. Appends these
 /// pages to a list that has room for them. No other area covers a page of a private segment.
 fn lose_area<A: Allocator + Copy>(
-    steps: &Steps<A>,
+    steps: &Coverage<A>,
     area: Area,
     shared: bool,
     places: &mut BTreeMap<Page, FrameId, A>,
@@ -207,7 +207,7 @@ fn lose_area<A: Allocator + Copy>(
 /// are. Appends these pages to a list that has room for them. Goes from one page that has a frame to the next; where
 /// areas cover one, to the next after the next step, since as many cover the pages between.
 fn lose<A: Allocator + Copy>(
-    steps: &Steps<A>,
+    steps: &Coverage<A>,
     area: Area,
     places: &mut BTreeMap<Page, FrameId, A>,
     freed: &mut Vec<(Page, FrameId), A>,

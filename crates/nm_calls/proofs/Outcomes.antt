@@ -17,7 +17,7 @@ use Rattle.nm_model.specs.definitions.Effect.{info_of, first_error}
 use Rattle.nm_model.specs.definitions.Cut.{Stretch, requests_of}
 use Rattle.nm_model.specs.definitions.Run.{runs_from}
 use Rattle.nm_model.specs.definitions.Touch.{Access, touch, write, write_after}
-use Rattle.nm_memory.specs.views.Accesses.{answer_shown}
+use Rattle.nm_pool.specs.views.Accesses.{answer_shown}
 use Rattle.nm_steps.specs.Calls.{Call, MovePages, MigratePages}
 use Rattle.nm_calls.specs.declared.call_error.CallError.{CallError}
 use Rattle.nm_calls.specs.declared.call_error.CallError.TheVariants.{Refused, HostMemory}

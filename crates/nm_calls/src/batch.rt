@@ -15,7 +15,7 @@ ghost use Rattle.nm_steps.specs.Views.{shown_during};
 ghost use Rattle.std.specs.Map.{keys_of};
 ghost use Rattle.nm_calls.specs.definitions.Batch.{answers_in_order, left_shown, AreByRun};
 ghost use Rattle.nm_model.specs.views.Asked.{access_shown};
-ghost use Rattle.nm_memory.specs.views.Accesses.{answer_shown};
+ghost use Rattle.nm_pool.specs.views.Accesses.{answer_shown};
 
 use crate::answer::Moved;
 use crate::call_error::CallError;

@@ -4,8 +4,8 @@ use Rattle.nm_types.specs.State.{State}
 use Rattle.nm_types.specs.declared.page_move.PageMove.{PageMove}
 use Rattle.nm_model.specs.definitions.BeforeCopy.{all_before_copy, frames_taken}
 use Rattle.nm_model.specs.definitions.Touch.{Access}
-use Rattle.nm_memory.specs.declared.pending_access.PendingAccess.{PendingAccess as Left}
-use Rattle.nm_memory.specs.views.Accesses.{pending_shown}
+use Rattle.nm_pool.specs.declared.pending_access.PendingAccess.{PendingAccess as Left}
+use Rattle.nm_pool.specs.views.Accesses.{pending_shown}
 use Rattle.nm_laws.proofs.Early.Phases.{pages_of, touched_all}
 use Rattle.nm_engine.specs.views.Early.{Prepares}
 use Rattle.nm_engine.specs.views.MidRun.{RunState}

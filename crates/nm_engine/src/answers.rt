@@ -1,6 +1,6 @@
 //! The results of runs.
 
-use nm_memory::AccessAnswer;
+use nm_pool::AccessAnswer;
 use std::alloc::Allocator;
 
 /// The result of a run.

@@ -13,6 +13,6 @@ mod touch;
 
 pub use answers::RunAnswer;
 pub use machine::{Machine, Totals};
-pub use nm_memory::AccessAnswer;
+pub use nm_pool::AccessAnswer;
 pub use nm_types::{Access, MachineError};
 pub use run_crew::RunCrew;

@@ -11,7 +11,7 @@ ghost use Rattle.nm_model.specs.definitions.Touch.{Bytes, Done, read, write, sit
 ghost use Rattle.nm_model.specs.definitions.Run.{total_after, with_counts, failures, HasOneAll};
 ghost use Rattle.std.specs.declared.vec.Vec.{Vec};
 ghost use Rattle.nm_frames.specs.declared.job.CopyJob.{CopyJob};
-ghost use Rattle.nm_memory.specs.declared.answers.AccessAnswer.{AccessAnswer as Given};
+ghost use Rattle.nm_pool.specs.declared.answers.AccessAnswer.{AccessAnswer as Given};
 ghost use Rattle.nm_engine.specs.views.Flights.{Flight};
 ghost use Rattle.nm_engine.specs.views.Runs.{asked_by, ran_by};
 ghost use Rattle.nm_model.specs.definitions.Effect.{new_machine};
@@ -34,7 +34,7 @@ use crate::resolved_address::ResolvedAddress;
 use crate::run_crew::RunCrew;
 use crate::touch::push_zeros;
 use core::mem::replace_with;
-use nm_memory::Frames;
+use nm_pool::FramePool;
 use nm_plan::{Plan, plan};
 use nm_runs::Run;
 use nm_spaces::AddressSpaces;
@@ -69,7 +69,7 @@ impl Totals {
 #[derive(Drop)]
 pub struct Machine<A: Allocator + Copy + Send + Sync> {
     pub(crate) spaces: AddressSpaces<A>,
-    pub(crate) frames: Frames<A>,
+    pub(crate) frames: FramePool<A>,
     pub(crate) online: NodeMask,
     pub(crate) totals: Totals,
     /// Where a page was pinned last. Says nothing of whether it still has the pin.
@@ -98,7 +98,7 @@ impl<A: Allocator + Copy + Send + Sync> Machine<A> {
         let online = all_nodes(geometry.node_count());
         Ok(Machine {
             spaces: AddressSpaces::new(alloc, geometry.frame_count())?,
-            frames: Frames::new(alloc, geometry)?,
+            frames: FramePool::new(alloc, geometry)?,
             online,
             totals: Totals {
                 moved: 0,

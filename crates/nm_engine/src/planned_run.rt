@@ -8,7 +8,7 @@ ghost use Rattle.std.specs.declared.vec.Vec.{Vec};
 ghost use Rattle.nm_frames.specs.declared.job.CopyJob.{CopyJob as Job};
 ghost use Rattle.nm_model.specs.definitions.Run.{failures, HasOneAll};
 ghost use Rattle.nm_engine.specs.definitions.Orders.{GoesByEvents, result_of_run};
-ghost use Rattle.nm_memory.specs.declared.answers.AccessAnswer.{AccessAnswer as Given};
+ghost use Rattle.nm_pool.specs.declared.answers.AccessAnswer.{AccessAnswer as Given};
 ghost use Rattle.nm_engine.specs.views.Flights.{Flight};
 ghost use Rattle.nm_engine.specs.views.Runs.{asked_by, ran_by};
 
@@ -16,7 +16,7 @@ use crate::answers::RunAnswer;
 use crate::machine::Machine;
 use crate::prepared_run::PreparedRun;
 use crate::run_crew::RunCrew;
-use nm_memory::AccessAnswer;
+use nm_pool::AccessAnswer;
 use nm_plan::Plan;
 use nm_runs::Run;
 use nm_types::Access;

@@ -5,7 +5,7 @@ ghost use Rattle.nm_frames.specs.declared.job.CopyJob.{CopyJob as Job};
 ghost use Rattle.nm_laws.specs.Laws.{with_moves};
 ghost use Rattle.nm_model.specs.definitions.BeforeCopy.{PendingAccess as Pending, with_fronts, frames_taken, IsPending};
 ghost use Rattle.nm_spaces.specs.definitions.Moves.{all_moved};
-ghost use Rattle.nm_memory.specs.definitions.AfterCopy.{CanDo};
+ghost use Rattle.nm_pool.specs.definitions.AfterCopy.{CanDo};
 ghost use Rattle.nm_engine.specs.views.Flights.{AreOutIn, BeginsSo, HoldsMovingPages, IsReadyFor, pair_of, state_in_flight};
 ghost use Rattle.nm_engine.specs.views.Spaces.{spaces_of};
 
@@ -15,7 +15,7 @@ pub(crate) mod undo;
 use crate::machine::{Machine, Totals};
 use crate::run_in_flight::RunInFlight;
 use nm_frames::CopyJob;
-use nm_memory::Frames;
+use nm_pool::FramePool;
 use nm_spaces::{AddressSpaces, HeldSpaces};
 use nm_types::{NodeMask, Pid, PageMove, Vpn};
 use std::alloc::Allocator;
@@ -26,7 +26,7 @@ use std::marker::Model;
 #[derive(Drop)]
 pub(crate) struct PreparedRun<A: Allocator + Copy> {
     pub(crate) spaces: AddressSpaces<A>,
-    pub(crate) frames: Frames<A>,
+    pub(crate) frames: FramePool<A>,
     pub(crate) online: NodeMask,
     pub(crate) totals: Totals,
     pub(crate) last_pin: Option<(Pid, Vpn)>,

@@ -12,7 +12,7 @@ ghost use Rattle.nm_engine.specs.definitions.Undo.{undo_of, touched_at};
 
 use crate::prepared_run::undo::Undo;
 use crate::resolved_address::ResolvedAddress;
-use nm_memory::Frames;
+use nm_pool::FramePool;
 use nm_policy::first_touch_node;
 use nm_spaces::AddressSpaces;
 use nm_types::{
@@ -68,7 +68,7 @@ impl ResolvedAddress {
     pub(crate) fn touch<A: Allocator + Copy>(
         self,
         spaces: &mut AddressSpaces<A>,
-        frames: &mut Frames<A>,
+        frames: &mut FramePool<A>,
         online: NodeMask,
         alloc: A,
         writes: bool,
@@ -136,7 +136,7 @@ impl ResolvedAddress {
     fn join<A: Allocator + Copy>(
         self,
         spaces: &mut AddressSpaces<A>,
-        frames: &mut Frames<A>,
+        frames: &mut FramePool<A>,
         online: NodeMask,
         alloc: A,
     ) -> Result<TouchOutcome, MachineError>
@@ -174,7 +174,7 @@ impl ResolvedAddress {
     fn fill<A: Allocator + Copy>(
         self,
         spaces: &mut AddressSpaces<A>,
-        frames: &mut Frames<A>,
+        frames: &mut FramePool<A>,
         online: NodeMask,
         alloc: A,
     ) -> Result<FrameId, MachineError>
@@ -212,7 +212,7 @@ impl ResolvedAddress {
 
 /// The first node, in the order for a new page there, that has a free frame.
 fn first_node<A: Allocator + Copy>(
-    frames: &Frames<A>,
+    frames: &FramePool<A>,
     online: NodeMask,
     t: &ResolvedAddress,
 ) -> Option<NodeId>

@@ -4,7 +4,7 @@ use Rattle.std.specs.List.{flat_map}
 use Rattle.std.specs.declared.alloc.Global.{Global}
 use Rattle.std.specs.declared.vec.Vec.{Vec}
 use Rattle.nm_model.specs.definitions.Status.{code}
-use Rattle.nm_memory.specs.views.Accesses.{answer_shown}
+use Rattle.nm_pool.specs.views.Accesses.{answer_shown}
 use Rattle.nm_steps.specs.Calls.{Call, ReadBytes, WriteBytes, FreeList, Pagemap, NumaMaps}
 use Rattle.nm_calls.specs.declared.answer.Answer as values
 use Rattle.nm_calls.specs.declared.answer.Moved.{Moved}

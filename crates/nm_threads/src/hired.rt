@@ -7,7 +7,7 @@ use crate::copying::copy_while;
 use crate::gate::OpenGate;
 use nm_crew::{Crew, Looks};
 use nm_frames::CopyJob;
-use nm_refusing::Refusing;
+use nm_refusing_alloc::Refusing;
 use nm_runs::{Class, Run};
 use nm_spaces::AddressSpaces;
 use nm_types::Geometry;

@@ -7,8 +7,8 @@ use Rattle.std.specs.Prelude.{slice_index, codes, decimal}
 use Rattle.hex.specs.Hex.{encode_with, encode_lower}
 use Rattle.nm_model.specs.definitions.Touch.{Access, AccessAnswer}
 use Rattle.nm_model.specs.views.Asked.{access_shown}
-use Rattle.nm_memory.specs.views.Accesses.{answer_shown}
-use Rattle.nm_memory.specs.declared.answers.AccessAnswer.{AccessAnswer as Given}
+use Rattle.nm_pool.specs.views.Accesses.{answer_shown}
+use Rattle.nm_pool.specs.declared.answers.AccessAnswer.{AccessAnswer as Given}
 use Rattle.nm_steps.specs.declared.call.InFlight.{InFlight}
 use Rattle.nm_steps.specs.Views.{shown_during}
 use Rattle.nm_calls.specs.definitions.Outcome.{access_answer}

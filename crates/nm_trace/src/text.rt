@@ -14,7 +14,7 @@ ghost use Rattle.nm_calls.specs.views.Answers.{answer_of};
 ghost use Rattle.nm_trace.specs.Report.{word_of, each_after_space, entry_text, answer_text, line_of, text_of, access_lines, answers_in, access_line};
 ghost use Rattle.nm_streams.specs.Waiting.{Puts};
 ghost use Rattle.nm_model.specs.views.Asked.{access_shown};
-ghost use Rattle.nm_memory.specs.views.Accesses.{answer_shown};
+ghost use Rattle.nm_pool.specs.views.Accesses.{answer_shown};
 
 use nm_calls::{
     ADDRESS_BYTES, Access, AccessAnswer, Answer, Call, InFlight, PagemapEntry, Totals,

@@ -5,7 +5,7 @@ ghost use Rattle.std.specs.Prelude.{◌<◌, ◌≤◌, ℕ};
 use crate::words::{run_words_by, unread_words};
 use nm_crew::Alone;
 use nm_frames::CopyJob;
-use nm_refusing::Refusing;
+use nm_refusing_alloc::Refusing;
 use nm_spaces::AddressSpaces;
 use nm_threads::Hired;
 use nm_trace::{RunCrew, Watched};

@@ -7,9 +7,9 @@ use Rattle.nm_runs.specs.Targets.{earlier, first_refusal}
 use Rattle.nm_calls.specs.definitions.Permission.{owner_of, allowed_at, query_refusal}
 use Rattle.std.specs.Prelude.{◌≡◌, ◌<◌, ◌==◌, count_by, [], ◌∷◌, ◌++◌, take, drop, length, slice_index_or, slice_set}
 use Rattle.std.specs.declared.vec.IntoIter.{IntoIter}
-use Rattle.nm_memory.specs.declared.answers.AccessAnswer.{AccessAnswer as Given}
+use Rattle.nm_pool.specs.declared.answers.AccessAnswer.{AccessAnswer as Given}
 use Rattle.nm_model.specs.definitions.Touch.{Access, AccessAnswer}
-use Rattle.nm_memory.specs.views.Accesses.{answer_shown}
+use Rattle.nm_pool.specs.views.Accesses.{answer_shown}
 use Rattle.nm_model.specs.definitions.Run.{accesses_of}
 
 -- the refusal of a move: that of a query, or else that of the first node that pages of the process may not go to

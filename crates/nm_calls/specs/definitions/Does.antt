@@ -6,7 +6,7 @@ use Rattle.nm_types.specs.State.{State}
 use Rattle.nm_model.specs.definitions.Cut.{Request, Stretch, cut_within}
 use Rattle.nm_model.specs.definitions.Touch.{Access}
 use Rattle.nm_model.specs.definitions.Run.{RunResult, failures, runs_from, batch}
-use Rattle.nm_memory.specs.views.Accesses.{answer_shown}
+use Rattle.nm_pool.specs.views.Accesses.{answer_shown}
 use Rattle.nm_calls.specs.declared.call_error.CallError.{CallError}
 use Rattle.nm_calls.specs.declared.call_error.CallError.TheVariants.{Refused, HostMemory}
 use Rattle.nm_calls.specs.declared.answer.Moved.{Moved}

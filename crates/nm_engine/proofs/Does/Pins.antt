@@ -13,7 +13,7 @@ use Rattle.nm_model.specs.definitions.Effect.{with_pins, pin, unpin}
 use Rattle.nm_model.specs.definitions.Effect.{is_unknown, pins_refusal, pin_refusal, unpin_refusal}
 use Rattle.nm_engine.specs.definitions.Does.{Alters}
 use Rattle.nm_spaces.specs.views.AddressSpaces.{AddressSpacesView, with_pins_of}
-use Rattle.nm_memory.specs.views.Frames.{FramesView}
+use Rattle.nm_pool.specs.views.Frames.{FramesView}
 use Rattle.nm_engine.specs.views.Shown.{shown_by}
 use Rattle.nm_model.specs.definitions.Sound.{IsSoundInFlight}
 use Rattle.nm_engine.specs.views.MidRun.{IsSoundMachine}

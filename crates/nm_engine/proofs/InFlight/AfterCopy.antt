@@ -22,8 +22,8 @@ use Rattle.nm_engine.specs.views.Shown.{state_of_parts, bytes_in}
 use Rattle.nm_model.specs.definitions.Sound.{PlacesAreApart}
 use Rattle.nm_model.specs.definitions.Touch.{AccessAnswer, Bytes}
 use Rattle.nm_model.specs.definitions.BeforeCopy.{PendingAccess, Known, ToRead, ToWrite, at_page, after_copy, answer_after_copy, all_after_copy}
-use Rattle.nm_memory.specs.definitions.AfterCopy.{frame_at, store_after_copy, answer_from_store, StoreAfterCopy, all_stored_after_copy, CanDo}
-use Rattle.nm_memory.proofs.AfterCopy.Refilled.{all_can_then}
+use Rattle.nm_pool.specs.definitions.AfterCopy.{frame_at, store_after_copy, answer_from_store, StoreAfterCopy, all_stored_after_copy, CanDo}
+use Rattle.nm_pool.proofs.AfterCopy.Refilled.{all_can_then}
 
 values_twice : {K V W X : Type 0} (F : K → W → X) (G : K → V → W) (m : Map K V) → with_values F (with_values G m) ≡ with_values (λ k v. F k (G k v)) m
 values_twice F G [] = refl

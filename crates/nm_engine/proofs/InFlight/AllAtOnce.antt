@@ -14,9 +14,9 @@ use Rattle.nm_types.proofs.Maps.{page_cmp_total, keys-values}
 use Rattle.nm_model.specs.definitions.Frames.{Store, IsHome, overwrite}
 use Rattle.nm_types.specs.declared.page_move.PageMove.{PageMove}
 use Rattle.nm_spaces.specs.views.AddressSpaces.{AddressSpacesView, with_moved, table_of}
-use Rattle.nm_memory.specs.views.Populated.{IsPopulated}
-use Rattle.nm_memory.specs.views.Copies.{without_move, without_moves, with_copies, CanCopy, HasBoth}
-use Rattle.nm_memory.specs.views.Frames.{FramesView, HasAllFrames, free_on}
+use Rattle.nm_pool.specs.views.Populated.{IsPopulated}
+use Rattle.nm_pool.specs.views.Copies.{without_move, without_moves, with_copies, CanCopy, HasBoth}
+use Rattle.nm_pool.specs.views.Frames.{FramesView, HasAllFrames, free_on}
 use Rattle.nm_model.specs.definitions.Touch.{AccessResults}
 use Rattle.nm_laws.specs.Laws.{with_moves}
 use Rattle.nm_engine.specs.views.MidRun.{RunState, IsSoundMachine}
@@ -26,13 +26,13 @@ use Rattle.nm_model.specs.definitions.Run.{frames_left}
 use Rattle.nm_engine.specs.views.Shown.{shown_by, paged_frames}
 use Rattle.nm_model.specs.definitions.Sound.{times, IsSoundInFlight, IsSound}
 use Rattle.nm_model.specs.definitions.BeforeCopy.{PendingAccess, Known, ToRead, ToWrite, at_page, with_written, after_copy, all_after_copy, frames_taken, with_fronts, IsInside, IsPending}
-use Rattle.nm_memory.specs.definitions.AfterCopy.{StoreAfterCopy, all_stored_after_copy, IsIn, CanDo}
+use Rattle.nm_pool.specs.definitions.AfterCopy.{StoreAfterCopy, all_stored_after_copy, IsIn, CanDo}
 use Rattle.nm_laws.proofs.Soundness.Frames.{here, times_cons}
 use Rattle.nm_laws.proofs.Soundness.Once.{counted_place}
 use Rattle.nm_engine.proofs.Shown.Moves.{by_parts, all_carried, all_taken, tos_are, IsCarried, is_carried, carried_copy}
-use Rattle.nm_memory.proofs.Copies.Copied.{stays_home, stays_populated, copies_home}
+use Rattle.nm_pool.proofs.Copies.Copied.{stays_home, stays_populated, copies_home}
 use Rattle.nm_engine.proofs.Shown.PopulatedFrames.{place_populated, left_populated, all_leave, both_populated}
-use Rattle.nm_memory.proofs.Copies.Populated.{copies_populated}
+use Rattle.nm_pool.proofs.Copies.Populated.{copies_populated}
 use Rattle.nm_laws.proofs.Seen.Frames.{place_in_range}
 use Rattle.nm_engine.proofs.InFlight.AfterCopy.{all_done_shows, finished_as}
 use Rattle.nm_laws.proofs.Early.Kept.{beside}

@@ -5,19 +5,19 @@ use Rattle.nm_types.specs.declared.page_move.PageMove.{PageMove}
 use Rattle.nm_types.specs.State.{State}
 use Rattle.nm_frames.specs.declared.job.CopyJob.{CopyJob}
 use Rattle.nm_frames.specs.Job.{job_after_copy}
-use Rattle.nm_memory.specs.views.Populated.{IsPopulated}
+use Rattle.nm_pool.specs.views.Populated.{IsPopulated}
 use Rattle.nm_model.specs.definitions.BeforeCopy.{PendingAccess, all_after_copy, IsInside}
 use Rattle.nm_model.specs.definitions.Frames.{Store, IsHome}
 use Rattle.nm_model.specs.definitions.Run.{frames_left}
 use Rattle.nm_model.specs.definitions.Sound.{IsSoundInFlight}
 use Rattle.nm_model.specs.definitions.Touch.{AccessResults}
-use Rattle.nm_memory.specs.definitions.AfterCopy.{StoreAfterCopy, all_stored_after_copy, CanDo}
-use Rattle.nm_memory.specs.views.Copies.{without_moves, with_copies, jobs_of, with_jobs_back, CanCopy, CanRefill}
-use Rattle.nm_memory.specs.views.Frames.{FramesView, HasAllFrames}
-use Rattle.nm_memory.proofs.AfterCopy.Finished.{done_as_many, done_home}
-use Rattle.nm_memory.proofs.AfterCopy.Refilled.{all_after, all_refilled}
-use Rattle.nm_memory.proofs.Copies.Copied.{refilled_is, can_refill, copies_as_many, copies_home}
-use Rattle.nm_memory.proofs.Copies.Populated.{can_inside, done_populated}
+use Rattle.nm_pool.specs.definitions.AfterCopy.{StoreAfterCopy, all_stored_after_copy, CanDo}
+use Rattle.nm_pool.specs.views.Copies.{without_moves, with_copies, jobs_of, with_jobs_back, CanCopy, CanRefill}
+use Rattle.nm_pool.specs.views.Frames.{FramesView, HasAllFrames}
+use Rattle.nm_pool.proofs.AfterCopy.Finished.{done_as_many, done_home}
+use Rattle.nm_pool.proofs.AfterCopy.Refilled.{all_after, all_refilled}
+use Rattle.nm_pool.proofs.Copies.Copied.{refilled_is, can_refill, copies_as_many, copies_home}
+use Rattle.nm_pool.proofs.Copies.Populated.{can_inside, done_populated}
 use Rattle.nm_spaces.specs.views.AddressSpaces.{table_of}
 use Rattle.nm_engine.specs.views.Flights.{Flight, frames_then, state_in_flight, with_store, AreOutIn}
 use Rattle.nm_engine.specs.views.MidRun.{IsSoundMachine}

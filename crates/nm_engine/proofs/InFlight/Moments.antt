@@ -29,7 +29,7 @@ use Rattle.nm_laws.proofs.InFlight.Ending.{ended_is}
 use Rattle.nm_laws.proofs.InFlight.Entries.{entry_is}
 use Rattle.nm_laws.proofs.InFlight.Orders.{flies}
 use Rattle.nm_laws.specs.Midway.{IsInFlight, frames_of_job, entry_in_flight, sources}
-use Rattle.nm_memory.specs.definitions.AfterCopy.{CanDo, all_stored_after_copy, answer_from_store, store_after_copy}
+use Rattle.nm_pool.specs.definitions.AfterCopy.{CanDo, all_stored_after_copy, answer_from_store, store_after_copy}
 use Rattle.nm_engine.specs.views.Flights.{Flight, AreOutIn, HoldsMovingPages, IsFlightOf, state_in_flight, with_store}
 use Rattle.nm_engine.proofs.InFlight.Flights.{answers_then, state_then}
 

@@ -20,7 +20,7 @@ use Rattle.nm_model.specs.definitions.Effect.{first_error, is_unknown, spawn_ref
 use Rattle.nm_types.specs.declared.process.ProcessInfo.{ProcessInfo}
 use Rattle.nm_model.specs.definitions.Sound.{IsSoundInFlight, IsSound}
 use Rattle.nm_model.specs.views.Table.{Table}
-use Rattle.nm_memory.specs.views.Frames.{FramesView}
+use Rattle.nm_pool.specs.views.Frames.{FramesView}
 use Rattle.nm_engine.specs.views.Shown.{PagedFrames}
 use Rattle.nm_spaces.specs.views.AddressSpaces.{AddressSpacesView, no_spaces}
 use Rattle.nm_engine.specs.views.Shown.{state_of_parts, shown_by}

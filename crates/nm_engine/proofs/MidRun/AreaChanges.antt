@@ -9,7 +9,7 @@ use Rattle.nm_types.specs.Does.{Makes}
 use Rattle.nm_model.specs.definitions.Areas.{with_segment, with_area, with_policy}
 use Rattle.nm_model.specs.definitions.Areas.{Mapping}
 use Rattle.nm_spaces.specs.views.AddressSpaces.{AddressSpacesView, mapped_of, table_of, with_mapped}
-use Rattle.nm_memory.specs.views.Frames.{FramesView}
+use Rattle.nm_pool.specs.views.Frames.{FramesView}
 use Rattle.nm_engine.specs.views.Shown.{shown_by, paged_frames}
 use Rattle.nm_model.specs.definitions.Effect.{map_refusal, attach_refusal}
 use Rattle.nm_model.specs.definitions.Sound.{IsSound}

@@ -20,7 +20,7 @@ use Rattle.nm_model.specs.definitions.Areas.{areas_left, pages_gone, place_left,
 use Rattle.nm_model.specs.definitions.Effect.{is_covered, released_from, release_page, drop_range}
 use Rattle.nm_model.specs.definitions.Sound.{times, FramesAreOnce, IsSoundInFlight}
 use Rattle.nm_spaces.specs.views.AddressSpaces.{AddressSpacesView, mapped_of, table_of, without_range}
-use Rattle.nm_memory.specs.views.Frames.{FramesView, with_freed, pool_of, CanFree}
+use Rattle.nm_pool.specs.views.Frames.{FramesView, with_freed, pool_of, CanFree}
 use Rattle.nm_engine.specs.views.Shown.{PagedFrames}
 use Rattle.nm_engine.specs.views.Shown.{bytes_in, state_of_parts, paged_frames, shown_by}
 use Rattle.nm_engine.specs.views.MidRun.{IsSoundMachine}
@@ -29,7 +29,7 @@ use Rattle.nm_types.proofs.Cases.{some_none, none_is_not}
 use Rattle.nm_laws.proofs.Soundness.Frames.{here, times_push}
 use Rattle.nm_types.proofs.Keys.{some_from_keys, keys_same-without}
 use Rattle.nm_types.proofs.Maps.{with_values-without}
-use Rattle.nm_memory.proofs.FreeLists.Freed.{sizes_stay}
+use Rattle.nm_pool.proofs.FreeLists.Freed.{sizes_stay}
 use Rattle.nm_engine.proofs.Shown.FreeFrames.{all_freed}
 use Rattle.nm_laws.proofs.Soundness.Dropped.{dropped_sound}
 

@@ -7,7 +7,7 @@ use Rattle.nm_types.specs.Layout.{frame_count}
 use Rattle.nm_types.specs.State.{Process}
 use Rattle.nm_model.specs.definitions.Frames.{bytes_of}
 use Rattle.nm_spaces.specs.views.AddressSpaces.{AddressSpacesView, with_moved, with_new_page}
-use Rattle.nm_memory.specs.views.Frames.{FramesView, HasAllFrames, free_on}
+use Rattle.nm_pool.specs.views.Frames.{FramesView, HasAllFrames, free_on}
 use Rattle.nm_engine.proofs.Shown.PagedFrames.{HasItsFrames, stock_page, restock_page}
 use Rattle.nm_engine.specs.views.Shown.{paged_frames, shown_by}
 use Rattle.nm_engine.specs.views.MidRun.{IsSoundMachine}

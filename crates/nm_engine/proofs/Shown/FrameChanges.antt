@@ -17,7 +17,7 @@ use Rattle.nm_model.specs.definitions.Touch.{with_page, without_front_frame}
 use Rattle.nm_model.specs.definitions.Run.{with_free, with_all_free}
 use Rattle.nm_model.specs.definitions.Sound.{PlacesAreApart}
 use Rattle.nm_engine.specs.views.Shown.{PagedFrames}
-use Rattle.nm_memory.specs.views.Frames.{with_freed}
+use Rattle.nm_pool.specs.views.Frames.{with_freed}
 use Rattle.nm_engine.proofs.Shown.PagedFrames.{HasItsFrames, free_of, stock_page, restock_page, free_all}
 use Rattle.nm_model.specs.views.Table.{Table}
 use Rattle.nm_engine.specs.views.Shown.{bytes_in, state_of_parts}

@@ -12,7 +12,7 @@ use Rattle.nm_model.specs.definitions.Frames as pool
 use Rattle.nm_model.specs.definitions.Sound.{times, FramesAreOnce, IsSoundInFlight}
 use Rattle.nm_spaces.specs.views.AddressSpaces.{AddressSpacesView}
 use Rattle.nm_engine.specs.views.Shown.{paged_frames, shown_by}
-use Rattle.nm_memory.specs.views.Frames.{FramesView, HasAllFrames, with_freed, CanFree, pool_of}
+use Rattle.nm_pool.specs.views.Frames.{FramesView, HasAllFrames, with_freed, CanFree, pool_of}
 use Rattle.nm_engine.specs.views.Shown.{PagedFrames}
 use Rattle.nm_engine.proofs.Shown.PagedFrames.{HasItsFrames, free_of}
 use Rattle.nm_laws.proofs.Soundness.Frames.{here, times_cons, frame_freed, left_below}

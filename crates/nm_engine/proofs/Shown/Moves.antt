@@ -10,8 +10,8 @@ use Rattle.nm_types.specs.State.{State, free_list}
 use Rattle.nm_model.specs.definitions.Frames.{Store, IsHome, bytes_of}
 use Rattle.nm_types.specs.declared.page_move.PageMove.{PageMove}
 use Rattle.nm_spaces.specs.views.AddressSpaces.{AddressSpacesView, with_moved, table_of}
-use Rattle.nm_memory.specs.views.Copies.{with_copy, with_copies, without_move, CanCopy}
-use Rattle.nm_memory.specs.views.Frames.{FramesView, HasAllFrames, free_on}
+use Rattle.nm_pool.specs.views.Copies.{with_copy, with_copies, without_move, CanCopy}
+use Rattle.nm_pool.specs.views.Frames.{FramesView, HasAllFrames, free_on}
 use Rattle.nm_laws.specs.Laws.{with_move, with_moves}
 use Rattle.nm_engine.specs.views.MidRun.{IsSoundMachine}
 use Rattle.nm_laws.specs.Moves.{CanMove}
@@ -21,12 +21,12 @@ use Rattle.nm_engine.specs.views.Shown.{shown_by, paged_frames}
 use Rattle.nm_model.specs.definitions.Sound.{times, FramesAreOnce}
 use Rattle.nm_laws.proofs.OneByOne.Planned.{list_now}
 use Rattle.nm_laws.proofs.Soundness.Frames.{here, times_cons}
-use Rattle.nm_memory.proofs.Copies.Copied.{home_set, stays_home}
+use Rattle.nm_pool.proofs.Copies.Copied.{home_set, stays_home}
 use Rattle.nm_laws.proofs.Soundness.Counted.{front_is, counted_below}
 use Rattle.nm_engine.proofs.Shown.BothParts.{kept_stocked, front_spare, restocked_both}
 use Rattle.nm_engine.proofs.Shown.PagedFrames.{restock_page}
 use Rattle.nm_engine.proofs.MidRun.RunPages.{move_shows, move_kept, some_front}
-use Rattle.nm_memory.proofs.FreeLists.Fronts.{fronts_list}
+use Rattle.nm_pool.proofs.FreeLists.Fronts.{fronts_list}
 
 -- the frames of one move, and of several
 abbrev carried : ℕ → FramesView → PageMove → FramesView

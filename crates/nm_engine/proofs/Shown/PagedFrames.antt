@@ -8,7 +8,7 @@ use Rattle.nm_types.specs.Layout.{frame_count}
 use Rattle.nm_model.specs.definitions.Frames.{IsHome, bytes_of}
 use Rattle.nm_model.specs.definitions.Sound.{FramesAreOnce}
 use Rattle.nm_engine.specs.views.Shown.{PagedFrames}
-use Rattle.nm_memory.specs.views.Frames.{with_freed}
+use Rattle.nm_pool.specs.views.Frames.{with_freed}
 
 -- each frame is free, vacated or the place of one page, and its bytes are home
 pub record HasItsFrames (x : PagedFrames) : Type 0 where

@@ -11,16 +11,16 @@ use Rattle.nm_types.specs.Layout.{node_of}
 use Rattle.nm_types.specs.State.{State}
 use Rattle.nm_types.proofs.Cases.{some_is}
 use Rattle.nm_types.proofs.Maps.{page_cmp_total, get-set}
-use Rattle.nm_memory.specs.views.Populated.{IsPopulated}
+use Rattle.nm_pool.specs.views.Populated.{IsPopulated}
 use Rattle.nm_model.specs.definitions.Frames.{Store, bytes_of}
 use Rattle.nm_model.specs.definitions.BeforeCopy.{frames_taken}
 use Rattle.nm_model.specs.definitions.Run.{frames_left}
 use Rattle.nm_laws.specs.Laws.{with_move}
 use Rattle.nm_laws.specs.Moves.{CanMove}
 use Rattle.nm_laws.proofs.Early.Kept.{beside}
-use Rattle.nm_memory.specs.views.Copies.{HasBoth}
+use Rattle.nm_pool.specs.views.Copies.{HasBoth}
 use Rattle.nm_spaces.specs.views.AddressSpaces.{AddressSpacesView}
-use Rattle.nm_memory.specs.views.Frames.{FramesView, KeepsBytes}
+use Rattle.nm_pool.specs.views.Frames.{FramesView, KeepsBytes}
 use Rattle.nm_engine.specs.views.MidRun.{RunState, IsSoundMachine}
 use Rattle.nm_engine.specs.views.Shown.{bytes_in, shown_by}
 use Rattle.nm_model.specs.definitions.Sound.{IsSoundInFlight}

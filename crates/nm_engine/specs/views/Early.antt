@@ -6,8 +6,8 @@ use Rattle.nm_types.specs.declared.page.Page.{Page}
 use Rattle.nm_types.specs.declared.page_move.PageMove.{PageMove}
 use Rattle.nm_model.specs.definitions.BeforeCopy.{all_before_copy, before_copy, frames_taken, without_fronts}
 use Rattle.nm_model.specs.definitions.Touch.{Access}
-use Rattle.nm_memory.specs.declared.pending_access.PendingAccess.{PendingAccess as Left}
-use Rattle.nm_memory.specs.views.Accesses.{HasRoom, pending_shown}
+use Rattle.nm_pool.specs.declared.pending_access.PendingAccess.{PendingAccess as Left}
+use Rattle.nm_pool.specs.views.Accesses.{HasRoom, pending_shown}
 use Rattle.nm_engine.specs.views.MidRun.{RunState, with_state}
 
 -- the run has the frames that these moves take from a node, and room for those that its pages leave

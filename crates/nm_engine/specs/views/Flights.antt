@@ -10,7 +10,7 @@ use Rattle.nm_types.specs.Layout.{node_count}
 use Rattle.nm_types.specs.State.{State}
 use Rattle.nm_frames.specs.declared.job.CopyJob.{CopyJob}
 use Rattle.nm_frames.specs.Job.{job_after_copy}
-use Rattle.nm_memory.specs.views.Populated.{IsPopulated}
+use Rattle.nm_pool.specs.views.Populated.{IsPopulated}
 use Rattle.nm_model.specs.definitions.Accesses.{after_access}
 use Rattle.nm_model.specs.definitions.BeforeCopy.{PendingAccess, after_copy, all_after_copy, answer_after_copy, with_fronts, frames_taken}
 use Rattle.nm_model.specs.definitions.Decide.{RunPlan}
@@ -24,12 +24,12 @@ use Rattle.nm_model.specs.definitions.Touch.{Access, AccessAnswer, all_in_flight
 use Rattle.nm_laws.specs.Interleavings.{IsAtRest}
 use Rattle.nm_laws.specs.Midway.{IsInFlight, frames_of_job}
 use Rattle.nm_laws.specs.Moves.{CanMove, IsPlanOf}
-use Rattle.nm_memory.specs.declared.answers.AccessAnswer.{AccessAnswer as Given}
-use Rattle.nm_memory.specs.declared.pending_access.PendingAccess.{PendingAccess as Left}
-use Rattle.nm_memory.specs.definitions.AfterCopy.{CanDo, all_stored_after_copy}
-use Rattle.nm_memory.specs.views.Accesses.{HasRoom, answer_shown, pending_shown}
-use Rattle.nm_memory.specs.views.Copies.{with_jobs_back, CanRefill}
-use Rattle.nm_memory.specs.views.Frames.{FramesView, HasAllFrames}
+use Rattle.nm_pool.specs.declared.answers.AccessAnswer.{AccessAnswer as Given}
+use Rattle.nm_pool.specs.declared.pending_access.PendingAccess.{PendingAccess as Left}
+use Rattle.nm_pool.specs.definitions.AfterCopy.{CanDo, all_stored_after_copy}
+use Rattle.nm_pool.specs.views.Accesses.{HasRoom, answer_shown, pending_shown}
+use Rattle.nm_pool.specs.views.Copies.{with_jobs_back, CanRefill}
+use Rattle.nm_pool.specs.views.Frames.{FramesView, HasAllFrames}
 use Rattle.nm_spaces.specs.views.AddressSpaces.{AddressSpacesView}
 use Rattle.nm_spaces.specs.views.Held.{HeldView, HoldsPages, is_taken}
 use Rattle.nm_engine.specs.views.MidRun.{RunState, IsSoundMachine}

@@ -13,7 +13,7 @@ use Rattle.nm_model.specs.definitions.Effect.{info_of}
 use Rattle.nm_model.specs.definitions.Seen.{sight_in}
 use Rattle.nm_model.specs.definitions.Touch.{AccessSite, site, touch_sight}
 use Rattle.nm_spaces.specs.views.AddressSpaces.{AddressSpacesView}
-use Rattle.nm_memory.specs.views.Frames.{FramesView}
+use Rattle.nm_pool.specs.views.Frames.{FramesView}
 use Rattle.nm_engine.specs.declared.prepared_run.undo.Undo.{Undo}
 use Rattle.nm_engine.specs.definitions.Does.{AsksLast, Touches}
 use Rattle.nm_engine.specs.definitions.Undo.{undo_of}

@@ -7,7 +7,7 @@ use Rattle.nm_runs.specs.declared.Run.{Run}
 use Rattle.nm_model.specs.definitions.Run.{RunResult}
 use Rattle.nm_model.specs.definitions.Touch.{Access}
 use Rattle.nm_model.specs.views.Asked.{access_shown}
-use Rattle.nm_memory.specs.views.Accesses.{answer_shown}
+use Rattle.nm_pool.specs.views.Accesses.{answer_shown}
 use Rattle.nm_engine.specs.declared.answers.RunAnswer.{RunAnswer}
 use Rattle.nm_engine.specs.definitions.Orders.{RunRequest}
 

@@ -7,7 +7,7 @@ use Rattle.nm_types.specs.State.{Process, State}
 use Rattle.nm_model.specs.views.Table.{Table}
 use Rattle.nm_model.specs.definitions.Frames.{Store, bytes_of}
 use Rattle.nm_spaces.specs.views.AddressSpaces.{AddressSpacesView, table_of}
-use Rattle.nm_memory.specs.views.Frames.{FramesView}
+use Rattle.nm_pool.specs.views.Frames.{FramesView}
 
 -- frames, the pages in them, and each page's number of pins
 pub record PagedFrames : Type 0 where

@@ -7,12 +7,12 @@ ghost use Rattle.nm_engine.specs.definitions.Does.{AsksLast, Makes};
 ghost use Rattle.nm_model.specs.definitions.Effect.{attach, attach_refusal, drop_range, is_unknown, map_new, map_refusal, policy_refusal, set_policy, set_range_policy, shows_pinned, unmap, unmap_refusal};
 ghost use Rattle.nm_areas.specs.Splits.{HasSplit};
 ghost use Rattle.nm_model.specs.definitions.Areas.{page_count};
-ghost use Rattle.nm_memory.specs.views.Frames.{CanFree, pool_of, with_freed};
+ghost use Rattle.nm_pool.specs.views.Frames.{CanFree, pool_of, with_freed};
 ghost use Rattle.nm_runs.specs.Targets.{Checks};
 
 use crate::machine::Machine;
 use nm_areas::PageRange;
-use nm_memory::Frames;
+use nm_pool::FramePool;
 use nm_types::{Errno, FrameId, MachineError, Page, Pid, Policy};
 use std::alloc::{AllocError, Allocator};
 
@@ -192,7 +192,7 @@ impl<A: Allocator + Copy + Send + Sync> Machine<A> {
 }
 
 /// Frees the frames of pages, in order, each at the end of its own node's list.
-fn free_each<A: Allocator + Copy>(frames: &mut Frames<A>, freed: &[(Page, FrameId)])
+fn free_each<A: Allocator + Copy>(frames: &mut FramePool<A>, freed: &[(Page, FrameId)])
     requires { CanFree (pool_of frames.old) (map (λ f. f.1) freed.now) }
     ensures { frames.new
         ≡ record (frames.old) {

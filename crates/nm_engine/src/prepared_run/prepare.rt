@@ -19,7 +19,7 @@ use crate::prepared_run::PreparedRun;
 use crate::prepared_run::undo::Undo;
 use crate::resolved_address::ResolvedAddress;
 use crate::touch::push_zeros;
-use nm_memory::{AccessAnswer, PendingAccess};
+use nm_pool::{AccessAnswer, PendingAccess};
 use nm_plan::PageMove;
 use nm_types::{Access, MachineError, NodeId, Page, Pid, Vpn};
 use std::alloc::{AllocError, Allocator};

@@ -1,5 +1,5 @@
 use Rattle.nm_types.specs.declared.page.Page.{Page}
-use Rattle.nm_counts.specs.declared.step.Step.{Step}
+use Rattle.nm_coverage.specs.declared.step.Step.{Step}
 use Rattle.nm_areas.proofs.Steps.{last_tells, last_other, last_none}
 use Rattle.nm_areas.proofs.coverage.count_at.Goals as goal
 

@@ -6,9 +6,9 @@ use Rattle.std.specs.declared.ops.Bound.TheVariants.{Excluded}
 use Rattle.nm_types.specs.declared.area.Area.{Area}
 use Rattle.nm_types.specs.Map.{spot_cmp, with_values}
 use Rattle.nm_model.specs.definitions.Areas.{with_policy_in}
-use Rattle.nm_counts.proofs.Swept.{sweeps}
+use Rattle.nm_coverage.proofs.Swept.{sweeps}
 use Rattle.nm_areas.proofs.Shifts.{painted_inside, painted_outside}
-use Rattle.nm_counts.proofs.Between.{among_spots}
+use Rattle.nm_coverage.proofs.Between.{among_spots}
 use Rattle.nm_areas.proofs.policy.paint.Goals as goal
 
 pub returns : goal.returns

@@ -1,7 +1,7 @@
 use Rattle.std.proofs.Common.{arith, ◌≡◌, ℕ, ◌+◌, ◌<◌, ◌≤◌, ◌++◌, ◌∷◌, [], List, drop, length, map, length-append, length-drop, ap, refl, sym, ◌∙◌, Vec}
 use Rattle.std.specs.Prelude.{slice_set}
 use Rattle.std.proofs.lemmas.List.{map-append, length-map, drop_all}
-use Rattle.nm_memory.specs.views.Accesses.{answer_shown}
+use Rattle.nm_pool.specs.views.Accesses.{answer_shown}
 use Rattle.nm_laws.proofs.Lists.{drop_item}
 use Rattle.nm_steps.specs.Views.{shown_during}
 use Rattle.std.specs.Map.{keys_of}

@@ -1,5 +1,5 @@
 use Rattle.std.proofs.Common.{◌≡◌, ◌+◌, ◌++◌, ◌≤◌, drop, length, map, vec_capacity}
-use Rattle.nm_memory.specs.views.Accesses.{answer_shown}
+use Rattle.nm_pool.specs.views.Accesses.{answer_shown}
 use Rattle.nm_steps.specs.Views.{shown_during}
 use Rattle.std.specs.Map.{keys_of}
 use Rattle.nm_calls.specs.definitions.Batch.{answers_in_order, left_shown}

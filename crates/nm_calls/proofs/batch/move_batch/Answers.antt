@@ -5,8 +5,8 @@ use Rattle.nm_runs.specs.Stretches.{stretches_of}
 use Rattle.nm_model.specs.definitions.Cut.{cut_within, requests_of}
 use Rattle.nm_steps.specs.Views.{shown_during}
 use Rattle.nm_steps.specs.declared.call.InFlight.{InFlight}
-use Rattle.nm_memory.specs.declared.answers.AccessAnswer.{AccessAnswer}
-use Rattle.nm_memory.specs.views.Accesses.{answer_shown}
+use Rattle.nm_pool.specs.declared.answers.AccessAnswer.{AccessAnswer}
+use Rattle.nm_pool.specs.views.Accesses.{answer_shown}
 use Rattle.nm_calls.specs.definitions.Does.{Moves}
 use Rattle.nm_calls.proofs.Batches.Results.{none_moved, batch_moved, on_err}
 use Rattle.nm_calls.proofs.Batches.Requests.{targets_below, runs_alike, entries_fit}

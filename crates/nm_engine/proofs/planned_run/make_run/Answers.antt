@@ -17,7 +17,7 @@ use Rattle.nm_model.specs.definitions.Decide.{RunPlan}
 use Rattle.nm_model.specs.definitions.Run.{failures, frames_left, run, with_all_free, with_counts}
 use Rattle.nm_model.specs.definitions.Sound.{IsSound}
 use Rattle.nm_model.specs.definitions.Touch.{Access, AccessResults, all_in_flight}
-use Rattle.nm_memory.specs.views.Accesses.{answer_shown, pending_shown}
+use Rattle.nm_pool.specs.views.Accesses.{answer_shown, pending_shown}
 use Rattle.nm_engine.specs.views.Flights.{EndsAs, Flight, HoldsMovingPages, IsReadyFor, pair_of, state_in_flight}
 use Rattle.nm_engine.specs.views.MidRun.{RunState}
 use Rattle.nm_engine.specs.views.Runs.{accesses_shown, asked_by}

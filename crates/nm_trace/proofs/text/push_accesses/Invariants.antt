@@ -1,5 +1,5 @@
 use Rattle.std.proofs.Common.{◌≡◌, ◌++◌, List, ℕ, drop, map}
-use Rattle.nm_memory.specs.views.Accesses.{answer_shown}
+use Rattle.nm_pool.specs.views.Accesses.{answer_shown}
 use Rattle.nm_steps.specs.Views.{shown_during}
 use Rattle.nm_trace.specs.Report.{access_lines}
 use Rattle.nm_streams.specs.Waiting.{Puts}

@@ -3,7 +3,7 @@ use Rattle.std.specs.List.Sorted.{IsStrictlySortedBy}
 use Rattle.nm_types.proofs.Cases.{none_some}
 use Rattle.nm_types.specs.declared.page.Page.{Page}
 use Rattle.nm_types.specs.Map.{Map}
-use Rattle.nm_counts.specs.declared.step.Step.{Step}
+use Rattle.nm_coverage.specs.declared.step.Step.{Step}
 use Rattle.nm_areas.specs.Coverage.{IsCoverage}
 use Rattle.nm_model.specs.definitions.Areas.{IsWellFormed, mapping_of}
 use Rattle.nm_model.specs.views.Table.{Table}

@@ -4,7 +4,7 @@ use Rattle.std.specs.Prelude.{OnErr}
 use Rattle.nm_types.specs.Layout.{node_count}
 use Rattle.nm_model.specs.definitions.Cut.{Request, requests_of}
 use Rattle.nm_runs.specs.Targets.{first_refusal}
-use Rattle.nm_memory.specs.views.Accesses.{answer_shown}
+use Rattle.nm_pool.specs.views.Accesses.{answer_shown}
 use Rattle.nm_steps.specs.Calls.{MovePages}
 use Rattle.nm_steps.specs.Views.{shown_during}
 use Rattle.nm_calls.specs.definitions.Answers.{Statuses}

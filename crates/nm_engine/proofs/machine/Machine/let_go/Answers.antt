@@ -2,7 +2,7 @@ use Rattle.std.proofs.Common.{◌<◌, List, ℕ, length, ap, sym, subst, ◌∙
 use Rattle.std.specs.Prelude.{◌⊎◌}
 use Rattle.nm_types.specs.declared.page.Page.{Page}
 use Rattle.nm_model.specs.definitions.Effect.{drop_range}
-use Rattle.nm_memory.specs.views.Frames.{FramesView, pool_of, CanFree}
+use Rattle.nm_pool.specs.views.Frames.{FramesView, pool_of, CanFree}
 use Rattle.nm_types.specs.State.{State}
 use Rattle.nm_areas.specs.Splits.{HasSplit}
 use Rattle.nm_areas.proofs.Counted.{err_always}

@@ -3,7 +3,7 @@ use Rattle.std.specs.Prelude.{slice_set}
 use Rattle.std.specs.Result.{result_err}
 use Rattle.nm_model.specs.definitions.Frames.{bytes_of, overwrite}
 use Rattle.nm_types.specs.State.{State}
-use Rattle.nm_memory.specs.views.Frames.{FramesView}
+use Rattle.nm_pool.specs.views.Frames.{FramesView}
 use Rattle.nm_model.specs.definitions.Touch.{AccessResult, touch, touch_site, write, write_after}
 use Rattle.nm_engine.specs.views.MidRun.{IsSoundMachine}
 use Rattle.nm_engine.specs.views.Shown.{state_of_parts}

@@ -1,6 +1,6 @@
 use Rattle.std.proofs.Common.{◌≡◌, ◌+◌, drop, ap, sym, subst, ◌∙◌}
 use Rattle.nm_model.specs.definitions.Frames.{with_back}
-use Rattle.nm_memory.specs.views.Frames.{FramesView, pool_of, CanFree, with_freed}
+use Rattle.nm_pool.specs.views.Frames.{FramesView, pool_of, CanFree, with_freed}
 use Rattle.nm_engine.proofs.MidRun.LostFrames.{frames_of}
 use Rattle.nm_laws.proofs.Lists.{drop_item}
 use Rattle.nm_engine.proofs.machine.areas.free_each.Goals as goal

@@ -1,5 +1,5 @@
 use Rattle.std.proofs.Common.{◌≡◌, drop}
-use Rattle.nm_memory.specs.views.Frames.{pool_of, CanFree, with_freed}
+use Rattle.nm_pool.specs.views.Frames.{pool_of, CanFree, with_freed}
 use Rattle.nm_engine.proofs.MidRun.LostFrames.{frames_of}
 use Rattle.nm_engine.proofs.machine.areas.free_each.Given as goal
 

@@ -5,7 +5,7 @@ use Rattle.std.specs.Ordering.{nat_cmp}
 use Rattle.nm_types.specs.Map.{get}
 use Rattle.nm_types.specs.State.{State}
 use Rattle.nm_frames.specs.Job.{job_after_copy}
-use Rattle.nm_memory.specs.views.Populated.{IsPopulated}
+use Rattle.nm_pool.specs.views.Populated.{IsPopulated}
 use Rattle.nm_laws.specs.Laws.{with_moves}
 use Rattle.nm_laws.specs.Midway.{entry_in_flight}
 use Rattle.nm_model.specs.definitions.BeforeCopy.{with_fronts, frames_taken}
@@ -17,11 +17,11 @@ use Rattle.nm_model.specs.definitions.Seen.{sight_in}
 use Rattle.nm_spaces.specs.definitions.Moves.{all_moved}
 use Rattle.nm_spaces.specs.views.AddressSpaces.{AddressSpacesView}
 use Rattle.nm_spaces.proofs.Held.HeldEntries.{held_is_taken, frames_stay, takes_below}
-use Rattle.nm_memory.specs.definitions.AfterCopy.{CanDo}
-use Rattle.nm_memory.specs.views.Copies.{CanCopy, HasBoth, without_moves, jobs_of, with_jobs_back, with_copies, without_move}
-use Rattle.nm_memory.specs.views.Frames.{FramesView}
-use Rattle.nm_memory.proofs.Copies.Copied.{tickets_from}
-use Rattle.nm_memory.proofs.Copies.Populated.{after_populated}
+use Rattle.nm_pool.specs.definitions.AfterCopy.{CanDo}
+use Rattle.nm_pool.specs.views.Copies.{CanCopy, HasBoth, without_moves, jobs_of, with_jobs_back, with_copies, without_move}
+use Rattle.nm_pool.specs.views.Frames.{FramesView}
+use Rattle.nm_pool.proofs.Copies.Copied.{tickets_from}
+use Rattle.nm_pool.proofs.Copies.Populated.{after_populated}
 use Rattle.nm_engine.specs.views.Flights.{pair_of}
 use Rattle.nm_engine.specs.views.MidRun.{RunState, IsSoundMachine}
 use Rattle.nm_engine.specs.views.Shown.{shown_by}

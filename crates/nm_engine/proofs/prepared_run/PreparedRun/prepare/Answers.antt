@@ -1,8 +1,8 @@
 use Rattle.std.proofs.Common.{◌<◌, ap, sym, subst, ◌∙◌, arith}
 use Rattle.nm_types.specs.Layout.{node_count}
 use Rattle.nm_types.specs.State.{State}
-use Rattle.nm_memory.specs.views.Frames.{FramesView}
-use Rattle.nm_memory.proofs.FreeLists.Returned.{sound_returns}
+use Rattle.nm_pool.specs.views.Frames.{FramesView}
+use Rattle.nm_pool.proofs.FreeLists.Returned.{sound_returns}
 use Rattle.nm_model.specs.definitions.BeforeCopy.{with_fronts, frames_taken}
 use Rattle.nm_model.specs.definitions.Sound.{IsSound}
 use Rattle.nm_engine.specs.views.MidRun.{RunState, IsSoundMachine}

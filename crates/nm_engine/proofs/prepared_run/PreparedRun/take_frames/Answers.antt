@@ -1,10 +1,10 @@
 use Rattle.std.proofs.Common.{◌≡◌, ℕ, List, ◌<◌, ◌++◌, ap, take, drop, sym, subst, ◌∙◌, arith, length}
 use Rattle.std.specs.Prelude.{slice_set}
 use Rattle.std.specs.List.{AllByRecursion}
-use Rattle.nm_memory.specs.views.Populated.{IsPopulated}
+use Rattle.nm_pool.specs.views.Populated.{IsPopulated}
 use Rattle.nm_laws.proofs.Early.Phases.{tos_are}
 use Rattle.nm_types.specs.Layout.{node_count}
-use Rattle.nm_memory.specs.views.Frames.{FramesView, KeepsBytes, free_on}
+use Rattle.nm_pool.specs.views.Frames.{FramesView, KeepsBytes, free_on}
 use Rattle.nm_spaces.specs.views.AddressSpaces.{AddressSpacesView}
 use Rattle.nm_engine.specs.views.MidRun.{RunState, IsSoundMachine}
 use Rattle.nm_laws.specs.Moves.{CanMove}

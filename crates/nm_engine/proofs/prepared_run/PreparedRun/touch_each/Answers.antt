@@ -5,7 +5,7 @@ use Rattle.std.proofs.lemmas.Bool.Decides.{nat_tests}
 use Rattle.std.specs.List.{AllByRecursion}
 use Rattle.nm_types.specs.State.{State}
 use Rattle.nm_model.specs.views.Asked.{access_shown}
-use Rattle.nm_memory.specs.views.Accesses.{pending_shown, HasRoom}
+use Rattle.nm_pool.specs.views.Accesses.{pending_shown, HasRoom}
 use Rattle.nm_model.specs.definitions.BeforeCopy.{PendingAccess, AllBeforeCopy, before_copy, all_before_copy}
 use Rattle.nm_engine.specs.views.MidRun.{RunState, with_state}
 use Rattle.nm_engine.specs.views.Runs.{accesses_shown}

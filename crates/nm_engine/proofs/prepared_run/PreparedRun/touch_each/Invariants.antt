@@ -2,7 +2,7 @@ use Rattle.std.proofs.Common.{◌≡◌, ◌≤◌, ◌++◌, map, length, drop}
 use Rattle.std.specs.Prelude.{vec_capacity}
 use Rattle.std.specs.List.{AllByRecursion}
 use Rattle.nm_model.specs.views.Asked.{access_shown}
-use Rattle.nm_memory.specs.views.Accesses.{pending_shown, HasRoom}
+use Rattle.nm_pool.specs.views.Accesses.{pending_shown, HasRoom}
 use Rattle.nm_model.specs.definitions.BeforeCopy.{AllBeforeCopy, all_before_copy}
 use Rattle.nm_engine.specs.views.MidRun.{with_state}
 use Rattle.nm_engine.specs.definitions.Undo.{CanUndo, all_undone}

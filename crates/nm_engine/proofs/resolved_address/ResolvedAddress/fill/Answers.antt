@@ -10,9 +10,9 @@ use Rattle.nm_model.specs.definitions.Order.{first_touch_order}
 use Rattle.nm_model.specs.definitions.Touch.{allocate_page, fill_page, first_free}
 use Rattle.nm_types.specs.Layout.{frame_count, node_count}
 use Rattle.nm_types.specs.Map.{get}
-use Rattle.nm_memory.specs.views.Populated.{IsPopulated}
+use Rattle.nm_pool.specs.views.Populated.{IsPopulated}
 use Rattle.nm_spaces.specs.views.AddressSpaces.{AddressSpacesView, table_of, with_new_page}
-use Rattle.nm_memory.specs.views.Frames.{FramesView, free_on}
+use Rattle.nm_pool.specs.views.Frames.{FramesView, free_on}
 use Rattle.nm_engine.specs.views.Shown.{state_of_parts, shown_by, paged_frames}
 use Rattle.nm_engine.specs.views.MidRun.{IsSoundMachine}
 use Rattle.nm_engine.specs.views.Parts.{IsSiteOf, access_site}

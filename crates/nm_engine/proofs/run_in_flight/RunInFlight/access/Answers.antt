@@ -1,5 +1,5 @@
 use Rattle.std.proofs.Common.{rules}
-use Rattle.nm_memory.specs.views.Accesses.{pending_shown}
+use Rattle.nm_pool.specs.views.Accesses.{pending_shown}
 use Rattle.nm_engine.proofs.InFlight.Moments.{makes}
 use Rattle.nm_engine.proofs.run_in_flight.RunInFlight.access.Goals as goal
 

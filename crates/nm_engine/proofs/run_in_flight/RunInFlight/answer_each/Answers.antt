@@ -3,9 +3,9 @@ use Rattle.std.specs.List.{AllByRecursion}
 use Rattle.std.proofs.lemmas.List.{map-append, append-nil}
 use Rattle.nm_model.specs.definitions.Touch.{AccessAnswer}
 use Rattle.nm_model.specs.definitions.Frames.{Store}
-use Rattle.nm_memory.specs.definitions.AfterCopy.{all_stored_after_copy, answer_from_store, CanDo}
-use Rattle.nm_memory.specs.views.Accesses.{answer_shown, pending_shown, HasRoom}
-use Rattle.nm_memory.proofs.AfterCopy.Refilled.{all_can_then}
+use Rattle.nm_pool.specs.definitions.AfterCopy.{all_stored_after_copy, answer_from_store, CanDo}
+use Rattle.nm_pool.specs.views.Accesses.{answer_shown, pending_shown, HasRoom}
+use Rattle.nm_pool.proofs.AfterCopy.Refilled.{all_can_then}
 use Rattle.nm_engine.specs.views.Flights.{Flight, with_store}
 use Rattle.nm_engine.proofs.run_in_flight.RunInFlight.answer_each.Goals as goal
 

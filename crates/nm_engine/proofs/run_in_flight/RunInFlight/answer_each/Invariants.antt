@@ -1,8 +1,8 @@
 use Rattle.std.proofs.Common.{◌≡◌, ◌+◌, ◌≤◌, ◌++◌, map, length}
 use Rattle.std.specs.Prelude.{vec_capacity}
 use Rattle.std.specs.List.{AllByRecursion}
-use Rattle.nm_memory.specs.definitions.AfterCopy.{all_stored_after_copy, CanDo}
-use Rattle.nm_memory.specs.views.Accesses.{answer_shown, pending_shown, HasRoom}
+use Rattle.nm_pool.specs.definitions.AfterCopy.{all_stored_after_copy, CanDo}
+use Rattle.nm_pool.specs.views.Accesses.{answer_shown, pending_shown, HasRoom}
 use Rattle.nm_engine.specs.views.Flights.{with_store}
 use Rattle.nm_engine.proofs.run_in_flight.RunInFlight.answer_each.Given as goal
 

@@ -1,8 +1,8 @@
 use Rattle.std.proofs.Common.{List, map, sym, subst, ◌∙◌}
 use Rattle.nm_frames.specs.declared.job.CopyJob.{CopyJob}
 use Rattle.nm_frames.specs.Job.{job_after_copy}
-use Rattle.nm_memory.specs.definitions.AfterCopy.{all_stored_after_copy}
-use Rattle.nm_memory.specs.views.Accesses.{pending_shown}
+use Rattle.nm_pool.specs.definitions.AfterCopy.{all_stored_after_copy}
+use Rattle.nm_pool.specs.views.Accesses.{pending_shown}
 use Rattle.nm_engine.specs.views.Flights.{Flight, AreOutIn, state_in_flight, with_store}
 use Rattle.nm_engine.proofs.InFlight.Flights.{answers_then, state_then, out_then, out_done, state_done}
 use Rattle.nm_engine.proofs.InFlight.Moments.{flies_so}

@@ -4,10 +4,10 @@ use Rattle.std.proofs.lemmas.List.{length-map}
 use Rattle.nm_types.specs.State.{State}
 use Rattle.nm_types.specs.declared.page_move.PageMove.{PageMove}
 use Rattle.nm_frames.specs.declared.job.CopyJob.{CopyJob}
-use Rattle.nm_memory.specs.views.Populated.{IsPopulated}
+use Rattle.nm_pool.specs.views.Populated.{IsPopulated}
 use Rattle.nm_model.specs.definitions.Run.{failures, frames_left, total_after, with_all_free, with_counts}
-use Rattle.nm_memory.specs.views.Copies.{with_jobs_back, CanRefill}
-use Rattle.nm_memory.specs.views.Frames.{FramesView, HasAllFrames}
+use Rattle.nm_pool.specs.views.Copies.{with_jobs_back, CanRefill}
+use Rattle.nm_pool.specs.views.Frames.{FramesView, HasAllFrames}
 use Rattle.nm_spaces.specs.views.AddressSpaces.{AddressSpacesView, table_of}
 use Rattle.nm_engine.specs.views.Flights.{Flight, state_in_flight}
 use Rattle.nm_engine.specs.views.MidRun.{IsSoundMachine}

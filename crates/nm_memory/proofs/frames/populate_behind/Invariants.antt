@@ -1,5 +1,0 @@
-use Rattle.nm_memory.specs.views.Frames.{KeepsBytes, in_memory}
-use Rattle.nm_memory.proofs.frames.populate_behind.Given as goal
-
-abbrev pub invariant-loop-step : goal.invariant-loop-step
-invariant-loop-step g l = KeepsBytes (in_memory l.fn.frames) (in_memory l.frames)
