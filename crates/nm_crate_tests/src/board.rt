@@ -1,91 +1,22 @@
 ghost use Rattle.std.specs.Prelude.{◌≡◌, [], false, true, slice_get, Some, IfOk};
-ghost use Rattle.nm_board.specs.Shown.{all_shares, without_ticket, Drew};
-ghost use Rattle.nm_board.specs.Tickets.{InTicketOrder};
+ghost use Rattle.nm_board.specs.Shown.{all_shares, without_ticket};
 
-use nm_board::{Board, Hand, Short};
-use nm_frames::{CopyJob, FrameStore};
+use crate::work::{are_jobs, jobs};
+use nm_board::{Board, Hand};
+use nm_frames::CopyJob;
 use nm_refusing_alloc::Refusing;
-use nm_types::FrameId;
-use std::alloc::{AllocError, Allocator, Global};
-use std::process::Abort;
+use std::alloc::{AllocError, Global};
 use std::test::Fail;
 use std::thread;
 
-/// A job whose source begins with this byte.
-fn job<A: Allocator + Copy>(alloc: A, ticket: u64, byte: u8) -> Result<CopyJob<A>, AllocError>
-    ensures { IfOk result (λ job. job.ticket ≡ ticket) }
-{
-    let mut store = FrameStore::new(alloc, 2)?;
-    let first = FrameId::new(0);
-    let second = FrameId::new(1);
-    store.write(first, 0, [byte].as_slice());
-    Ok(CopyJob {
-        source: store.take_out(first),
-        target: store.take_out(second),
-        ticket,
-    })
-}
-
-/// Jobs whose sources begin with 1, 2 and so on.
-fn jobs<A: Allocator + Copy>(alloc: A, count: u8) -> Result<Vec<CopyJob<A>, A>, AllocError>
-    ensures { IfOk result (λ jobs. InTicketOrder jobs.items) }
-{
-    let mut jobs = Vec::with_capacity(alloc, count as usize)?;
-    for ticket in 0..count {
-        let job = job(alloc, ticket as u64, ticket.wrapping_add(1))?;
-        jobs.push_reserved(job);
-    }
-    Ok(jobs)
-}
-
-/// Whether this is the job of `jobs` with this ticket, copied or not.
-fn is_job<A: Allocator + Copy>(job: &CopyJob<A>, ticket: u8, copied: bool) -> bool {
-    let byte = ticket.wrapping_add(1);
-    let target = if copied { byte } else { 0 };
-    job.ticket == ticket as u64 && job.source.bytes()[0] == byte && job.target.bytes()[0] == target
-}
-
-/// Whether these are the jobs of `jobs` in order, all copied or none copied.
-fn are_jobs<A: Allocator + Copy>(jobs: &[CopyJob<A>], copied: bool) -> bool {
-    let mut next = 0u8;
-    for job in jobs {
-        if !is_job(job, next, copied) {
-            return false;
-        }
-        next = next.wrapping_add(1);
-    }
-    true
-}
-
 /// A board of the jobs of `jobs`, and its hand.
-fn laid(alloc: Global, count: u8) -> Result<(Board<Global>, Hand<Global>), AllocError>
+fn lay_jobs(alloc: Global, count: u8) -> Result<(Board<Global>, Hand<Global>), AllocError>
     ensures { IfOk result (λ laid. laid.1 ≡ all_shares laid.0) }
 {
     match Board::lay(alloc, jobs(alloc, count)?) {
         Ok(laid) => Ok(laid),
         Err(_) => Err(AllocError),
     }
-}
-
-/// The job that a draw returns. Fails the test if there is none.
-fn draw_job(rt: &impl Abort, board: &Board<Global>, hand: &mut Hand<Global>) -> CopyJob<Global>
-    requires own { hand.old.board ≡ board.now }
-    requires open { hand.old.past_end ≡ false }
-    ensures { Drew hand.old hand.new result }
-{
-    let Some(job) = board.draw(hand) else {
-        panic!(rt; "no job")
-    };
-    job
-}
-
-/// Whether a draw returns no job.
-fn draws_none(board: &Board<Global>, hand: &mut Hand<Global>) -> bool
-    requires own { hand.old.board ≡ board.now }
-    requires open { hand.old.past_end ≡ false }
-    ensures { result ≡ true → hand.new ≡ record hand.old { past_end = true } }
-{
-    board.draw(hand).is_none() && hand.past_end()
 }
 
 /// Copies a job, and gives it back.
@@ -99,71 +30,15 @@ fn give_copied(board: &Board<Global>, hand: &mut Hand<Global>, mut job: CopyJob<
     board.give(hand, job);
 }
 
-/// What `clear` returns for a board and its hand if a ticket was not given back.
-fn short(rt: &impl Abort, board: Board<Global>, hand: Hand<Global>) -> Short<Global>
-    requires own { hand.board ≡ board }
-    requires past_end { hand.past_end ≡ true }
-    ensures { (result.board ≡ board) × (result.hand ≡ hand) }
-{
-    let Err(back) = board.clear(hand) else {
-        panic!(rt; "not short")
-    };
-    back
-}
-
 /// Whether a board returns this many jobs, those of `jobs` in order and copied.
 fn comes_back(board: Board<Global>, hand: Hand<Global>, count: usize) -> bool
     requires own { hand.board ≡ board }
     requires past_end { hand.past_end ≡ true }
 {
     match board.clear(hand) {
-        Ok(jobs) => jobs.len() == count && are_jobs(jobs.as_slice(), true),
+        Ok(jobs) => are_jobs(jobs.as_slice(), count, true),
         Err(_) => false,
     }
-}
-
-/// Three draws return ticket 0, ticket 1 and none. With one job back the board is short; with both it returns them.
-#[test]
-fn two_jobs(rt: HostRuntime) -> Result<(), Fail> {
-    let (board, mut hand) = laid(rt.alloc(), 2)?;
-    assert!(rt; hand.shares() == 64 && !hand.past_end());
-    let first = draw_job(&rt, &board, &mut hand);
-    let second = draw_job(&rt, &board, &mut hand);
-    assert!(rt; first.ticket == 0 && second.ticket == 1);
-    assert!(rt; draws_none(&board, &mut hand));
-    give_copied(&board, &mut hand, second);
-    let Short { board, mut hand } = short(&rt, board, hand);
-    give_copied(&board, &mut hand, first);
-    assert!(rt; comes_back(board, hand, 2));
-    Ok(())
-}
-
-/// A hand of 32 shares is split off: each ticket is drawn by one of the two hands. When both have given back all and
-/// are joined, the hand has all 64 shares and is past the end, as the other was.
-#[test]
-fn two_hands(rt: HostRuntime) -> Result<(), Fail> {
-    let (board, mut hand) = laid(rt.alloc(), 2)?;
-    let mut other = hand.split(&board, 32);
-    assert!(rt; hand.shares() == 32 && other.shares() == 32);
-    let first = draw_job(&rt, &board, &mut other);
-    let second = draw_job(&rt, &board, &mut hand);
-    assert!(rt; first.ticket == 0 && second.ticket == 1);
-    give_copied(&board, &mut hand, second);
-    give_copied(&board, &mut other, first);
-    assert!(rt; draws_none(&board, &mut other) && !hand.past_end());
-    hand.join(&board, other);
-    assert!(rt; hand.shares() == 64 && hand.past_end());
-    assert!(rt; comes_back(board, hand, 2));
-    Ok(())
-}
-
-/// The first draw from a board without jobs returns none, and the board returns none.
-#[test]
-fn no_jobs(rt: HostRuntime) -> Result<(), Fail> {
-    let (board, mut hand) = laid(rt.alloc(), 0)?;
-    assert!(rt; draws_none(&board, &mut hand));
-    assert!(rt; comes_back(board, hand, 0));
-    Ok(())
 }
 
 /// What a hand drew: the number of tickets, and a bit for each.
@@ -207,7 +82,7 @@ fn share_hundred(one: &Drawn, two: &Drawn) -> bool {
 /// Two threads with 32 shares each draw 100 different tickets, and all jobs come back in order.
 #[test]
 fn two_threads(rt: HostRuntime) -> Result<(), Fail> {
-    let (board, mut hand) = laid(rt.alloc(), 100)?;
+    let (board, mut hand) = lay_jobs(rt.alloc(), 100)?;
     let other = hand.split(&board, 32);
     assert!(rt; hand.shares() == 32 && other.shares() == 32 && !other.past_end());
     let shared = &board;
@@ -231,28 +106,24 @@ fn two_threads(rt: HostRuntime) -> Result<(), Fail> {
     Ok(())
 }
 
-/// If memory is refused, each allocation in turn, the jobs come back as they were.
+/// Whether three jobs come back as they were because no board is laid while the allocation with this number is refused.
+fn come_back_without(heap: &Refusing<Global>, number: u64) -> Result<bool, AllocError> {
+    heap.refuse(0);
+    let jobs = jobs(heap, 3)?;
+    heap.refuse(number);
+    match Board::lay(heap, jobs) {
+        Ok(_) => Ok(false),
+        Err(back) => Ok(are_jobs(back.as_slice(), 3, false)),
+    }
+}
+
+/// If memory is refused, each of a board's three allocations in turn, the jobs come back as they were.
 #[test]
 fn refused_memory(rt: HostRuntime) -> Result<(), Fail> {
     let heap = Refusing::new(rt.alloc());
-    let mut jobs = jobs(&heap, 3)?;
-    for number in 1..10u64 {
-        heap.refuse(number);
-        let laid = Board::lay(&heap, jobs);
-        heap.refuse(0);
-        let Err(back) = laid else {
-            assert!(rt; number > 2);
-            return Ok(());
-        };
-        assert!(rt; back.len() == 3 && are_jobs(back.as_slice(), false));
-        jobs = back;
+    for number in 1..5 {
+        let back = come_back_without(&heap, number)?;
+        assert!(rt; back == (number < 4), "without allocation {number}");
     }
-    panic!(rt; "never laid")
-}
-
-/// The laws, for the allocator that programs use.
-#[test]
-fn laws_hold() {
-    nm_board::laws::stages_are_shown::<Global>();
-    nm_board::laws::steps_are_events::<Global>();
+    Ok(())
 }

@@ -8,9 +8,13 @@ mod board;
 #[cfg(test)]
 mod counts;
 #[cfg(test)]
-mod drawn_tables;
-#[cfg(test)]
 mod frames;
+#[cfg(test)]
+mod laws;
+#[cfg(test)]
+mod machine;
+#[cfg(test)]
+mod meeting;
 #[cfg(test)]
 mod nodes;
 #[cfg(test)]
@@ -29,3 +33,5 @@ mod tables;
 mod threads;
 #[cfg(test)]
 mod types;
+#[cfg(test)]
+mod work;

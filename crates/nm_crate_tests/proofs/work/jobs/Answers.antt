@@ -1,7 +1,7 @@
 use Rattle.std.proofs.Common.{sym, subst, arith}
 use Rattle.nm_board.specs.Tickets.{InTicketOrder}
 use Rattle.nm_board.proofs.Callers.{in_order_push}
-use Rattle.nm_crate_tests.proofs.board.jobs.Goals as goal
+use Rattle.nm_crate_tests.proofs.work.jobs.Goals as goal
 
 pub loop-ticket-preserved : goal.loop-ticket-preserved
 loop-ticket-preserved g c =

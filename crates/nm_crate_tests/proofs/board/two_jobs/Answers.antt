@@ -1,8 +1,0 @@
-use Rattle.std.proofs.Common.{◌∙◌, ap, sym}
-use Rattle.std.specs.Prelude.{slice_get}
-use Rattle.nm_crate_tests.proofs.board.two_jobs.Goals as goal
-
-pub give_copied-requires-2-clause-laid : goal.give_copied-requires-2-clause-laid
-give_copied-requires-2-clause-laid g c =
-    let same = c.short-board.ensures.0 ∙ sym (ap (λ h. h.board) c.in_ok-board.ensures) in
-    ap (λ b. slice_get b.jobs c.draw_job-first.result.ticket) same ∙ c.draw_job-first.ensures.laid
