@@ -1,129 +1,73 @@
 //! Every call, with each of its allocations refused in turn and the call then made again: a refusal loses nothing.
 //!
-//! The results of a trace are written down as in `trails`. If a call that was refused memory is made again, it and all
-//! that follows must have the same results as with memory; so the refusal left the system as it was.
+//! If a call that was refused memory is made again, it and all that follows must have the same answers as with memory;
+//! so the refusal left the system as it was.
 
+use crate::attempts::{Asked, attempt, refuse_each};
+use crate::crews::Gated;
+use crate::gates::TestGate;
 use crate::traces::Heap;
-use crate::trails::{begin, make_first, make_rest, make_some, new_system};
-use nm_calls::{Call, System};
+use nm_frames::CopyJob;
 use nm_refusing_alloc::Refusing;
-use nm_trace::{Trace, read_trace};
+use nm_spaces::AddressSpaces;
+use nm_trace::{RunCrew, Trace, read_trace};
 use std::alloc::{AllocError, Global};
-use std::process::Abort;
+use std::marker::PhantomData;
 use std::sync::Wait;
 use std::test::Fail;
 use std::thread::Threads;
 
-/// What a call reports if it was refused memory before it changed anything.
-const REFUSED: &str = "| HostMemory { runs: 0, policy_set: false } ";
+/// What a call reports if it was refused memory before it changed anything, and the system is sound.
+const REFUSED: &str = "| HostMemory { runs: 0, policy_set: false } | true\n";
 
-/// Makes the call with this number again if it was broken off before it changed anything. Appends a word if the system
-/// was not sound then.
-fn make_again<'a>(
-    rt: &(impl Threads + Wait + Sync),
-    system: &mut System<Heap<'a>>,
-    calls: &[Call<Heap<'a>>],
-    asked: usize,
-    text: &mut String,
-) -> Result<(), AllocError> {
-    if text.as_str() != REFUSED {
-        return Ok(());
-    }
-    text.clear();
-    if !system.audit()? {
-        text.push_str("unsound ")?;
-    }
-    make_some(rt, system, calls, asked, 1, text)
+/// Puts the two texts that a call and those after it may return: that of a call with memory, and the same after the
+/// line of a refusal.
+fn put_both(told: &mut String, text: &str) -> Result<(), AllocError> {
+    told.clear();
+    told.push_str(text)?;
+    told.push_str("\n\n")?;
+    told.push_str(REFUSED)?;
+    told.push_str(text)
 }
 
-/// Makes all calls on a new system. One call, by its number, is refused one of its allocations, by that one's number,
-/// and made again if it was broken off. Appends its result and those of the calls after it, and returns whether it
-/// reached that allocation.
-fn make_all<'a>(
-    rt: &(impl Threads + Wait + Sync),
-    heap: Heap<'a>,
-    system: &mut System<Heap<'a>>,
-    calls: &[Call<Heap<'a>>],
-    asked: usize,
-    number: u64,
-    text: &mut String,
-) -> Result<bool, AllocError> {
-    begin(rt, system, calls, asked, text)?;
-    let met = make_first(rt, heap, system, calls, asked, number, text)?;
-    make_again(rt, system, calls, asked, text)?;
-    make_rest(rt, system, calls, asked.saturating_add(1), text)?;
-    Ok(met)
-}
-
-/// Does so with the calls of a trace, on a system of its own.
-fn attempt<'a>(
-    rt: &(impl Threads + Wait + Sync),
+/// Refuses each allocation of the call with this number in turn, until none is left: the answers from there on are the
+/// same as with memory. Returns how many were refused, and whether all answers were these; `text` has the last ones.
+fn refuse_call<'a, C: RunCrew<Heap<'a>>>(
+    crew: &C,
     heap: Heap<'a>,
     trace: &Trace<Heap<'a>>,
-    asked: usize,
-    number: u64,
+    call: usize,
+    told: &mut String,
     text: &mut String,
-) -> Result<bool, AllocError> {
-    let mut system = new_system(heap, trace)?;
-    let calls = trace.calls.as_slice();
-    make_all(rt, heap, &mut system, calls, asked, number, text)
+) -> Result<(u64, bool), AllocError> {
+    let asked = Asked {
+        call,
+        looks: usize::MAX,
+    };
+    attempt(crew, heap, trace, asked, 0, text)?;
+    put_both(told, text.as_str())?;
+    let (refused, seen) = refuse_each(crew, heap, trace, asked, told.as_str(), text)?;
+    Ok((refused, seen != 0))
 }
 
-/// Refuses each allocation of the call with this number in turn, until none is left: the results from there on are the
-/// same as with memory. Returns how many allocations were refused.
-fn refuse_call<'a>(
-    rt: &(impl Abort + Threads + Wait + Sync),
+/// Refuses each allocation of each call of a trace in turn, the last call first. Returns how many were refused, and
+/// whether all answers were those with memory; `text` has the last ones, which are then those of all calls.
+fn refuse_all<'a, C: RunCrew<Heap<'a>>>(
+    crew: &C,
     heap: Heap<'a>,
     trace: &Trace<Heap<'a>>,
-    asked: usize,
-    whole: &mut String,
     text: &mut String,
-) -> Result<u64, AllocError> {
-    attempt(rt, heap, trace, asked, 0, whole)?;
-    for number in 1..1000u64 {
-        let met = attempt(rt, heap, trace, asked, number, text)?;
-        assert!(rt;
-            text.as_str() == whole.as_str(),
-            "call {asked}, allocation {number}: {text}"
-        );
-        if !met {
-            return Ok(number - 1);
-        }
-    }
-    Err(AllocError)
-}
-
-/// Refuses each allocation of each call of a trace in turn. Returns how many were refused, and appends the results of
-/// the trace.
-fn refuse_all<'a>(
-    rt: &(impl Abort + Threads + Wait + Sync),
-    heap: Heap<'a>,
-    trace: &Trace<Heap<'a>>,
-    whole: &mut String,
-    text: &mut String,
-) -> Result<u64, AllocError> {
+    told: &mut String,
+) -> Result<(u64, bool), AllocError> {
     let mut refused = 0u64;
-    for asked in 0..trace.calls.len() {
-        let more = refuse_call(rt, heap, trace, asked, whole, text)?;
+    for call in (0..trace.calls.len()).rev() {
+        let (more, fine) = refuse_call(crew, heap, trace, call, told, text)?;
+        if !fine {
+            return Ok((more, false));
+        }
         refused = refused.saturating_add(more);
     }
-    attempt(rt, heap, trace, 0, 0, whole)?;
-    Ok(refused)
-}
-
-/// Reads a trace, and refuses each allocation of each of its calls in turn.
-fn refuse(
-    rt: &(impl Abort + Threads + Wait + Sync),
-    alloc: Global,
-    trace: &str,
-    whole: &mut String,
-) -> Result<u64, AllocError> {
-    let heap = Refusing::new(alloc);
-    let Ok(trace) = read_trace(&heap, alloc, trace.as_bytes()) else {
-        return Err(AllocError);
-    };
-    let mut text = String::new(alloc);
-    refuse_all(rt, &heap, &trace, whole, &mut text)
+    Ok((refused, true))
 }
 
 /// Every kind of call. Process 1 has pages A to C at 0x10000, of which it writes two and reads the third, and D at
@@ -162,12 +106,42 @@ const EVERY_CALL: &str =
 const EVERY_CALL_TOLD: &str =
     "| | | | | | [0] | | | | [99] | 0 | | 1: [-16, 1, -14] | | 0 | 0: [1, 1, -14, 0, -14] | 00010000 default anon=1 N1=1 kernelpagesize_kB=4 00011000 prefer:1 anon=1 N1=1 kernelpagesize_kB=4 00012000 default 00020000 default anon=1 mapmax=2 N0=1 kernelpagesize_kB=4 | | | 5 4 zero 6 | | | [99] | 3 1 | 3 1 0 2 | 7 4 5 | 6 | true";
 
-/// Each allocation of each call is refused in turn, and the call made again: the results are the same as with memory.
+/// Does so with two workers.
+fn refuse_two<'a>(
+    rt: &(impl Threads + Wait + Sync),
+    heap: Heap<'a>,
+    trace: &Trace<Heap<'a>>,
+    text: &mut String,
+    told: &mut String,
+) -> Result<(u64, bool), AllocError> {
+    let _work: PhantomData<(CopyJob<Heap<'a>>, AddressSpaces<Heap<'a>>)> = PhantomData;
+    let gate = TestGate::Through;
+    let crew = Gated::new(rt, 2, &gate);
+    refuse_all(&crew, heap, trace, text, told)
+}
+
+/// Reads a trace, and refuses each allocation of each of its calls in turn.
+fn refuse(
+    rt: &(impl Threads + Wait + Sync),
+    alloc: Global,
+    trace: &str,
+    text: &mut String,
+) -> Result<(u64, bool), AllocError> {
+    let heap = Refusing::new(alloc);
+    let Ok(trace) = read_trace(&heap, alloc, trace.as_bytes()) else {
+        return Err(AllocError);
+    };
+    let mut told = String::new(alloc);
+    refuse_two(rt, &heap, &trace, text, &mut told)
+}
+
+/// Each allocation of each call is refused in turn, and the call made again: the answers are the same as with memory.
 #[test]
 fn no_refusal_loses_anything(rt: HostRuntime) -> Result<(), Fail> {
-    let mut whole = String::new(rt.alloc());
-    let refused = refuse(&rt, rt.alloc(), EVERY_CALL, &mut whole)?;
-    assert!(rt; whole.as_str() == EVERY_CALL_TOLD, "{}", whole.as_str());
+    let mut text = String::new(rt.alloc());
+    let (refused, fine) = refuse(&rt, rt.alloc(), EVERY_CALL, &mut text)?;
+    let same = fine && text.as_str() == EVERY_CALL_TOLD;
+    assert!(rt; same, "{}", text.as_str());
     assert!(rt; refused > 40, "{refused} refusals");
     Ok(())
 }

@@ -10,7 +10,7 @@ use nm_runs::{Class, Run};
 use nm_spaces::AddressSpaces;
 use nm_threads::{classify, copy_while};
 use nm_types::Geometry;
-use std::alloc::{AllocError, Global};
+use std::alloc::AllocError;
 use std::sync::Wait;
 use std::thread::Threads;
 
@@ -32,37 +32,12 @@ impl<'a, R: Threads + Wait> Gated<'a, R> {
     }
 }
 
-impl<'a, R: Threads + Wait> Crew<Vec<CopyJob<Global>>> for Gated<'a, R> {
+impl<'a, 'h, R: Threads + Wait> Crew<Vec<CopyJob<Heap<'h>>, Heap<'h>>> for Gated<'a, R> {
     ghost has_done = { λ crew jobs X answer. Unit {0} };
 
     fn access(&self, number: usize) {
         self.gate.access(number);
     }
-
-    fn copy_while<T, W: FnOnce() -> T>(
-        &self,
-        jobs: Vec<CopyJob<Global>>,
-        work: W,
-    ) -> (Vec<CopyJob<Global>>, T) {
-        let alloc = *jobs.allocator();
-        copy_while(self.rt, alloc, jobs, self.workers, self.gate, work)
-    }
-}
-
-impl<'a, R: Threads + Wait> Looks<Global, AddressSpaces<Global>> for Gated<'a, R> {
-    fn classify(
-        &self,
-        alloc: Global,
-        geometry: &Geometry<Global>,
-        view: &AddressSpaces<Global>,
-        run: &Run<Global>,
-    ) -> Result<Vec<Class>, AllocError> {
-        classify(self.rt, self.workers, alloc, geometry, view, run)
-    }
-}
-
-impl<'a, 'h, R: Threads + Wait> Crew<Vec<CopyJob<Heap<'h>>, Heap<'h>>> for Gated<'a, R> {
-    ghost has_done = { λ crew jobs X answer. Unit {0} };
 
     fn copy_while<T, W: FnOnce() -> T>(
         &self,

@@ -3,10 +3,12 @@
 ghost use Rattle.std.specs.Prelude.{◌<◌, ◌≤◌};
 
 use crate::crews::Gated;
+use crate::traces::Heap;
 use nm_frames::CopyJob;
+use nm_refusing_alloc::Refusing;
 use nm_spaces::AddressSpaces;
 use nm_threads::Gate;
-use nm_trace::{Watched, run_trace};
+use nm_trace::{WatchedStream, run_trace};
 use std::alloc::{AllocError, Global};
 use std::marker::PhantomData;
 use std::sync::Wait;
@@ -73,7 +75,7 @@ impl Meeting {
     }
 
     /// Whether both workers called and neither waited in vain.
-    fn met(&self) -> bool {
+    fn have_met(&self) -> bool {
         self.came.load(Ordering::SeqCst) & 3 == 3 && !self.missed.load(Ordering::SeqCst)
     }
 
@@ -123,10 +125,10 @@ impl TestGate {
     }
 
     /// Whether the two that it holds have met.
-    fn met(&self) -> bool {
+    fn have_met(&self) -> bool {
         match self {
-            TestGate::Workers(meeting) => meeting.met(),
-            TestGate::Access(meeting) => meeting.met(),
+            TestGate::Workers(meeting) => meeting.have_met(),
+            TestGate::Access(meeting) => meeting.have_met(),
             _ => false,
         }
     }
@@ -158,7 +160,27 @@ impl Gate for TestGate {
     }
 }
 
-/// Runs the trace with `workers` workers, and returns whether its report is right.
+/// The report of a trace that `workers` workers play, or nothing if the play has a fault.
+fn report_of(
+    rt: &(impl Threads + Wait + Sync),
+    alloc: Global,
+    workers: usize,
+    gate: &TestGate,
+    trace: &str,
+) -> Vec<u8>
+    requires { (0 < workers) × (workers ≤ 64) }
+{
+    let heap = Refusing::new(alloc);
+    let mut written = WatchedStream::new(Vec::new(alloc));
+    let _work: PhantomData<(CopyJob<Heap<'_>>, AddressSpaces<Heap<'_>>)> = PhantomData;
+    let crew = Gated::new(rt, workers, gate);
+    match run_trace(&crew, &heap, alloc, &mut trace.as_bytes(), &mut written) {
+        Ok(_) => written.into_inner(),
+        Err(_) => Vec::new(alloc),
+    }
+}
+
+/// Whether the report is right if `workers` workers play the trace.
 fn reports_right(
     rt: &(impl Threads + Wait + Sync),
     alloc: Global,
@@ -167,11 +189,7 @@ fn reports_right(
 ) -> bool
     requires { (0 < workers) × (workers ≤ 64) }
 {
-    let mut written = Watched::new(Vec::new(alloc));
-    let _work: PhantomData<(CopyJob<Global>, AddressSpaces<Global>)> = PhantomData;
-    let crew = Gated::new(rt, workers, gate);
-    let played = run_trace(&crew, alloc, alloc, &mut TRACE.as_bytes(), &mut written);
-    played.is_ok() && written.get_ref().as_slice() == REPORT.as_bytes()
+    report_of(rt, alloc, workers, gate, TRACE).as_slice() == REPORT.as_bytes()
 }
 
 /// Two workers meet while a trace moves its pages, with accesses in flight: a machine that copies on one thread never
@@ -179,7 +197,7 @@ fn reports_right(
 #[test]
 fn workers_meet_in_a_trace(rt: HostRuntime) {
     let gate = TestGate::Workers(Meeting::new());
-    assert!(rt; reports_right(&rt, rt.alloc(), 2, &gate) && gate.met());
+    assert!(rt; reports_right(&rt, rt.alloc(), 2, &gate) && gate.have_met());
 }
 
 /// A worker copies while the caller makes the accesses of a run: a machine that makes them before it starts the worker,
@@ -187,7 +205,7 @@ fn workers_meet_in_a_trace(rt: HostRuntime) {
 #[test]
 fn accesses_are_made_while_a_worker_copies(rt: HostRuntime) {
     let gate = TestGate::Access(Meeting::new());
-    assert!(rt; reports_right(&rt, rt.alloc(), 2, &gate) && gate.met());
+    assert!(rt; reports_right(&rt, rt.alloc(), 2, &gate) && gate.have_met());
 }
 
 /// With one worker the caller copies alone: three pages, three calls of the gate, and accesses 0 and 1 before them.
@@ -212,27 +230,13 @@ fn equal_entries(alloc: Global) -> Result<String, AllocError> {
     Ok(text)
 }
 
-/// Whether a trace is played with one worker, and its report ends like this.
-fn ends_with(
-    rt: &(impl Threads + Wait + Sync),
-    alloc: Global,
-    trace: &str,
-    gate: &TestGate,
-    end: &str,
-) -> bool {
-    let mut written = Watched::new(Vec::new(alloc));
-    let _work: PhantomData<(CopyJob<Global>, AddressSpaces<Global>)> = PhantomData;
-    let crew = Gated::new(rt, 1, gate);
-    let played = run_trace(&crew, alloc, alloc, &mut trace.as_bytes(), &mut written);
-    played.is_ok() && written.get_ref().as_slice().ends_with(end.as_bytes())
-}
-
 /// The longest batch that names one page alone is one copy job: its page is copied once, and each entry gets a status.
 #[test]
 fn equal_entries_are_one_job(rt: HostRuntime) -> Result<(), Fail> {
     let gate = TestGate::Count(AtomicU64::new(0));
     let trace = equal_entries(rt.alloc())?;
-    assert!(rt; ends_with(&rt, rt.alloc(), trace.as_str(), &gate, ONE_PAGE_END));
+    let report = report_of(&rt, rt.alloc(), 1, &gate, trace.as_str());
+    assert!(rt; report.as_slice().ends_with(ONE_PAGE_END.as_bytes()));
     assert_eq!(rt; gate.count(), 1u64);
     Ok(())
 }

@@ -4,7 +4,11 @@
 #[cfg(test)]
 mod again;
 #[cfg(test)]
+mod answers;
+#[cfg(test)]
 mod areas;
+#[cfg(test)]
+mod attempts;
 #[cfg(test)]
 mod crews;
 #[cfg(test)]
@@ -17,5 +21,3 @@ mod tables;
 mod traces;
 #[cfg(test)]
 mod trails;
-#[cfg(test)]
-mod views;

@@ -1,18 +1,16 @@
-//! Traces whose memory is refused, and a trace made by a program.
+//! Traces whose memory is refused.
 
 ghost use Rattle.std.specs.Prelude.{◌≡◌};
 
-use crate::trails::new_system;
-use nm_calls::{Call, System};
+use crate::attempts::new_system;
+use nm_calls::System;
 use nm_frames::CopyJob;
 use nm_refusing_alloc::Refusing;
 use nm_spaces::AddressSpaces;
 use nm_threads::Hired;
-use nm_trace::{Summary, Trace, TraceError, Watched, play, read_trace, run_trace};
-use nm_types::{Geometry, Pid};
+use nm_trace::{RunCrew, Summary, Trace, TraceError, WatchedStream, play, read_trace, run_trace};
 use std::alloc::{AllocError, Global};
 use std::marker::PhantomData;
-use std::process::Abort;
 use std::sync::Wait;
 use std::test::Fail;
 use std::thread::Threads;
@@ -63,53 +61,51 @@ fn is_fine(played: Result<Summary, TraceError>, written: &[u8]) -> bool {
 
 /// Runs the trace while the allocation with this number is refused. Returns whether it reached that allocation, and
 /// whether its answer and output are right.
-fn run_refused(
-    rt: &(impl Threads + Wait + Sync),
-    heap: Heap<'_>,
+fn run_refused<'a, C: RunCrew<Heap<'a>>>(
+    crew: &C,
+    heap: Heap<'a>,
     global: Global,
     number: u64,
 ) -> (bool, bool) {
-    let mut written = Watched::new(Vec::new(global));
+    let mut written = WatchedStream::new(Vec::new(global));
     heap.refuse(number);
-    let _work: PhantomData<(CopyJob<Heap<'_>>, AddressSpaces<Heap<'_>>)> = PhantomData;
-    let crew = Hired::new(rt, 4);
-    let played = run_trace(&crew, heap, global, &mut TRACE.as_bytes(), &mut written);
+    let played = run_trace(crew, heap, global, &mut TRACE.as_bytes(), &mut written);
     let met = heap.asked_since(number) >= number;
     heap.refuse(0);
     (met, is_fine(played, written.get_ref().as_slice()))
 }
 
-/// Each allocation of a run that goes through the borrowed allocator is refused in turn.
-#[test]
-fn refused_runs_write_a_front(rt: HostRuntime) -> Result<(), Fail> {
-    let heap = Refusing::new(rt.alloc());
-    let mut refused = 0u64;
+/// Refuses each allocation of a run in turn, until none is left or a run is not right. Returns how many were refused,
+/// and whether all runs were right.
+fn refuse_runs<'a, C: RunCrew<Heap<'a>>>(crew: &C, heap: Heap<'a>, global: Global) -> (u64, bool) {
     for number in 1..10_000u64 {
-        let (met, fine) = run_refused(&rt, &heap, rt.alloc(), number);
-        assert!(rt; fine, "allocation {number}");
-        if !met {
-            refused = number - 1;
-            break;
+        let (met, fine) = run_refused(crew, heap, global, number);
+        if !met || !fine {
+            return (number - 1, fine);
         }
     }
-    assert!(rt; refused > 30, "{refused} refusals");
-    Ok(())
+    (10_000, false)
 }
 
-/// Two nodes of four frames, at distance 20.
-fn layout(heap: Heap<'_>) -> Result<Geometry<Heap<'_>>, AllocError> {
-    let near = vec![in heap; 10u8, 20u8]?;
-    let far = vec![in heap; 20u8, 10u8]?;
-    match Geometry::new(vec![in heap; 4u32, 4u32]?, vec![in heap; near, far]?) {
-        Ok(geometry) => Ok(geometry),
-        Err(_) => Err(AllocError),
-    }
+/// Does so with four workers.
+fn refuse_four(rt: &(impl Threads + Wait + Sync), global: Global) -> (u64, bool) {
+    let _work: PhantomData<(CopyJob<Heap<'_>>, AddressSpaces<Heap<'_>>)> = PhantomData;
+    let heap = Refusing::new(global);
+    let crew = Hired::new(rt, 4);
+    refuse_runs(&crew, &heap, global)
+}
+
+/// Each allocation of a run that goes through the borrowed allocator is refused in turn.
+#[test]
+fn refused_runs_write_a_front(rt: HostRuntime) {
+    let (refused, fine) = refuse_four(&rt, rt.alloc());
+    assert!(rt; fine && refused > 30, "{refused} refusals");
 }
 
 /// Plays a trace on a new system while the allocation with this number is refused. Returns whether it reached that
 /// allocation, and whether its answer and output are right and the system is sound.
-fn play_refused<'a>(
-    rt: &(impl Threads + Wait + Sync),
+fn play_refused<'a, C: RunCrew<Heap<'a>>>(
+    crew: &C,
     heap: Heap<'a>,
     global: Global,
     system: &mut System<Heap<'a>>,
@@ -118,11 +114,9 @@ fn play_refused<'a>(
 ) -> Result<(bool, bool), AllocError>
     requires { system.old.run_limit ≡ trace.now.run_limit }
 {
-    let mut written = Watched::new(Vec::new(global));
+    let mut written = WatchedStream::new(Vec::new(global));
     heap.refuse(number);
-    let _work: PhantomData<(CopyJob<Heap<'a>>, AddressSpaces<Heap<'a>>)> = PhantomData;
-    let crew = Hired::new(rt, 2);
-    let played = play(&crew, heap, system, trace, &mut written);
+    let played = play(crew, heap, system, trace, &mut written);
     let met = heap.asked_since(number) >= number;
     heap.refuse(0);
     let fine = is_fine(played, written.get_ref().as_slice());
@@ -131,94 +125,44 @@ fn play_refused<'a>(
 }
 
 /// Does so with a trace, on a system of its own.
-fn play_anew<'a>(
-    rt: &(impl Threads + Wait + Sync),
+fn play_anew<'a, C: RunCrew<Heap<'a>>>(
+    crew: &C,
     heap: Heap<'a>,
     global: Global,
     trace: &Trace<Heap<'a>>,
     number: u64,
 ) -> Result<(bool, bool), AllocError> {
     let mut system = new_system(heap, trace)?;
-    play_refused(rt, heap, global, &mut system, trace, number)
+    play_refused(crew, heap, global, &mut system, trace, number)
 }
 
-/// The exit of a process that does not exist, and a look at the totals, as a trace that was not read from bytes.
-fn own_trace(heap: Heap<'_>) -> Result<Trace<Heap<'_>>, AllocError> {
-    let geometry = layout(heap)?;
-    let exit = Call::Exit { pid: Pid::new(2) };
-    let calls = vec![in heap; exit, Call::Vmstat]?;
-    Ok(Trace {
-        geometry,
-        run_limit: 16_384,
-        calls,
-    })
-}
-
-/// The report of a trace on a new system.
-fn report_of<'a>(
-    rt: &(impl Threads + Wait + Sync),
-    heap: Heap<'a>,
-    global: Global,
-    system: &mut System<Heap<'a>>,
-    trace: &Trace<Heap<'a>>,
-) -> Result<Vec<u8>, AllocError>
-    requires { system.old.run_limit ≡ trace.now.run_limit }
-{
-    let mut written = Watched::new(Vec::new(global));
-    let _work: PhantomData<(CopyJob<Heap<'a>>, AddressSpaces<Heap<'a>>)> = PhantomData;
-    let crew = Hired::new(rt, 2);
-    match play(&crew, heap, system, trace, &mut written) {
-        Ok(_) => Ok(written.into_inner()),
-        Err(_) => Err(AllocError),
-    }
-}
-
-/// The report of a trace on a system of its own.
-fn report_anew<'a>(
-    rt: &(impl Threads + Wait + Sync),
+/// Refuses each allocation of a play in turn, until none is left or a play is not right. Returns how many were refused,
+/// and whether all plays were right.
+fn refuse_plays<'a, C: RunCrew<Heap<'a>>>(
+    crew: &C,
     heap: Heap<'a>,
     global: Global,
     trace: &Trace<Heap<'a>>,
-) -> Result<Vec<u8>, AllocError> {
-    let mut system = new_system(heap, trace)?;
-    report_of(rt, heap, global, &mut system, trace)
-}
-
-/// The report of that trace.
-fn own_report(
-    rt: &(impl Threads + Wait + Sync),
-    heap: Heap<'_>,
-    global: Global,
-) -> Result<Vec<u8>, AllocError> {
-    let trace = own_trace(heap)?;
-    report_anew(rt, heap, global, &trace)
-}
-
-/// A program plays calls of its own just as it plays those of a trace that was read.
-#[test]
-fn own_calls_are_played(rt: HostRuntime) -> Result<(), Fail> {
-    let heap = Refusing::new(rt.alloc());
-    let written = own_report(&rt, &heap, rt.alloc())?;
-    let told = b"0 exit error ESRCH\n1 vmstat pgmigrate_success 0 pgmigrate_fail 0\n";
-    assert!(rt; written.as_slice() == told.as_slice());
-    Ok(())
-}
-
-/// Refuses each allocation of a play in turn, until none is left. Returns how many were refused.
-fn refuse_plays<'a>(
-    rt: &(impl Abort + Threads + Wait + Sync),
-    heap: Heap<'a>,
-    global: Global,
-    trace: &Trace<Heap<'a>>,
-) -> Result<u64, AllocError> {
+) -> Result<(u64, bool), AllocError> {
     for number in 1..10_000u64 {
-        let (met, fine) = play_anew(rt, heap, global, trace, number)?;
-        assert!(rt; fine, "allocation {number}");
-        if !met {
-            return Ok(number - 1);
+        let (met, fine) = play_anew(crew, heap, global, trace, number)?;
+        if !met || !fine {
+            return Ok((number - 1, fine));
         }
     }
-    Err(AllocError)
+    Ok((10_000, false))
+}
+
+/// Does so with two workers.
+fn refuse_two<'a>(
+    rt: &(impl Threads + Wait + Sync),
+    heap: Heap<'a>,
+    global: Global,
+    trace: &Trace<Heap<'a>>,
+) -> Result<(u64, bool), AllocError> {
+    let _work: PhantomData<(CopyJob<Heap<'a>>, AddressSpaces<Heap<'a>>)> = PhantomData;
+    let crew = Hired::new(rt, 2);
+    refuse_plays(&crew, heap, global, trace)
 }
 
 /// Each allocation of a play is refused in turn.
@@ -228,7 +172,7 @@ fn refused_plays_write_a_front(rt: HostRuntime) -> Result<(), Fail> {
     let Ok(trace) = read_trace(&heap, rt.alloc(), TRACE.as_bytes()) else {
         panic!(rt; "the trace is not read")
     };
-    let refused = refuse_plays(&rt, &heap, rt.alloc(), &trace)?;
-    assert!(rt; refused > 20, "{refused} refusals");
+    let (refused, fine) = refuse_two(&rt, &heap, rt.alloc(), &trace)?;
+    assert!(rt; fine && refused > 20, "{refused} refusals");
     Ok(())
 }
