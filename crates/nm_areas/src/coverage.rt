@@ -9,12 +9,15 @@ ghost use Rattle.std.specs.Prelude.{false, None, OnErr, OnOk, Some, ℕ, ◌+◌
 ghost use Rattle.nm_areas.specs.Coverage.{IsFlat, IsSteps, covers_of, end_of, ends_of};
 ghost use Rattle.nm_types.specs.Map.{get, page_cmp, same_page};
 
-use nm_coverage::{Step, Coverage};
+use nm_coverage::{Coverage, Step};
 use nm_types::{Area, Page};
 use std::alloc::{AllocError, Allocator};
 
 /// Counts an area. An error means that nothing has changed. Allocates only if one of the area's ends has no step yet.
-pub(crate) fn cover<A: Allocator + Copy>(steps: &mut Coverage<A>, area: Area) -> Result<(), AllocError>
+pub(crate) fn cover<A: Allocator + Copy>(
+    steps: &mut Coverage<A>,
+    area: Area,
+) -> Result<(), AllocError>
     requires indices { area.page.index + area.pages < 2 ^ 64 }
     ensures ok { OnOk result
         ((ends covers : Page → ℕ) →

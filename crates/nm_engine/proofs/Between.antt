@@ -3,7 +3,7 @@ use Rattle.std.proofs.Common.{ℕ, List, subst}
 use Rattle.std.specs.Prelude.{Result, Ok, Err, OnOk, OnErr}
 use Rattle.nm_types.specs.State.{State}
 use Rattle.nm_model.specs.definitions.Sound.{IsSoundInFlight, IsSound}
-use Rattle.nm_engine.specs.views.MidRun.{IsBetweenRuns}
+use Rattle.nm_engine.specs.views.RunState.{IsBetweenRuns}
 
 pub sound_between : {s : State} {left : List ℕ} {frames : ℕ} → IsBetweenRuns s left frames → IsSound s
 sound_between {s} h = subst (λ l. IsSoundInFlight s l) h.none h.kept.sound

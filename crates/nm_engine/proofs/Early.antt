@@ -8,15 +8,15 @@ use Rattle.nm_pool.specs.declared.pending_access.PendingAccess.{PendingAccess as
 use Rattle.nm_pool.specs.views.Accesses.{pending_shown}
 use Rattle.nm_laws.proofs.Early.Phases.{pages_of, touched_all}
 use Rattle.nm_engine.specs.views.Early.{Prepares}
-use Rattle.nm_engine.specs.views.MidRun.{RunState}
+use Rattle.nm_engine.specs.views.RunState.{RunState}
 
-module _ {A : Type 0} (old : RunState) (target : ℕ) (moves : List PageMove) (accesses : List Access) (new : RunState) (dues : Vec (Left A) A) (h : Prepares old target moves accesses new dues) where
+module _ {A : Type 0} (old : RunState) (target : ℕ) (moves : List PageMove) (accesses : List Access) (new : RunState) (all_due : Vec (Left A) A) (h : Prepares old target moves accesses new all_due) where
   -- the state once all touches are made, and what is then left to do
   pub early_state : new.state ≡ (touched_all old.state target moves accesses).state
   early_state = ap (λ (x : RunState). x.state) h.touches.touched ∙ ap (λ (s : State). (all_before_copy s (pages_of moves) accesses).state) h.frames.state
 
-  pub early_dues : map pending_shown dues.items ≡ (touched_all old.state target moves accesses).dues
-  early_dues = h.touches.dues ∙ ap (λ (s : State). (all_before_copy s (pages_of moves) accesses).dues) h.frames.state
+  pub early_dues : map pending_shown all_due.items ≡ (touched_all old.state target moves accesses).all_due
+  early_dues = h.touches.all_due ∙ ap (λ (s : State). (all_before_copy s (pages_of moves) accesses).all_due) h.frames.state
 
   -- the run's frames, and room for those that its pages leave
   pub early_left : new.left ≡ frames_taken moves

@@ -1,7 +1,7 @@
 -- What contracts see the values of the code as.
 pub mod Early
 pub mod Flights
-pub mod MidRun
+pub mod RunState
 pub mod Parts
 pub mod Runs
 pub mod Shown

@@ -34,8 +34,8 @@ use crate::resolved_address::ResolvedAddress;
 use crate::run_crew::RunCrew;
 use crate::touch::push_zeros;
 use core::mem::replace_with;
-use nm_pool::FramePool;
 use nm_plan::{Plan, plan};
+use nm_pool::FramePool;
 use nm_runs::Run;
 use nm_spaces::AddressSpaces;
 use nm_types::{Access, Geometry, MachineError, NodeId, NodeMask, Pid, Vpn};
@@ -80,7 +80,7 @@ pub struct Machine<A: Allocator + Copy + Send + Sync> {
 impl<A: Allocator + Copy + Send + Sync> Model for Machine<A> {
     ghost use Rattle.nm_types.specs.State.{State};
     ghost use Rattle.nm_engine.specs.views.Shown.{shown_by};
-    ghost use Rattle.nm_engine.specs.views.MidRun.{IsBetweenRuns};
+    ghost use Rattle.nm_engine.specs.views.RunState.{IsBetweenRuns};
 
     ghost Value = { State };
 
@@ -214,18 +214,18 @@ impl<A: Allocator + Copy + Send + Sync> Machine<A> {
 
         // On success
         ensures run { IfOk result
-            (λ flown. ran_by self.new flown ≡ result_of_run self.old (asked_by requests.now accesses.now)) }
-        ensures failed { IfOk result (λ flown. flown.failed ≡ failures flown.statuses.items) }
+            (λ landed. ran_by self.new landed ≡ result_of_run self.old (asked_by requests.now accesses.now)) }
+        ensures failed { IfOk result (λ landed. landed.failed ≡ failures landed.statuses.items) }
 
         // Events that lead to it, with jobs that the crew has done, and beside them entries held and these answers given
         ensures events { IfOk result
-            (λ flown. (x : Flight) × (jobs : Vec (CopyJob _) _)
-            × C.has_done crew.now jobs (Flight × Vec (Given _) _) (x, flown.answers)
-            × GoesByEvents self.old (asked_by requests.now accesses.now) x jobs.items (ran_by self.new flown)) }
+            (λ landed. (x : Flight) × (jobs : Vec (CopyJob _) _)
+            × C.has_done crew.now jobs (Flight × Vec (Given _) _) (x, landed.answers)
+            × GoesByEvents self.old (asked_by requests.now accesses.now) x jobs.items (ran_by self.new landed)) }
 
         // Whatever order the events of such a run take
         ensures ends { IfOk result
-            (λ flown. EndsSo self.old (asked_by requests.now accesses.now) (ran_by self.new flown)) }
+            (λ landed. EndsSo self.old (asked_by requests.now accesses.now) (ran_by self.new landed)) }
 
         // Without memory
         ensures err { OnErr result (self.new ≡ self.old) }

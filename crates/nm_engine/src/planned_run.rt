@@ -16,8 +16,8 @@ use crate::answers::RunAnswer;
 use crate::machine::Machine;
 use crate::prepared_run::PreparedRun;
 use crate::run_crew::RunCrew;
-use nm_pool::AccessAnswer;
 use nm_plan::Plan;
+use nm_pool::AccessAnswer;
 use nm_runs::Run;
 use nm_types::Access;
 use std::alloc::{AllocError, Allocator};
@@ -50,14 +50,14 @@ where
 
     // On success
     ensures run { IfOk result.1
-        (λ flown. ran_by result.0 flown
+        (λ landed. ran_by result.0 landed
         ≡ result_of_run machine (asked_by planned.entry.requests.now planned.entry.accesses.now)) }
-    ensures failed { IfOk result.1 (λ flown. flown.failed ≡ failures flown.statuses.items) }
+    ensures failed { IfOk result.1 (λ landed. landed.failed ≡ failures landed.statuses.items) }
     ensures events { IfOk result.1
-        (λ flown. (x : Flight) × (jobs : Vec (Job _) _)
-        × C.has_done planned.entry.crew.now jobs (Flight × Vec (Given _) _) (x, flown.answers)
+        (λ landed. (x : Flight) × (jobs : Vec (Job _) _)
+        × C.has_done planned.entry.crew.now jobs (Flight × Vec (Given _) _) (x, landed.answers)
         × GoesByEvents machine (asked_by planned.entry.requests.now planned.entry.accesses.now) x jobs.items
-        (ran_by result.0 flown)) }
+        (ran_by result.0 landed)) }
 
     // Without memory
     ensures err { OnErr result.1 (result.0 ≡ machine) }
@@ -73,9 +73,9 @@ where
     let moves = plan.moves();
     let mut run = PreparedRun::of(machine);
     match run.prepare(requests.target, moves, accesses) {
-        Ok(dues) => {
+        Ok(all_due) => {
             let (run, jobs) = run.begin(moves);
-            let (run, jobs, answers) = run.copy_beside(crew, jobs, dues, answers);
+            let (run, jobs, answers) = run.copy_beside(crew, jobs, all_due, answers);
             let (machine, failed) = run.finish(jobs, plan.statuses());
             let answer = RunAnswer {
                 statuses: plan.into_statuses(),

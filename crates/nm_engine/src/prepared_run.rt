@@ -17,7 +17,7 @@ use crate::run_in_flight::RunInFlight;
 use nm_frames::CopyJob;
 use nm_pool::FramePool;
 use nm_spaces::{AddressSpaces, HeldSpaces};
-use nm_types::{NodeMask, Pid, PageMove, Vpn};
+use nm_types::{NodeMask, PageMove, Pid, Vpn};
 use std::alloc::Allocator;
 use std::marker::Model;
 
@@ -35,7 +35,7 @@ pub(crate) struct PreparedRun<A: Allocator + Copy> {
 
 impl<A: Allocator + Copy> Model for PreparedRun<A> {
     ghost use Rattle.nm_engine.specs.views.Shown.{shown_by};
-    ghost use Rattle.nm_engine.specs.views.MidRun.{RunState, IsSoundMachine};
+    ghost use Rattle.nm_engine.specs.views.RunState.{RunState, IsSoundMachine};
 
     ghost Value = { RunState };
 

@@ -17,7 +17,7 @@ use crate::run_crew::RunCrew;
 use nm_frames::CopyJob;
 use nm_pool::{AccessAnswer, FramesInFlight, PendingAccess};
 use nm_spaces::HeldSpaces;
-use nm_types::{Errno, FrameId, NodeMask, Page, Pid, PageMove, Vpn};
+use nm_types::{Errno, FrameId, NodeMask, Page, PageMove, Pid, Vpn};
 use std::alloc::Allocator;
 use std::marker::Model;
 
@@ -94,17 +94,17 @@ impl<'m, A: Allocator + Copy> RunInFlight<'m, A> {
     }
 
     /// Does what is left to do for accesses, in order. The answers go into a list that has room for them. The crew is
-    /// told before each access.
+    /// notified before each access.
     fn answer_each<C: RunCrew<A>>(
         mut self,
-        dues: Vec<PendingAccess<'_, A>, A>,
+        all_due: Vec<PendingAccess<'_, A>, A>,
         mut answers: Vec<AccessAnswer<A>, A>,
         crew: &C,
     ) -> (Self, Vec<AccessAnswer<A>, A>)
-        requires can { CanAnswer self dues answers }
-        ensures done { AnswersEach self.entry dues.entry.items result.0 result.1.items }
+        requires can { CanAnswer self all_due answers }
+        ensures done { AnswersEach self.entry all_due.entry.items result.0 result.1.items }
     {
-        for due in dues {
+        for due in all_due {
             crew.access(answers.len());
             let answer = self.access(due);
             answers.push_reserved(answer);
@@ -120,37 +120,37 @@ impl<'m, A: Allocator + Copy + Send + Sync> RunInFlight<'m, A> {
         self,
         crew: &C,
         jobs: Vec<CopyJob<A>, A>,
-        dues: Vec<PendingAccess<'_, A>, A>,
+        all_due: Vec<PendingAccess<'_, A>, A>,
         answers: Vec<AccessAnswer<A>, A>,
     ) -> (Self, Vec<CopyJob<A>, A>, Vec<AccessAnswer<A>, A>)
         requires out { AreOutIn self jobs.items }
         requires tickets { (t : ℕ) (job : Job _) → slice_get jobs.items t ≡ Some job → job.ticket ≡ t }
-        requires can { CanAnswer self dues answers }
+        requires can { CanAnswer self all_due answers }
 
         // Afterwards
         ensures run { result.0
             ≡ with_store self.entry
             (all_stored_after_copy self.entry.spaces.place self.entry.frames.frames
-            (map pending_shown dues.entry.items)).store }
+            (map pending_shown all_due.entry.items)).store }
         ensures jobs { result.1.items ≡ map job_after_copy jobs.items }
         ensures done { C.has_done crew.now result.1 (Flight × Vec (Given _) _) (result.0, result.2) }
         ensures out { AreOutIn result.0 result.1.items }
         ensures state { state_in_flight result.0 result.1.items
-            ≡ (all_after_copy (state_in_flight self.entry jobs.items) (map pending_shown dues.entry.items)).state }
+            ≡ (all_after_copy (state_in_flight self.entry jobs.items) (map pending_shown all_due.entry.items)).state }
         ensures answers { map answer_shown result.2.items
-            ≡ (all_after_copy (state_in_flight self.entry jobs.items) (map pending_shown dues.entry.items)).answers }
+            ≡ (all_after_copy (state_in_flight self.entry jobs.items) (map pending_shown all_due.entry.items)).answers }
 
         // The run machine in which jobs are drawn and given back, and such accesses made
-        ensures event { FliesSo self.entry jobs.items (map pending_shown dues.entry.items) result.0 result.1.items
+        ensures event { FliesSo self.entry jobs.items (map pending_shown all_due.entry.items) result.0 result.1.items
             (map answer_shown result.2.items) }
     {
         let run = self;
         let (jobs, (run, answers)) = crew.copy_while(
             jobs,
             move || -> (RunInFlight<A>, Vec<AccessAnswer<A>, A>)
-                requires can { CanAnswer run dues answers }
-                ensures done { AnswersEach run.entry dues.entry.items result.0 result.1.items }
-            { run.answer_each(dues, answers, crew) },
+                requires can { CanAnswer run all_due answers }
+                ensures done { AnswersEach run.entry all_due.entry.items result.0 result.1.items }
+            { run.answer_each(all_due, answers, crew) },
         );
         (run, jobs, answers)
     }

@@ -12,8 +12,8 @@ ghost use Rattle.nm_engine.specs.definitions.Undo.{undo_of, touched_at};
 
 use crate::prepared_run::undo::Undo;
 use crate::resolved_address::ResolvedAddress;
-use nm_pool::FramePool;
 use nm_policy::first_touch_node;
+use nm_pool::FramePool;
 use nm_spaces::AddressSpaces;
 use nm_types::{
     Errno, FrameId, MachineError, NodeId, NodeMask, Page, Pid, ProcessInfo, Sight, Vpn,

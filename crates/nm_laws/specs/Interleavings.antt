@@ -12,7 +12,7 @@ use Rattle.nm_model.specs.definitions.Touch.{Access, Held, site_of_access, is_he
 use Rattle.nm_model.specs.definitions.Run.{RunResult, HasOneAll, each_request, run}
 use Rattle.nm_model.specs.definitions.Seen.{sight_at}
 use Rattle.nm_model.specs.definitions.Sound.{IsSound}
-use Rattle.nm_laws.specs.Midway.{entry_in_flight}
+use Rattle.nm_laws.specs.InFlight.{entry_in_flight}
 use Rattle.nm_model.specs.definitions.RunMachine.{RunMachine, Ready, Moving, Ended, state_of}
 use Rattle.nm_model.specs.definitions.Events.{Event, Begin, after, accesses_in, hands}
 

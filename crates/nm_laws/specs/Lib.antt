@@ -1,5 +1,5 @@
 pub mod Interleavings
 pub mod Laws
-pub mod Midway
+pub mod InFlight
 pub mod Moves
 pub mod Phases

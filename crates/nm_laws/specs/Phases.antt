@@ -15,7 +15,7 @@ abbrev pub TouchesComeFirst : Type 0
 TouchesComeFirst =
     (s : State) (left : List ℕ) (moved : List Page) (accesses : List Access) →
     IsSoundInFlight s left →
-    let early = all_before_copy s moved accesses in all_in_flight s moved accesses ≡ all_after_copy early.state early.dues
+    let early = all_before_copy s moved accesses in all_in_flight s moved accesses ≡ all_after_copy early.state early.all_due
 
 -- the touches may also come before the moves, once the run's frames are taken: all that is left to do is inside pages
 -- that have a frame and do not move
@@ -26,5 +26,5 @@ MovesComeLater =
     let pages = map (λ t. t.page) taken in
     let early = all_before_copy (without_fronts s target (length taken)) pages accesses in
     let back = with_fronts (early.state) target (frames_taken taken) in
-    (all_in_flight (with_moves s target taken) pages accesses ≡ all_after_copy (with_moves back target taken) early.dues)
-    × AllByRecursion (IsPending pages (early.state)) early.dues
+    (all_in_flight (with_moves s target taken) pages accesses ≡ all_after_copy (with_moves back target taken) early.all_due)
+    × AllByRecursion (IsPending pages (early.state)) early.all_due

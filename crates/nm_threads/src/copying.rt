@@ -159,14 +159,14 @@ fn hire<A: Allocator + Copy, B: Room>(
         return workers;
     }
     for _ in 0..others {
-        let worker = hire(board, own);
+        let worker = new_worker(board, own);
         workers.push_reserved(worker);
     }
     workers
 }
 
 /// Makes a worker with one share of the hand.
-fn hire<A: Allocator + Copy, B: Room>(board: &Board<A>, own: &mut Hand<A>) -> Worker<A, B>
+fn new_worker<A: Allocator + Copy, B: Room>(board: &Board<A>, own: &mut Hand<A>) -> Worker<A, B>
     requires room { identity_of board.now ≡ B.board }
     requires ready { IsReady board.now own.old }
     requires shares { 1 < own.old.shares }

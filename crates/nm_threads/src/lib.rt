@@ -6,7 +6,7 @@
 mod classes;
 mod copying;
 mod gate;
-mod hire;
+mod hired;
 mod room;
 mod worker;
 

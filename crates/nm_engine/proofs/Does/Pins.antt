@@ -16,7 +16,7 @@ use Rattle.nm_spaces.specs.views.AddressSpaces.{AddressSpacesView, with_pins_of}
 use Rattle.nm_pool.specs.views.Frames.{FramesView}
 use Rattle.nm_engine.specs.views.Shown.{shown_by}
 use Rattle.nm_model.specs.definitions.Sound.{IsSoundInFlight}
-use Rattle.nm_engine.specs.views.MidRun.{IsSoundMachine}
+use Rattle.nm_engine.specs.views.RunState.{IsSoundMachine}
 use Rattle.nm_laws.proofs.Soundness.Called.{repinned_sound, few_pins}
 use Rattle.nm_model.proofs.looks.{sees_page}
 

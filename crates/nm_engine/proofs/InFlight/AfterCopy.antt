@@ -78,12 +78,12 @@ module _ (processes : Map ℕ Process) (table : Table) (online : List ℕ) (move
     abbrev pub finished_as : StoreAfterCopy → AccessResults
     finished_as e = record { state = with_store x e.store; answers = e.answers }
 
-    pub all_done_shows : (dues : List PendingAccess) (store : Store) → AllByRecursion (CanDo x.place store) dues → finished_as (all_stored_after_copy x.place store dues) ≡ all_after_copy (with_store x store) dues
+    pub all_done_shows : (all_due : List PendingAccess) (store : Store) → AllByRecursion (CanDo x.place store) all_due → finished_as (all_stored_after_copy x.place store all_due) ≡ all_after_copy (with_store x store) all_due
     all_done_shows [] store can = refl
-    all_done_shows (d ∷ dues) store can =
+    all_done_shows (d ∷ all_due) store can =
         let next = store_after_copy x.place store d in
-        ap (told_first (answer_from_store x.place store d)) (all_done_shows dues next (all_can_then x.place store d dues can.0 can.1) ∙ ap (λ (s : State). all_after_copy s dues) (done_shows store d can.0))
-        ∙ ap (λ a. told_first a (all_after_copy (after_copy (with_store x store) d) dues)) (told_shows store d can.0)
+        ap (told_first (answer_from_store x.place store d)) (all_done_shows all_due next (all_can_then x.place store d all_due can.0 can.1) ∙ ap (λ (s : State). all_after_copy s all_due) (done_shows store d can.0))
+        ∙ ap (λ a. told_first a (all_after_copy (after_copy (with_store x store) d) all_due)) (told_shows store d can.0)
       where
         told_first : AccessAnswer → AccessResults → AccessResults
         told_first a rest = record { state = rest.state; answers = a ∷ rest.answers }

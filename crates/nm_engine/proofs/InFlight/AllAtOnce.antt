@@ -19,7 +19,7 @@ use Rattle.nm_pool.specs.views.Copies.{without_move, without_moves, with_copies,
 use Rattle.nm_pool.specs.views.Frames.{FramesView, HasAllFrames, free_on}
 use Rattle.nm_model.specs.definitions.Touch.{AccessResults}
 use Rattle.nm_laws.specs.Laws.{with_moves}
-use Rattle.nm_engine.specs.views.MidRun.{RunState, IsSoundMachine}
+use Rattle.nm_engine.specs.views.RunState.{RunState, IsSoundMachine}
 use Rattle.nm_laws.specs.Moves.{CanMove}
 use Rattle.nm_spaces.specs.definitions.Moves.{CanRemap, all_moved}
 use Rattle.nm_model.specs.definitions.Run.{frames_left}
@@ -76,13 +76,13 @@ made_sound s l (Known answer) inside h = h
 made_sound s l (ToRead page at len) inside h = h
 made_sound s l (ToWrite page at new) inside h = written_sound s l page at new inside h
 
-pub all_made_sound : (dues : List PendingAccess) (s : State) (l : List ℕ) → AllByRecursion IsInside dues → IsSoundInFlight s l → IsSoundInFlight (all_after_copy s dues).state l
+pub all_made_sound : (all_due : List PendingAccess) (s : State) (l : List ℕ) → AllByRecursion IsInside all_due → IsSoundInFlight s l → IsSoundInFlight (all_after_copy s all_due).state l
 all_made_sound [] s l inside h = h
-all_made_sound (d ∷ dues) s l inside h = all_made_sound dues (after_copy s d) l inside.1 (made_sound s l d inside.0 h)
+all_made_sound (d ∷ all_due) s l inside h = all_made_sound all_due (after_copy s d) l inside.1 (made_sound s l d inside.0 h)
 
-all_inside : (dues : List PendingAccess) (moved : List Page) (s : State) → AllByRecursion (IsPending moved s) dues → AllByRecursion IsInside dues
+all_inside : (all_due : List PendingAccess) (moved : List Page) (s : State) → AllByRecursion (IsPending moved s) all_due → AllByRecursion IsInside all_due
 all_inside [] moved s due = tt
-all_inside (d ∷ dues) moved s due = (due.0.2, all_inside dues moved s due.1)
+all_inside (d ∷ all_due) moved s due = (due.0.2, all_inside all_due moved s due.1)
 
 -- ---- pages that do not move, while others do
 
@@ -127,7 +127,7 @@ placed_apart s l p f h placed = none_more (times f (values_of s.place)) (sum_by 
 
 -- ---- all at once
 
-module _ (y : AddressSpacesView) (k : FramesView) (online : List ℕ) (moved failed target : ℕ) (taken : List PageMove) (dues : List PendingAccess) where
+module _ (y : AddressSpacesView) (k : FramesView) (online : List ℕ) (moved failed target : ℕ) (taken : List PageMove) (all_due : List PendingAccess) where
   -- the frames as if those that are taken were still a node's
   abbrev pub given : FramesView
   given = record k { free = slice_set k.free target (frames_taken taken ++ free_on k target); vacated = [] }
@@ -150,13 +150,13 @@ module _ (y : AddressSpacesView) (k : FramesView) (online : List ℕ) (moved fai
     pub inside : target < length k.free
     pub back : IsSound state_given
     pub can : CanMove state_given target taken
-    pub due : AllByRecursion (IsPending (pages_of taken) (shown_by y k online moved failed)) dues
+    pub due : AllByRecursion (IsPending (pages_of taken) (shown_by y k online moved failed)) all_due
     pub populated : AllByRecursion (IsPopulated k.frames) k.vacated
 
   -- by what is known of the machine
   pub prepared : (x : RunState) → record { state = shown_by y k online moved failed; left = k.vacated; room = k.room } ≡ x → IsSoundMachine (shown_by y k online moved failed) k.vacated y.frames → HasAllFrames k
       → target < node_count x.state.layout → x.left ≡ frames_taken taken → IsSound (with_fronts (x.state) target (frames_taken taken)) → CanMove (with_fronts (x.state) target (frames_taken taken)) target taken
-      → AllByRecursion (IsPending (pages_of taken) (x.state)) dues → AllByRecursion (IsPopulated k.frames) k.vacated → IsPrepared
+      → AllByRecursion (IsPending (pages_of taken) (x.state)) all_due → AllByRecursion (IsPopulated k.frames) k.vacated → IsPrepared
   prepared x is kept shelf inside taken_now sound can due populated =
       let same = ap (λ (z : RunState). node_count z.state.layout) is in
       record {
@@ -166,7 +166,7 @@ module _ (y : AddressSpacesView) (k : FramesView) (online : List ℕ) (moved fai
         inside = omega (arith, same, shelf.lists, inside);
         back = subst (λ (z : RunState). IsSound (with_fronts (z.state) target (frames_taken taken))) (sym is) sound;
         can = subst (λ (z : RunState). CanMove (with_fronts (z.state) target (frames_taken taken)) target taken) (sym is) can;
-        due = subst (λ (z : RunState). AllByRecursion (IsPending (pages_of taken) (z.state)) dues) (sym is) due;
+        due = subst (λ (z : RunState). AllByRecursion (IsPending (pages_of taken) (z.state)) all_due) (sym is) due;
         populated = populated;
       }
 
@@ -241,21 +241,21 @@ module _ (y : AddressSpacesView) (k : FramesView) (online : List ℕ) (moved fai
     all_can store homes [] due = tt
     all_can store homes (d ∷ ds) due = (one_can store homes d due.0, all_can store homes ds due.1)
 
-    pub can_meanwhile : AllByRecursion (CanDo spaces_then.place (without_moves k.frames taken)) dues
-    can_meanwhile = all_can (without_moves k.frames taken) (λ f from to home whole. (home_meanwhile taken k.frames f from to home, populated_meanwhile taken k.frames f from to whole)) dues h.due
+    pub can_meanwhile : AllByRecursion (CanDo spaces_then.place (without_moves k.frames taken)) all_due
+    can_meanwhile = all_can (without_moves k.frames taken) (λ f from to home whole. (home_meanwhile taken k.frames f from to home, populated_meanwhile taken k.frames f from to whole)) all_due h.due
 
-    can_after : AllByRecursion (CanDo spaces_then.place (with_copies k.frames taken)) dues
-    can_after = all_can (with_copies k.frames taken) (λ f from to home whole. (copies_home taken k.frames f home, copies_populated taken k.frames f both_whole whole)) dues h.due
+    can_after : AllByRecursion (CanDo spaces_then.place (with_copies k.frames taken)) all_due
+    can_after = all_can (with_copies k.frames taken) (λ f from to home whole. (copies_home taken k.frames f home, copies_populated taken k.frames f both_whole whole)) all_due h.due
 
     abbrev pub finished : StoreAfterCopy
-    finished = all_stored_after_copy spaces_then.place (with_copies k.frames taken) dues
+    finished = all_stored_after_copy spaces_then.place (with_copies k.frames taken) all_due
 
-    both : finished_as spaces_then.processes (table_of spaces_then) online moved failed (paged_frames spaces_then frames_then) kept_then.sound.order.place kept_then.sound.apart finished ≡ all_after_copy (with_moves state_given target taken) dues
+    both : finished_as spaces_then.processes (table_of spaces_then) online moved failed (paged_frames spaces_then frames_then) kept_then.sound.order.place kept_then.sound.apart finished ≡ all_after_copy (with_moves state_given target taken) all_due
     both =
-        all_done_shows spaces_then.processes (table_of spaces_then) online moved failed (paged_frames spaces_then frames_then) kept_then.sound.order.place kept_then.sound.apart dues (with_copies k.frames taken) can_after
-        ∙ ap (λ (s : State). all_after_copy s dues) shows
+        all_done_shows spaces_then.processes (table_of spaces_then) online moved failed (paged_frames spaces_then frames_then) kept_then.sound.order.place kept_then.sound.apart all_due (with_copies k.frames taken) can_after
+        ∙ ap (λ (s : State). all_after_copy s all_due) shows
 
-    pub finished_shows : (z : FramesView) → z ≡ record k { frames = finished.store; vacated = frames_left taken; room = z.room } → shown_by spaces_then z online moved failed ≡ (all_after_copy (with_moves state_given target taken) dues).state
+    pub finished_shows : (z : FramesView) → z ≡ record k { frames = finished.store; vacated = frames_left taken; room = z.room } → shown_by spaces_then z online moved failed ≡ (all_after_copy (with_moves state_given target taken) all_due).state
     finished_shows z is = ap (λ (x : FramesView). shown_by spaces_then x online moved failed) is ∙ ap (λ (x : AccessResults). x.state) both
 
     pub finished_kept : (z : FramesView) → z ≡ record k { frames = finished.store; vacated = frames_left taken; room = z.room } → IsSoundMachine (shown_by spaces_then z online moved failed) z.vacated spaces_then.frames
@@ -263,7 +263,7 @@ module _ (y : AddressSpacesView) (k : FramesView) (online : List ℕ) (moved fai
         record {
           sound = subst (λ (l : List ℕ). IsSoundInFlight (shown_by spaces_then z online moved failed) l) (sym (ap (λ (x : FramesView). x.vacated) is))
               (subst (λ (s : State). IsSoundInFlight s (frames_left taken)) (sym (finished_shows z is))
-              (all_made_sound dues (with_moves state_given target taken) (frames_left taken) (all_inside dues (pages_of taken) (shown_by y k online moved failed) h.due)
+              (all_made_sound all_due (with_moves state_given target taken) (frames_left taken) (all_inside all_due (pages_of taken) (shown_by y k online moved failed) h.due)
               (subst (λ (s : State). IsSoundInFlight s (frames_left taken)) shows kept_then.sound)));
           as_many = kept_then.as_many ∙ sym (ap (λ (x : FramesView). frame_count x.layout) is);
         }

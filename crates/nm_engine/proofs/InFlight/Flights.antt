@@ -20,7 +20,7 @@ use Rattle.nm_pool.proofs.Copies.Copied.{refilled_is, can_refill, copies_as_many
 use Rattle.nm_pool.proofs.Copies.Populated.{can_inside, done_populated}
 use Rattle.nm_spaces.specs.views.AddressSpaces.{table_of}
 use Rattle.nm_engine.specs.views.Flights.{Flight, frames_then, state_in_flight, with_store, AreOutIn}
-use Rattle.nm_engine.specs.views.MidRun.{IsSoundMachine}
+use Rattle.nm_engine.specs.views.RunState.{IsSoundMachine}
 use Rattle.nm_engine.specs.views.Shown.{shown_by, paged_frames}
 use Rattle.nm_engine.proofs.InFlight.AfterCopy.{all_done_shows}
 use Rattle.nm_engine.proofs.InFlight.AllAtOnce.{all_made_sound}
@@ -59,7 +59,7 @@ all_populated [] a b keeps all = tt
 all_populated (f ∷ fs) a b keeps all = (keeps f all.0, all_populated fs a b keeps all.1)
 
 -- accesses whose pages are home
-module _ {A : Type 0} (x : Flight) (jobs : List (CopyJob A)) (dues : List PendingAccess) (h : AreOutIn x jobs) (can : AllByRecursion (CanDo x.spaces.place x.frames.frames) dues) where
+module _ {A : Type 0} (x : Flight) (jobs : List (CopyJob A)) (all_due : List PendingAccess) (h : AreOutIn x jobs) (can : AllByRecursion (CanDo x.spaces.place x.frames.frames) all_due) where
   abbrev home_jobs : List (CopyJob A)
   home_jobs = map job_after_copy jobs
 
@@ -67,44 +67,44 @@ module _ {A : Type 0} (x : Flight) (jobs : List (CopyJob A)) (dues : List Pendin
   store_once_home = with_jobs_back x.frames.frames home_jobs
 
   abbrev made : StoreAfterCopy
-  made = all_stored_after_copy x.spaces.place store_once_home dues
+  made = all_stored_after_copy x.spaces.place store_once_home all_due
 
   -- the run after them
   abbrev after : Flight
-  after = with_store x (all_stored_after_copy x.spaces.place x.frames.frames dues).store
+  after = with_store x (all_stored_after_copy x.spaces.place x.frames.frames all_due).store
 
-  can_then : AllByRecursion (CanDo x.spaces.place store_once_home) dues
-  can_then = all_refilled x.spaces.place home_jobs x.frames.frames dues h.can can
+  can_then : AllByRecursion (CanDo x.spaces.place store_once_home) all_due
+  can_then = all_refilled x.spaces.place home_jobs x.frames.frames all_due h.can can
 
-  inside : AllByRecursion IsInside dues
-  inside = can_inside x.spaces.place x.frames.frames dues can
+  inside : AllByRecursion IsInside all_due
+  inside = can_inside x.spaces.place x.frames.frames all_due can
 
-  both : record { state = shown_by x.spaces (record (frames_then x jobs) { frames = made.store }) x.online x.moved x.failed; answers = made.answers } ≡ all_after_copy (state_in_flight x jobs) dues
-  both = all_done_shows x.spaces.processes (table_of x.spaces) x.online x.moved x.failed (paged_frames x.spaces (frames_then x jobs)) h.kept.sound.order.place h.kept.sound.apart dues store_once_home can_then
+  both : record { state = shown_by x.spaces (record (frames_then x jobs) { frames = made.store }) x.online x.moved x.failed; answers = made.answers } ≡ all_after_copy (state_in_flight x jobs) all_due
+  both = all_done_shows x.spaces.processes (table_of x.spaces) x.online x.moved x.failed (paged_frames x.spaces (frames_then x jobs)) h.kept.sound.order.place h.kept.sound.apart all_due store_once_home can_then
 
   later : with_jobs_back after.frames.frames home_jobs ≡ made.store
-  later = ap (λ (s : StoreAfterCopy). s.store) (all_after dues x.spaces.place home_jobs x.frames.frames h.can can).0
+  later = ap (λ (s : StoreAfterCopy). s.store) (all_after all_due x.spaces.place home_jobs x.frames.frames h.can can).0
 
-  pub answers_then : (all_stored_after_copy x.spaces.place x.frames.frames dues).answers ≡ (all_after_copy (state_in_flight x jobs) dues).answers
-  answers_then = ap (λ (s : StoreAfterCopy). s.answers) (all_after dues x.spaces.place home_jobs x.frames.frames h.can can).0 ∙ ap (λ (a : AccessResults). a.answers) both
+  pub answers_then : (all_stored_after_copy x.spaces.place x.frames.frames all_due).answers ≡ (all_after_copy (state_in_flight x jobs) all_due).answers
+  answers_then = ap (λ (s : StoreAfterCopy). s.answers) (all_after all_due x.spaces.place home_jobs x.frames.frames h.can can).0 ∙ ap (λ (a : AccessResults). a.answers) both
 
-  pub state_then : state_in_flight after jobs ≡ (all_after_copy (state_in_flight x jobs) dues).state
+  pub state_then : state_in_flight after jobs ≡ (all_after_copy (state_in_flight x jobs) all_due).state
   state_then = ap (λ (s : Store). shown_by x.spaces (record (x.frames) { frames = s }) x.online x.moved x.failed) later ∙ ap (λ (a : AccessResults). a.state) both
 
   pub out_then : AreOutIn after jobs
   out_then = record {
-    can = (all_after dues x.spaces.place home_jobs x.frames.frames h.can can).1;
+    can = (all_after all_due x.spaces.place home_jobs x.frames.frames h.can can).1;
     whole = record {
       lists = h.whole.lists;
-      buffers = ap (λ (s : Store). length s) later ∙ done_as_many x.spaces.place dues store_once_home ∙ h.whole.buffers;
-      home = λ f below. subst (λ (s : Store). IsHome s f) (sym later) (done_home x.spaces.place dues store_once_home f (h.whole.home f below));
+      buffers = ap (λ (s : Store). length s) later ∙ done_as_many x.spaces.place all_due store_once_home ∙ h.whole.buffers;
+      home = λ f below. subst (λ (s : Store). IsHome s f) (sym later) (done_home x.spaces.place all_due store_once_home f (h.whole.home f below));
     };
     kept = record {
-      sound = subst (λ (s : State). IsSoundInFlight s x.frames.vacated) (sym state_then) (all_made_sound dues (state_in_flight x jobs) x.frames.vacated inside h.kept.sound);
+      sound = subst (λ (s : State). IsSoundInFlight s x.frames.vacated) (sym state_then) (all_made_sound all_due (state_in_flight x jobs) x.frames.vacated inside h.kept.sound);
       as_many = h.kept.as_many;
     };
     populated = subst (λ (s : Store). AllByRecursion (IsPopulated s) x.frames.vacated) (sym later)
-        (all_populated x.frames.vacated store_once_home made.store (λ f whole. done_populated x.spaces.place dues store_once_home f inside whole) h.populated);
+        (all_populated x.frames.vacated store_once_home made.store (λ f whole. done_populated x.spaces.place all_due store_once_home f inside whole) h.populated);
   }
 
 -- the same bytes are out in the jobs once they are done

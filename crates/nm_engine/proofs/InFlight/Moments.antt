@@ -28,7 +28,7 @@ use Rattle.nm_laws.proofs.InFlight.Beginning.{begun_is}
 use Rattle.nm_laws.proofs.InFlight.Ending.{ended_is}
 use Rattle.nm_laws.proofs.InFlight.Entries.{entry_is}
 use Rattle.nm_laws.proofs.InFlight.Orders.{flies}
-use Rattle.nm_laws.specs.Midway.{IsInFlight, frames_of_job, entry_in_flight, sources}
+use Rattle.nm_laws.specs.InFlight.{IsInFlight, frames_of_job, entry_in_flight, sources}
 use Rattle.nm_pool.specs.definitions.AfterCopy.{CanDo, all_stored_after_copy, answer_from_store, store_after_copy}
 use Rattle.nm_engine.specs.views.Flights.{Flight, AreOutIn, HoldsMovingPages, IsFlightOf, state_in_flight, with_store}
 use Rattle.nm_engine.proofs.InFlight.Flights.{answers_then, state_then}
@@ -48,10 +48,10 @@ left_first (t ∷ moves) = ap (λ fs. t.from ∷ fs) (left_first moves)
 module _ {A : Type 0} (x : Flight) (jobs : List (CopyJob A)) where
   -- a run machine that is read as the run, and whose jobs are its moves, has its entries
   pub at_moment : (n : RunMachine) → HoldsMovingPages x → IsInFlight n (pages_of x.moves) → state_of n ≡ state_in_flight x jobs → map frames_of_job n.jobs ≡ map (λ t. (t.from, t.to)) x.moves → IsFlightOf n x jobs
-  at_moment n holds midway state ends = record {
-    midway = midway;
+  at_moment n holds in_flight state ends = record {
+    in_flight = in_flight;
     state = state;
-    entries = λ pid v. entry_is n (pages_of x.moves) midway pid v ∙ ap (λ (s : State). option_map (entry_in_flight s.place (pages_of x.moves)) (sight_at s pid v)) state ∙ sym (holds pid v);
+    entries = λ pid v. entry_is n (pages_of x.moves) in_flight pid v ∙ ap (λ (s : State). option_map (entry_in_flight s.place (pages_of x.moves)) (sight_at s pid v)) state ∙ sym (holds pid v);
     ends = ends;
   }
 
@@ -63,20 +63,20 @@ module _ {A : Type 0} (m : RunMachine) (x : Flight) (jobs : List (CopyJob A)) wh
   begins target wanted p holds rest sound alike plan taken shows =
       let b = begun_is m target wanted rest sound alike in
       let moves : (each_request (state_of m) target wanted).taken ≡ x.moves = plan.agrees.taken ∙ taken in
-      at_moment x jobs (begin_run m target wanted) holds (subst (λ (ts : List PageMove). IsInFlight (begin_run m target wanted) (pages_of ts)) moves b.midway)
+      at_moment x jobs (begin_run m target wanted) holds (subst (λ (ts : List PageMove). IsInFlight (begin_run m target wanted) (pages_of ts)) moves b.in_flight)
       (b.state ∙ plan.agrees.state ∙ ap (with_moves (state_of m) target) taken ∙ sym shows)
       (b.ends ∙ ap (map (λ (t : PageMove). (t.from, t.to))) moves)
 
   -- events of which none ends the run change bytes alone
   stays : (n : RunMachine) (store : Store) (given : List (CopyJob A)) → IsFlightOf m x jobs → IsInFlight n (pages_of x.moves) → state_of n ≡ state_in_flight (with_store x store) given → map frames_of_job n.jobs ≡ map frames_of_job m.jobs → IsFlightOf n (with_store x store) given
-  stays n store given now midway state ends =
+  stays n store given now in_flight state ends =
       let entry : State → ℕ → ℕ → Option Entry = λ s pid v. option_map (entry_in_flight s.place (pages_of x.moves)) (sight_at s pid v) in
       record {
-        midway = midway;
+        in_flight = in_flight;
         state = state;
         entries = λ pid v.
-            entry_is n (pages_of x.moves) midway pid v ∙ ap (λ (s : State). entry s pid v) state ∙ ap (λ (s : State). entry s pid v) (sym now.state)
-            ∙ sym (entry_is m (pages_of x.moves) now.midway pid v) ∙ now.entries pid v;
+            entry_is n (pages_of x.moves) in_flight pid v ∙ ap (λ (s : State). entry s pid v) state ∙ ap (λ (s : State). entry s pid v) (sym now.state)
+            ∙ sym (entry_is m (pages_of x.moves) now.in_flight pid v) ∙ now.entries pid v;
         ends = ends ∙ now.ends;
       }
 
@@ -85,25 +85,25 @@ module _ {A : Type 0} (m : RunMachine) (x : Flight) (jobs : List (CopyJob A)) wh
       → AreOutIn x jobs → IsFlightOf m x jobs → CanDo x.spaces.place x.frames.frames d → access_during (state_of m) (pages_of x.moves) a ≡ record { state = after_copy (state_of m) d; answer = answer_after_copy (state_of m) d }
       → IsFlightOf (after_access m a) y jobs × ((after_access m a).answers ≡ m.answers ++ answer ∷ [])
   makes a d y answer is told out now can done =
-      let made = accessed_is m (pages_of x.moves) now.midway a in
+      let made = accessed_is m (pages_of x.moves) now.in_flight a in
       let same : access_during (state_of m) (pages_of x.moves) a ≡ record { state = after_copy (state_in_flight x jobs) d; answer = answer_after_copy (state_in_flight x jobs) d } = done ∙ ap (λ (s : State). record { state = after_copy s d; answer = answer_after_copy s d }) now.state in
       let state = made.state ∙ ap (λ (z : AccessResult). z.state) same ∙ sym (state_then x jobs (d ∷ []) out (can, tt)) in (
-        subst (λ (z : Flight). IsFlightOf (after_access m a) z jobs) (sym is) (stays (after_access m a) (store_after_copy x.spaces.place x.frames.frames d) jobs now made.midway state (ap (map frames_of_job) made.jobs)),
+        subst (λ (z : Flight). IsFlightOf (after_access m a) z jobs) (sym is) (stays (after_access m a) (store_after_copy x.spaces.place x.frames.frames d) jobs now made.in_flight state (ap (map frames_of_job) made.jobs)),
         made.answers ∙ ap (λ (z : AccessResult). m.answers ++ z.answer ∷ []) same ∙ ap (λ answers. m.answers ++ answers) (sym (answers_then x jobs (d ∷ []) out (can, tt))) ∙ ap (λ z. m.answers ++ z ∷ []) (sym told),
       )
 
   -- jobs are drawn and given back, and accesses are made
-  pub flies_so : (n : RunMachine) (events : List Event) (dues : List PendingAccess) (y : Flight) (given : List (CopyJob A)) (answers : List AccessAnswer) → y ≡ with_store x (all_stored_after_copy x.spaces.place x.frames.frames dues).store
-      → state_in_flight y given ≡ (all_after_copy (state_in_flight x jobs) dues).state → answers ≡ (all_after_copy (state_in_flight x jobs) dues).answers
-      → IsFlightOf m x jobs → after m events ≡ Some n → n.phase ≡ Moving → all_in_flight (state_of m) (pages_of x.moves) (accesses_in events) ≡ all_after_copy (state_of m) dues
+  pub flies_so : (n : RunMachine) (events : List Event) (all_due : List PendingAccess) (y : Flight) (given : List (CopyJob A)) (answers : List AccessAnswer) → y ≡ with_store x (all_stored_after_copy x.spaces.place x.frames.frames all_due).store
+      → state_in_flight y given ≡ (all_after_copy (state_in_flight x jobs) all_due).state → answers ≡ (all_after_copy (state_in_flight x jobs) all_due).answers
+      → IsFlightOf m x jobs → after m events ≡ Some n → n.phase ≡ Moving → all_in_flight (state_of m) (pages_of x.moves) (accesses_in events) ≡ all_after_copy (state_of m) all_due
       → IsFlightOf n y given × (n.answers ≡ m.answers ++ answers)
-  flies_so n events dues y given answers is shows told now leads on done =
-      let store = (all_stored_after_copy x.spaces.place x.frames.frames dues).store in
-      let flown = flies events m n (pages_of x.moves) now.midway leads on in
-      let same = done ∙ ap (λ (s : State). all_after_copy s dues) now.state in
-      let state = flown.state ∙ ap (λ (z : AccessResults). z.state) same ∙ sym shows ∙ ap (λ (z : Flight). state_in_flight z given) is in (
-        subst (λ (z : Flight). IsFlightOf n z given) (sym is) (stays n store given now flown.midway state flown.ends),
-        flown.answers ∙ ap (λ (z : AccessResults). m.answers ++ z.answers) same ∙ ap (λ zs. m.answers ++ zs) (sym told),
+  flies_so n events all_due y given answers is shows told now leads on done =
+      let store = (all_stored_after_copy x.spaces.place x.frames.frames all_due).store in
+      let landed = flies events m n (pages_of x.moves) now.in_flight leads on in
+      let same = done ∙ ap (λ (s : State). all_after_copy s all_due) now.state in
+      let state = landed.state ∙ ap (λ (z : AccessResults). z.state) same ∙ sym shows ∙ ap (λ (z : Flight). state_in_flight z given) is in (
+        subst (λ (z : Flight). IsFlightOf n z given) (sym is) (stays n store given now landed.in_flight state landed.ends),
+        landed.answers ∙ ap (λ (z : AccessResults). m.answers ++ z.answers) same ∙ ap (λ zs. m.answers ++ zs) (sym told),
       )
 
   -- the run ends
@@ -112,5 +112,5 @@ module _ {A : Type 0} (m : RunMachine) (x : Flight) (jobs : List (CopyJob A)) wh
   ends statuses now all told =
       let left = first_ends m.jobs ∙ ap (map (λ (e : ℕ × ℕ). e.0)) now.ends ∙ left_first x.moves in
       let count : length m.jobs ≡ length x.moves = sym (length-map m.jobs (λ (job : Job). job.source.0)) ∙ ap length left ∙ length-map x.moves (λ (t : PageMove). t.from) in
-      ended_is m (pages_of x.moves) now.midway all
+      ended_is m (pages_of x.moves) now.in_flight all
       ∙ (λ i. with_counts (with_all_free (now.state i) (left i)) (count i) (failures (told i)))

@@ -24,7 +24,7 @@ use Rattle.nm_pool.specs.views.Frames.{FramesView}
 use Rattle.nm_engine.specs.views.Shown.{PagedFrames}
 use Rattle.nm_spaces.specs.views.AddressSpaces.{AddressSpacesView, no_spaces}
 use Rattle.nm_engine.specs.views.Shown.{state_of_parts, shown_by}
-use Rattle.nm_engine.specs.views.MidRun.{IsSoundMachine}
+use Rattle.nm_engine.specs.views.RunState.{IsSoundMachine}
 use Rattle.nm_model.specs.definitions.Effect.{info_of}
 use Rattle.nm_laws.proofs.Soundness.Called.{spawn_sound}
 use Rattle.nm_laws.proofs.Soundness.New.{new_sound}

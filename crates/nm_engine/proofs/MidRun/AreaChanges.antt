@@ -13,7 +13,7 @@ use Rattle.nm_pool.specs.views.Frames.{FramesView}
 use Rattle.nm_engine.specs.views.Shown.{shown_by, paged_frames}
 use Rattle.nm_model.specs.definitions.Effect.{map_refusal, attach_refusal}
 use Rattle.nm_model.specs.definitions.Sound.{IsSound}
-use Rattle.nm_engine.specs.views.MidRun.{IsSoundMachine}
+use Rattle.nm_engine.specs.views.RunState.{IsSoundMachine}
 use Rattle.nm_engine.proofs.MidRun.AreaCalls.{kept_mapped}
 use Rattle.nm_laws.proofs.Soundness.Called.{map_sound, attach_sound}
 use Rattle.nm_laws.proofs.Soundness.Policed.{policy_sound}

@@ -2,7 +2,7 @@
 use Rattle.std.proofs.Common.{ℕ, List}
 use Rattle.nm_spaces.specs.views.AddressSpaces.{AddressSpacesView}
 use Rattle.nm_pool.specs.views.Frames.{FramesView}
-use Rattle.nm_engine.specs.views.MidRun.{IsSoundMachine}
+use Rattle.nm_engine.specs.views.RunState.{IsSoundMachine}
 use Rattle.nm_engine.specs.views.Parts.{AreKept}
 use Rattle.nm_engine.specs.views.Shown.{shown_by}
 

@@ -23,7 +23,7 @@ use Rattle.nm_spaces.specs.views.AddressSpaces.{AddressSpacesView, mapped_of, ta
 use Rattle.nm_pool.specs.views.Frames.{FramesView, with_freed, pool_of, CanFree}
 use Rattle.nm_engine.specs.views.Shown.{PagedFrames}
 use Rattle.nm_engine.specs.views.Shown.{bytes_in, state_of_parts, paged_frames, shown_by}
-use Rattle.nm_engine.specs.views.MidRun.{IsSoundMachine}
+use Rattle.nm_engine.specs.views.RunState.{IsSoundMachine}
 use Rattle.std.proofs.lemmas.Map.Entries.{sum_by-remove_entry}
 use Rattle.nm_types.proofs.Cases.{some_none, none_is_not}
 use Rattle.nm_laws.proofs.Soundness.Frames.{here, times_push}

@@ -15,7 +15,7 @@ use Rattle.nm_engine.proofs.Shown.PagedFrames.{HasItsFrames, free_of, restock_pa
 use Rattle.nm_model.specs.views.Table.{Table}
 use Rattle.nm_engine.specs.views.Shown.{state_of_parts}
 use Rattle.nm_model.specs.definitions.Sound.{IsSoundInFlight}
-use Rattle.nm_engine.specs.views.MidRun.{IsSoundMachine}
+use Rattle.nm_engine.specs.views.RunState.{IsSoundMachine}
 use Rattle.nm_laws.proofs.Soundness.Frames.{left-append}
 use Rattle.nm_laws.proofs.Soundness.Moved.{decided_sound, freed_sound, counted_sound}
 use Rattle.nm_engine.proofs.Shown.FrameChanges.{restocked_shows, freed_shows}

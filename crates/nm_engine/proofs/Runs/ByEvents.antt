@@ -12,7 +12,7 @@ use Rattle.nm_model.specs.definitions.Sound.{IsSound}
 use Rattle.nm_model.specs.definitions.Touch.{all_in_flight}
 use Rattle.nm_laws.specs.Interleavings.{IsRun}
 use Rattle.nm_laws.specs.Laws.{with_moves}
-use Rattle.nm_laws.specs.Midway.{IsInFlight}
+use Rattle.nm_laws.specs.InFlight.{IsInFlight}
 use Rattle.nm_laws.specs.Moves.{IsPlanOf}
 use Rattle.nm_laws.proofs.InFlight.Beginning.{begun_is}
 use Rattle.nm_laws.proofs.InFlight.Orders.{allowed, before_end, every_order_is_the_run, flies}
@@ -40,16 +40,16 @@ module _ {A : Type 0} where
       let k = begin_run m t ws in
       let leads = (allowed (is_ready m.phase) (after k end.0) end.1 end.2.leads).1 in
       let moved = pages_of (each_request (state_of m) t ws).taken in
-      let last = before_end end.0 k end.1 moved first.midway leads end.3 in
-      let flown = flies last.till k last.now moved first.midway last.leads last.moving in
+      let last = before_end end.0 k end.1 moved first.in_flight leads end.3 in
+      let landed = flies last.till k last.now moved first.in_flight last.leads last.moving in
       let taken_is : (each_request (state_of m) t ws).taken ≡ moves = ap (λ (z : State). (each_request z t ws).taken) read.2 ∙ plan.agrees.taken ∙ sym taken in
       let begins : state_of k ≡ with_moves s t moves = first.state ∙ ap (λ (z : State). (each_request z t ws).state) read.2 ∙ plan.agrees.state ∙ ap (with_moves s t) (sym taken) in
       let accesses = last.accesses ∙ end.4 in
-      let midway : IsInFlight last.now (pages_of moves) = subst (λ (ts : List PageMove). IsInFlight last.now (pages_of ts)) taken_is flown.midway in
-      let state : state_of last.now ≡ state_in_flight x jobs = flown.state ∙ (λ i. (all_in_flight (begins i) (pages_of (taken_is i)) (accesses i)).state) ∙ sym shows in
+      let in_flight : IsInFlight last.now (pages_of moves) = subst (λ (ts : List PageMove). IsInFlight last.now (pages_of ts)) taken_is landed.in_flight in
+      let state : state_of last.now ≡ state_in_flight x jobs = landed.state ∙ (λ i. (all_in_flight (begins i) (pages_of (taken_is i)) (accesses i)).state) ∙ sym shows in
       let pair : List PageMove → List (ℕ × ℕ) = map (λ t. (t.from, t.to)) in
-      let ends = flown.ends ∙ first.ends ∙ ap pair taken_is in
-      let moment = at_moment x jobs last.now held (subst (λ (ts : List PageMove). IsInFlight last.now (pages_of ts)) (sym same) midway) state (ends ∙ ap pair (sym same)) in
+      let ends = landed.ends ∙ first.ends ∙ ap pair taken_is in
+      let moment = at_moment x jobs last.now held (subst (λ (ts : List PageMove). IsInFlight last.now (pages_of ts)) (sym same) in_flight) state (ends ∙ ap pair (sym same)) in
       let law : IsRun end.1 ran = subst (IsRun end.1) ((λ i. run (read.2 i) t ws (end.4 i)) ∙ sym made) (every_order_is_the_run m t ws end.0 end.1 end.2 end.3) in
       let over = subst (λ (n : RunMachine). IsRun n ran) (sym last.over) law in
       record {

@@ -10,7 +10,7 @@ use Rattle.nm_spaces.specs.views.AddressSpaces.{AddressSpacesView, with_moved, w
 use Rattle.nm_pool.specs.views.Frames.{FramesView, HasAllFrames, free_on}
 use Rattle.nm_engine.proofs.Shown.PagedFrames.{HasItsFrames, stock_page, restock_page}
 use Rattle.nm_engine.specs.views.Shown.{paged_frames, shown_by}
-use Rattle.nm_engine.specs.views.MidRun.{IsSoundMachine}
+use Rattle.nm_engine.specs.views.RunState.{IsSoundMachine}
 use Rattle.nm_laws.proofs.Soundness.Counted.{index_front}
 use Rattle.nm_engine.proofs.Shown.FreeFrames.{front_below, apart_from_front, stocked_is}
 

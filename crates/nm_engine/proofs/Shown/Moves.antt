@@ -13,7 +13,7 @@ use Rattle.nm_spaces.specs.views.AddressSpaces.{AddressSpacesView, with_moved, t
 use Rattle.nm_pool.specs.views.Copies.{with_copy, with_copies, without_move, CanCopy}
 use Rattle.nm_pool.specs.views.Frames.{FramesView, HasAllFrames, free_on}
 use Rattle.nm_laws.specs.Laws.{with_move, with_moves}
-use Rattle.nm_engine.specs.views.MidRun.{IsSoundMachine}
+use Rattle.nm_engine.specs.views.RunState.{IsSoundMachine}
 use Rattle.nm_laws.specs.Moves.{CanMove}
 use Rattle.nm_spaces.specs.definitions.Moves.{CanRemap, all_moved}
 use Rattle.nm_model.specs.definitions.Run.{moved_page, frames_left}

@@ -21,7 +21,7 @@ use Rattle.nm_laws.proofs.Early.Kept.{beside}
 use Rattle.nm_pool.specs.views.Copies.{HasBoth}
 use Rattle.nm_spaces.specs.views.AddressSpaces.{AddressSpacesView}
 use Rattle.nm_pool.specs.views.Frames.{FramesView, KeepsBytes}
-use Rattle.nm_engine.specs.views.MidRun.{RunState, IsSoundMachine}
+use Rattle.nm_engine.specs.views.RunState.{RunState, IsSoundMachine}
 use Rattle.nm_engine.specs.views.Shown.{bytes_in, shown_by}
 use Rattle.nm_model.specs.definitions.Sound.{IsSoundInFlight}
 

@@ -31,7 +31,7 @@ use Rattle.nm_engine.specs.declared.prepared_run.undo.Undo.{Undo}
 use Rattle.nm_model.specs.definitions.Frames.{bytes_of}
 use Rattle.nm_spaces.specs.views.AddressSpaces.{AddressSpacesView, with_before, without_page}
 use Rattle.nm_pool.specs.views.Frames.{FramesView, CanFree, pool_of}
-use Rattle.nm_engine.specs.views.MidRun.{IsSoundMachine}
+use Rattle.nm_engine.specs.views.RunState.{IsSoundMachine}
 use Rattle.nm_engine.specs.views.Parts.{IsSiteOf, access_site}
 use Rattle.nm_engine.specs.views.Shown.{shown_by}
 use Rattle.nm_model.specs.definitions.Seen.{frame_of, frame_seen}

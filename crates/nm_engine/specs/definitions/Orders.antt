@@ -8,7 +8,7 @@ use Rattle.nm_model.specs.definitions.Run.{RunResult, run}
 use Rattle.nm_model.specs.definitions.RunMachine.{RunMachine, Ended, state_of}
 use Rattle.nm_model.specs.definitions.Touch.{Access}
 use Rattle.nm_laws.specs.Interleavings.{Unfolds, IsRun}
-use Rattle.nm_laws.specs.Midway.{frames_of_job}
+use Rattle.nm_laws.specs.InFlight.{frames_of_job}
 use Rattle.nm_engine.specs.views.Flights.{Flight, IsFlightOf, pair_of}
 
 -- what a run is asked for: the node that pages go to, the requests, and the accesses made meanwhile

@@ -8,7 +8,7 @@ use Rattle.nm_model.specs.definitions.BeforeCopy.{all_before_copy, before_copy, 
 use Rattle.nm_model.specs.definitions.Touch.{Access}
 use Rattle.nm_pool.specs.declared.pending_access.PendingAccess.{PendingAccess as Left}
 use Rattle.nm_pool.specs.views.Accesses.{HasRoom, pending_shown}
-use Rattle.nm_engine.specs.views.MidRun.{RunState, with_state}
+use Rattle.nm_engine.specs.views.RunState.{RunState, with_state}
 
 -- the run has the frames that these moves take from a node, and room for those that its pages leave
 pub record TakesFrames (old : RunState) (target : ℕ) (moves : List PageMove) (new : RunState) : Type 0 where
@@ -26,13 +26,13 @@ module _ {A : Type 0} where
   -- so are those of accesses, one after another
   pub record TouchesEach (old : RunState) (moving : List Page) (accesses : List Access) (new : RunState) (left : Vec (Left A) A) : Type 0 where
     pub touched : new ≡ with_state old ((all_before_copy old.state moving accesses).state)
-    pub dues : map pending_shown left.items ≡ (all_before_copy old.state moving accesses).dues
+    pub all_due : map pending_shown left.items ≡ (all_before_copy old.state moving accesses).all_due
     pub room : AllByRecursion HasRoom left.items
     pub len : vec_len left ≡ length accesses
 
   -- a run of these moves to a node is prepared: first its frames are taken, and then the accesses are touched
   pub record Prepares (old : RunState) (target : ℕ) (moves : List PageMove) (accesses : List Access) (new : RunState)
-      (dues : Vec (Left A) A) : Type 0 where
+      (all_due : Vec (Left A) A) : Type 0 where
     pub between : RunState
     pub frames : TakesFrames old target moves between
-    pub touches : TouchesEach between (map (λ t. t.page) moves) accesses new dues
+    pub touches : TouchesEach between (map (λ t. t.page) moves) accesses new all_due

@@ -22,7 +22,7 @@ use Rattle.nm_model.specs.definitions.RunMachine.{RunMachine, Moving, state_of}
 use Rattle.nm_model.specs.definitions.Sound.{IsSound}
 use Rattle.nm_model.specs.definitions.Touch.{Access, AccessAnswer, all_in_flight, access_during}
 use Rattle.nm_laws.specs.Interleavings.{IsAtRest}
-use Rattle.nm_laws.specs.Midway.{IsInFlight, frames_of_job}
+use Rattle.nm_laws.specs.InFlight.{IsInFlight, frames_of_job}
 use Rattle.nm_laws.specs.Moves.{CanMove, IsPlanOf}
 use Rattle.nm_pool.specs.declared.answers.AccessAnswer.{AccessAnswer as Given}
 use Rattle.nm_pool.specs.declared.pending_access.PendingAccess.{PendingAccess as Left}
@@ -32,7 +32,7 @@ use Rattle.nm_pool.specs.views.Copies.{with_jobs_back, CanRefill}
 use Rattle.nm_pool.specs.views.Frames.{FramesView, HasAllFrames}
 use Rattle.nm_spaces.specs.views.AddressSpaces.{AddressSpacesView}
 use Rattle.nm_spaces.specs.views.Held.{HeldView, HoldsPages, is_taken}
-use Rattle.nm_engine.specs.views.MidRun.{RunState, IsSoundMachine}
+use Rattle.nm_engine.specs.views.RunState.{RunState, IsSoundMachine}
 use Rattle.nm_engine.specs.views.Shown.{shown_by}
 
 -- the frames that these moves take from a node belong to the run, and it could make the moves if they were still the node's
@@ -101,22 +101,22 @@ module _ {A : Type 0} where
   -- a run machine whose run is under way, of these moves: it is read as the same state, and each process has the same entry
   -- at each page number
   pub record IsFlightOf (m : RunMachine) (x : Flight) (jobs : List (CopyJob A)) : Type 0 where
-    pub midway : IsInFlight m (map (λ t. t.page) x.moves)
+    pub in_flight : IsInFlight m (map (λ t. t.page) x.moves)
     pub state : state_of m ≡ state_in_flight x jobs
     pub entries : (pid v : ℕ) → entry_at m.tasks pid v ≡ entry_at x.tables pid v
     pub ends : map frames_of_job m.jobs ≡ map (λ t. (t.from, t.to)) x.moves
 
   -- what is left to do for accesses can be done meanwhile, and an empty list has room for their answers
-  pub record CanAnswer (x : Flight) (dues : Vec (Left A) A) (answers : Vec (Given A) A) : Type 0 where
-    pub can : AllByRecursion (CanDo x.spaces.place x.frames.frames) (map pending_shown dues.items)
-    pub room : AllByRecursion HasRoom dues.items
+  pub record CanAnswer (x : Flight) (all_due : Vec (Left A) A) (answers : Vec (Given A) A) : Type 0 where
+    pub can : AllByRecursion (CanDo x.spaces.place x.frames.frames) (map pending_shown all_due.items)
+    pub room : AllByRecursion HasRoom all_due.items
     pub unanswered : answers.items ≡ []
-    pub space : vec_len dues ≤ vec_capacity answers
+    pub space : vec_len all_due ≤ vec_capacity answers
 
   -- it is done, in order, on the bytes that are home, and these are the answers
-  pub record AnswersEach (x : Flight) (dues : List (Left A)) (y : Flight) (told : List (Given A)) : Type 0 where
-    pub run : y ≡ with_store x (all_stored_after_copy x.spaces.place x.frames.frames (map pending_shown dues)).store
-    pub answers : map answer_shown told ≡ (all_stored_after_copy x.spaces.place x.frames.frames (map pending_shown dues)).answers
+  pub record AnswersEach (x : Flight) (all_due : List (Left A)) (y : Flight) (told : List (Given A)) : Type 0 where
+    pub run : y ≡ with_store x (all_stored_after_copy x.spaces.place x.frames.frames (map pending_shown all_due)).store
+    pub answers : map answer_shown told ≡ (all_stored_after_copy x.spaces.place x.frames.frames (map pending_shown all_due)).answers
 
   -- a run machine that begins the run of a plan with these moves is then at this moment
   abbrev pub BeginsSo : RunState → List PageMove → Flight → List (CopyJob A) → Type 0
@@ -129,9 +129,9 @@ module _ {A : Type 0} where
   -- a run machine at the first moment, at the second once jobs are drawn and given back, and accesses made for which this is
   -- left to do, with their answers
   abbrev pub FliesSo : Flight → List (CopyJob A) → List PendingAccess → Flight → List (CopyJob A) → List AccessAnswer → Type 0
-  FliesSo x jobs dues y done answers =
+  FliesSo x jobs all_due y done answers =
       (m n : RunMachine) (events : List Event) → IsFlightOf m x jobs → after m events ≡ Some n → n.phase ≡ Moving →
-      all_in_flight (state_of m) (map (λ t. t.page) x.moves) (accesses_in events) ≡ all_after_copy (state_of m) dues →
+      all_in_flight (state_of m) (map (λ t. t.page) x.moves) (accesses_in events) ≡ all_after_copy (state_of m) all_due →
       IsFlightOf n y done × (n.answers ≡ m.answers ++ answers)
 
   -- a run machine at this moment, whose jobs are given back, is in this state once it has ended the run

@@ -17,7 +17,7 @@ use Rattle.nm_pool.specs.views.Frames.{FramesView}
 use Rattle.nm_engine.specs.declared.prepared_run.undo.Undo.{Undo}
 use Rattle.nm_engine.specs.definitions.Does.{AsksLast, Touches}
 use Rattle.nm_engine.specs.definitions.Undo.{undo_of}
-use Rattle.nm_engine.specs.views.MidRun.{IsSoundMachine}
+use Rattle.nm_engine.specs.views.RunState.{IsSoundMachine}
 use Rattle.nm_engine.specs.views.Shown.{shown_by}
 
 -- the place of a touch by this process in this area

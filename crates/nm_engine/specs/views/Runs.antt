@@ -22,4 +22,4 @@ module _ {A : Type 0} where
 
   -- a run that was made: the state after it, and its answer
   abbrev pub ran_by : State → RunAnswer A → RunResult
-  ran_by after flown = record { state = after; statuses = flown.statuses.items; answers = map answer_shown flown.answers.items ∷ [] }
+  ran_by after landed = record { state = after; statuses = landed.statuses.items; answers = map answer_shown landed.answers.items ∷ [] }

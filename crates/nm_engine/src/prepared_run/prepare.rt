@@ -19,8 +19,8 @@ use crate::prepared_run::PreparedRun;
 use crate::prepared_run::undo::Undo;
 use crate::resolved_address::ResolvedAddress;
 use crate::touch::push_zeros;
-use nm_pool::{AccessAnswer, PendingAccess};
 use nm_plan::PageMove;
+use nm_pool::{AccessAnswer, PendingAccess};
 use nm_types::{Access, MachineError, NodeId, Page, Pid, Vpn};
 use std::alloc::{AllocError, Allocator};
 use std::collections::BTreeSet;
@@ -40,14 +40,14 @@ impl<A: Allocator + Copy> PreparedRun<A> {
         requires none { self.old.left ≡ [] }
         requires moves { CanMove self.old.state target moves.now }
         ensures prepares { IfOk result
-            (λ dues. Prepares self.old target moves.now (accesses_shown accesses.now) self.new dues) }
+            (λ all_due. Prepares self.old target moves.now (accesses_shown accesses.now) self.new all_due) }
         ensures sound { IsSound self.old.state }
         ensures err { OnErr result (self.new ≡ record (self.old) { room = self.new.room }) }
         ensures allocates { OnErr result (0 < length moves.now + length accesses.now) }
     {
         self.take_frames(target, moves)?;
         match self.touch_each(moves, accesses) {
-            Ok(dues) => Ok(dues),
+            Ok(all_due) => Ok(all_due),
             Err(error) => {
                 self.frames.give_back(target, moves);
                 Err(error)
@@ -81,26 +81,26 @@ impl<A: Allocator + Copy> PreparedRun<A> {
         accesses: &[&'d Access<A>],
     ) -> Result<Vec<PendingAccess<'d, A>, A>, AllocError>
         ensures touched { IfOk result
-            (λ dues. TouchesEach self.old (map (λ t. t.page) moves.now) (accesses_shown accesses.now) self.new dues) }
+            (λ all_due. TouchesEach self.old (map (λ t. t.page) moves.now) (accesses_shown accesses.now) self.new all_due) }
         ensures err { OnErr result (self.new ≡ self.old) }
         ensures allocates { OnErr result (0 < length accesses.now) }
     {
-        let mut dues = Vec::with_capacity(self.alloc, accesses.len())?;
+        let mut all_due = Vec::with_capacity(self.alloc, accesses.len())?;
         if accesses.is_empty() {
-            return Ok(dues);
+            return Ok(all_due);
         }
         let mut undos = Vec::new(self.alloc);
         let moving = pages_of(self.alloc, moves)?;
         for access in accesses {
             match self.touch_early(&moving, *access, &mut undos) {
-                Ok(due) => dues.push_reserved(due),
+                Ok(due) => all_due.push_reserved(due),
                 Err(error) => {
                     self.take_back(&mut undos);
                     return Err(error);
                 }
             }
         }
-        Ok(dues)
+        Ok(all_due)
     }
 
     /// Makes the touch of an access. Allocates only for an access that is neither refused for where it is, nor held.
@@ -203,7 +203,10 @@ impl<A: Allocator + Copy> PreparedRun<A> {
 }
 
 /// The pages of moves, in order.
-fn pages_of<A: Allocator + Copy>(alloc: A, moves: &[PageMove]) -> Result<BTreeSet<Page, A>, AllocError>
+fn pages_of<A: Allocator + Copy>(
+    alloc: A,
+    moves: &[PageMove],
+) -> Result<BTreeSet<Page, A>, AllocError>
     ensures pages { IfOk result
         (λ pages. (p : Page) →
         list_any (same_page p) pages.keys

@@ -4,7 +4,7 @@ ghost use Rattle.std.specs.Prelude.{◌≡◌, [], true, vec_capacity, Some, IfO
 ghost use Rattle.nm_types.specs.declared.sight.Sight.TheVariants.{ZeroPage};
 ghost use Rattle.nm_types.specs.State.{Process, PlacedArea};
 ghost use Rattle.nm_model.specs.definitions.Seen.{sight_at};
-ghost use Rattle.nm_engine.specs.views.MidRun.{with_state};
+ghost use Rattle.nm_engine.specs.views.RunState.{with_state};
 ghost use Rattle.nm_engine.specs.views.Parts.{HasSite, IsSiteOf, access_site, noted_by, touched_by};
 ghost use Rattle.nm_engine.specs.views.Spaces.{spaces_of};
 ghost use Rattle.nm_engine.specs.definitions.Does.{Touches};

@@ -43,7 +43,7 @@ module _ (a b : List Page) (same : (p : Page) → list_any (same_page p) a ≡ l
   early_alike s x = ap (λ c. if c then held_before_copy s else access_before_copy s x) (held_alike (site_of_access s x))
 
   abbrev due_first : PendingAccess → AllBeforeCopy → AllBeforeCopy
-  due_first due rest = record { state = rest.state; dues = due ∷ rest.dues }
+  due_first due rest = record { state = rest.state; all_due = due ∷ rest.all_due }
 
   pub all_early_alike : (accesses : List Access) (s : State) → all_before_copy s a accesses ≡ all_before_copy s b accesses
   all_early_alike [] s = refl

@@ -117,7 +117,7 @@ module _ (places : Map Page ℕ → Map Page ℕ) (bytes : Map Page (List ℕ) �
   all_changed e = record e { state = changed e.state }
 
   abbrev due_first : PendingAccess → AllBeforeCopy → AllBeforeCopy
-  due_first due rest = record { state = rest.state; dues = due ∷ rest.dues }
+  due_first due rest = record { state = rest.state; all_due = due ∷ rest.all_due }
 
   abbrev then_all : List Page → List Access → BeforeCopy → AllBeforeCopy
   then_all moved accesses e = due_first e.due (all_before_copy e.state moved accesses)

@@ -233,7 +233,7 @@ early_ready s l moved a h =
 
 -- what was left to do is done after all touches
 abbrev pub all_later : AllBeforeCopy → AccessResults
-all_later e = all_after_copy e.state e.dues
+all_later e = all_after_copy e.state e.all_due
 
 -- an answer before others
 abbrev pub after_first : AccessAnswer → AccessResults → AccessResults
@@ -251,4 +251,4 @@ touches_first l moved (a ∷ accesses) s h =
     ∙ ap (after_first (answer_after_copy now.state now.due))
     (touches_first l moved accesses next (subst (λ (x : AccessResult). IsSoundInFlight x.state l) once (flight_sound s l moved a h))
     ∙ ap all_later (made_beside now.state l moved accesses now.due ready.sound ready.on))
-    ∙ ap (λ (x : AccessAnswer). after_first x (all_after_copy (after_copy rest.state now.due) rest.dues)) (told_later now.state l moved accesses now.due ready.sound ready.on)
+    ∙ ap (λ (x : AccessAnswer). after_first x (all_after_copy (after_copy rest.state now.due) rest.all_due)) (told_later now.state l moved accesses now.due ready.sound ready.on)

@@ -103,8 +103,8 @@ module _ (s : State) (target : ℕ) (taken : List PageMove) (accesses : List Acc
     pub sound : IsSoundInFlight (touched_all.state) (frames_taken taken)
     pub back : IsSound given_back
     pub can : CanMove given_back target taken
-    pub due : AllByRecursion (IsPending (pages_of taken) (touched_all.state)) (touched_all.dues)
-    pub flight : all_in_flight (with_moves s target taken) (pages_of taken) accesses ≡ all_after_copy (with_moves given_back target taken) (touched_all.dues)
+    pub due : AllByRecursion (IsPending (pages_of taken) (touched_all.state)) (touched_all.all_due)
+    pub flight : all_in_flight (with_moves s target taken) (pages_of taken) accesses ≡ all_after_copy (with_moves given_back target taken) (touched_all.all_due)
 
   pub phased : IsSound s → target < length s.free → CanMove s target taken → IsPhased
   phased h inside can =
@@ -133,8 +133,8 @@ module _ (s : State) (target : ℕ) (taken : List PageMove) (accesses : List Acc
             touches_first (frames_left taken) moved accesses (with_moves s target taken) (moves_sound taken s [] target h can)
             ∙ ap (λ (x : State). all_later (all_before_copy x moved accesses)) (moves_are_places taken s target inside h.order.place can)
             ∙ ap all_later (places_too moved taken (pages_among taken) accesses fronts_taken)
-            ∙ ap (λ (x : State). all_after_copy (with_places x taken) touched_all.dues) (sym (again taken touched_all.state target within))
-            ∙ ap (λ (x : State). all_after_copy x touched_all.dues) (sym (moves_are_places taken given_back target
+            ∙ ap (λ (x : State). all_after_copy (with_places x taken) touched_all.all_due) (sym (again taken touched_all.state target within))
+            ∙ ap (λ (x : State). all_after_copy x touched_all.all_due) (sym (moves_are_places taken given_back target
             (omega (arith, within, length-set touched_all.state.free target (frames_taken taken ++ free_list touched_all.state target))) back.order.place can_back));
       }
 

@@ -53,7 +53,7 @@ module _ (moved : List Page) where
       (λ s a k held at e. (found s a at e, place_spares t among s at (subst (λ r. is_held moved r ≡ false) e held))) (λ s a k. tt) accesses s tt
 
   abbrev placed_after : List PageMove → AllBeforeCopy → AllBeforeCopy
-  placed_after taken e = record { state = with_places e.state taken; dues = e.dues }
+  placed_after taken e = record { state = with_places e.state taken; all_due = e.all_due }
 
   -- the moves of pages come before or after
   pub places_too : (taken : List PageMove) → AllByRecursion (λ t. list_any (same_page t.page) moved ≡ true) taken → (accesses : List Access) (s : State)

@@ -137,7 +137,7 @@ touches_still s l moved accesses (ToRead page at len) h on =
 touches_still s l moved accesses (ToWrite page at new) h on =
     subst (λ o. IsSome o) (sym (all_stay page (get page_cmp s.place page) (get page_cmp s.bytes page) l moved accesses s (record { sound = h; some = on; place = refl; bytes = refl })).place) on
 
-pub all_due : (l : List ℕ) (moved : List Page) (accesses : List Access) (s : State) → IsSoundInFlight s l → let e = all_before_copy s moved accesses in AllByRecursion (IsPending moved e.state) e.dues × IsSoundInFlight e.state l
+pub all_due : (l : List ℕ) (moved : List Page) (accesses : List Access) (s : State) → IsSoundInFlight s l → let e = all_before_copy s moved accesses in AllByRecursion (IsPending moved e.state) e.all_due × IsSoundInFlight e.state l
 all_due l moved [] s h = (tt, h)
 all_due l moved (a ∷ accesses) s h =
     let now = before_copy s moved a in

@@ -25,7 +25,7 @@ answered_midway m moved answer h =
 
 module _ (m : RunMachine) (moved : List Page) (h : IsInFlight m moved) where
   only_answered : (x y : AccessAnswer) → x ≡ y → Made m (with_answer m x) moved (record { state = state_of m; answer = y })
-  only_answered x y e = record { midway = answered_midway m moved x h; state = refl; answers = ap (λ z. m.answers ++ z ∷ []) e; jobs = refl; statuses = refl; layout = refl }
+  only_answered x y e = record { in_flight = answered_midway m moved x h; state = refl; answers = ap (λ z. m.answers ++ z ∷ []) e; jobs = refl; statuses = refl; layout = refl }
 
   read_both : (pid address len : ℕ) → address % 4096 + len ≤ 4096 → (rm : Result RunMachine Errno) (rs : Result State Errno) → Both m moved pid (address / 4096) rm rs
       → Made m (read_entry m pid address len rm) moved (state.read_after (state_of m) pid address len rs)
@@ -35,9 +35,9 @@ module _ (m : RunMachine) (moved : List Page) (h : IsInFlight m moved) where
   read_both pid address len fits (Ok n) (Err x) b = absurd b
   read_both pid address len fits (Ok n) (Ok t) b =
       let bytes = bytes_at n.buf (entry_at n.tasks pid (address / 4096)) (address % 4096) len in
-      let same = ap (λ o. bytes_at n.buf o (address % 4096) len) b.there ∙ reads_alike n moved b.midway pid address b.entry b.there b.used len fits in
+      let same = ap (λ o. bytes_at n.buf o (address % 4096) len) b.there ∙ reads_alike n moved b.in_flight pid address b.entry b.there b.used len fits in
       record {
-        midway = answered_midway n moved (Bytes bytes) b.midway;
+        in_flight = answered_midway n moved (Bytes bytes) b.in_flight;
         state = b.state;
         answers = ap (λ xs. xs ++ Bytes bytes ∷ []) b.answers ∙ ap (λ bs. m.answers ++ Bytes bs ∷ []) (same ∙ ap (λ s. mem_range s pid address len) b.state);
         jobs = b.jobs;
@@ -54,8 +54,8 @@ module _ (m : RunMachine) (moved : List Page) (h : IsInFlight m moved) where
   write_both pid address new fits (Ok n) (Ok t) b =
       let at = λ (o : Option Entry). record n { buf = written_at n.buf o (address % 4096) new } in
       record {
-        midway = answered_midway (at (entry_at n.tasks pid (address / 4096))) moved Done (subst (λ o. IsInFlight (at o) moved) (sym b.there) (written_midway n moved b.midway pid address new b.entry b.there b.used fits));
-        state = ap (λ o. state_of (at o)) b.there ∙ writes_alike n moved b.midway pid address new b.entry b.there b.used
+        in_flight = answered_midway (at (entry_at n.tasks pid (address / 4096))) moved Done (subst (λ o. IsInFlight (at o) moved) (sym b.there) (written_midway n moved b.in_flight pid address new b.entry b.there b.used fits));
+        state = ap (λ o. state_of (at o)) b.there ∙ writes_alike n moved b.in_flight pid address new b.entry b.there b.used
             ∙ ap (λ s. state.with_bytes s (sight_at s pid (address / 4096)) (address % 4096) new) b.state;
         answers = ap (λ xs. xs ++ Done ∷ []) b.answers;
         jobs = b.jobs;

@@ -298,7 +298,7 @@ module _ (m : RunMachine) (target : ℕ) (wanted : List Wanted) (rest : IsAtRest
   laid_begins : (statuses : List ℤ) → statuses ≡ p.statuses → Begun m (laid p.taken statuses) p
   laid_begins statuses same =
       record {
-        midway = record {
+        in_flight = record {
           moving = refl;
           sound = subst (IsSoundInFlight (state_of (laid p.taken statuses))) (sym (sources_of m.buf p.taken)) (subst (λ s. IsSoundInFlight s (frames_left p.taken)) (sym (laid_state statuses)) sound_then);
           entries = laid_entries;

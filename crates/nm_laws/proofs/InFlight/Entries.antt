@@ -13,7 +13,7 @@ use Rattle.nm_model.specs.definitions.Events.{held_by}
 use Rattle.nm_model.specs.definitions.PageTables.{entry_at, entry_of, sight_of}
 use Rattle.nm_model.specs.definitions.RunMachine.{RunMachine, Job, job_from, goes_to, state_of}
 use Rattle.nm_model.specs.definitions.Seen.{sight_at}
-use Rattle.nm_laws.specs.Midway.{IsInFlight, entry_in_flight, is_source, hold_entry}
+use Rattle.nm_laws.specs.InFlight.{IsInFlight, entry_in_flight, is_source, hold_entry}
 use Rattle.nm_laws.proofs.InFlight.Whereabouts.{sight_is}
 
 -- the entry of a page in this frame, if it has one, by its job

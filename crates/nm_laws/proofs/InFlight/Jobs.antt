@@ -6,7 +6,7 @@ use Rattle.std.specs.List.{flat_map}
 use Rattle.nm_types.specs.declared.entry.Entry.TheVariants.{Frame, Held}
 use Rattle.nm_model.specs.definitions.Frames.{Store, bytes_of}
 use Rattle.nm_model.specs.definitions.Sound.{times}
-pub use Rattle.nm_laws.specs.Midway.{sources, targets, AreCopied}
+pub use Rattle.nm_laws.specs.InFlight.{sources, targets, AreCopied}
 use Rattle.nm_laws.proofs.Soundness.Frames.{here, times_cons}
 use Rattle.nm_model.specs.definitions.RunMachine.{Job, InHand, job_from, goes_to, content}
 use Rattle.nm_model.specs.definitions.Events.{is_laid, draw_job, give_job, job_holds, InJob}

@@ -91,7 +91,7 @@ IsUsed (OnItsWay f) = ⊥
 
 -- the machine after a touch, read as this state
 pub record Touched (m n : RunMachine) (moved : List Page) (t : State) (pid v : ℕ) : Type 0 where
-  pub midway : IsInFlight n moved
+  pub in_flight : IsInFlight n moved
   pub state : state_of n ≡ t
   pub answers : n.answers ≡ m.answers
   pub jobs : n.jobs ≡ m.jobs
@@ -132,7 +132,7 @@ module _ (m : RunMachine) (moved : List Page) (h : IsInFlight m moved) (at : Acc
 
   -- nothing changes
   unchanged : (e : Entry) → entry_at m.tasks at.pid at.vpn ≡ Some e → IsUsed e → Touched m m moved (state_of m) at.pid at.vpn
-  unchanged e there used = record { midway = h; state = refl; answers = refl; jobs = refl; statuses = refl; layout = refl; entry = e; there = there; used = used }
+  unchanged e there used = record { in_flight = h; state = refl; answers = refl; jobs = refl; statuses = refl; layout = refl; entry = e; there = there; used = used }
 
   -- a page gets a frame
   allocated_both : (o : Option ℕ) → ((node : ℕ) → o ≡ Some node → (length (free_list (state_of m) node) == 0) ≡ false) → get page_cmp m.place (shown_at at) ≡ None → ((p : Page) → sight_at (state_of m) at.pid at.vpn ≡ Some (Sees p) → ⊥)
@@ -141,7 +141,7 @@ module _ (m : RunMachine) (moved : List Page) (h : IsInFlight m moved) (at : Acc
   allocated_both None some unplaced unseen = refl
   allocated_both (Some node) some unplaced unseen =
       record {
-        midway = filled_midway m moved h at i node (some node refl) unplaced unseen;
+        in_flight = filled_midway m moved h at i node (some node refl) unplaced unseen;
         state = filled_is m moved h at i node (some node refl) unplaced;
         answers = refl;
         jobs = refl;
@@ -168,7 +168,7 @@ module _ (m : RunMachine) (moved : List Page) (h : IsInFlight m moved) (at : Acc
       let sound = with_sight_sound (state_of m) (sources m.jobs) at (Sees (page_here m.areas at.pid at.vpn)) h.sound i
       (page_here_is m moved h at i, subst IsSome (sym (ap (get page_cmp (state_of m).place) (page_here_is m moved h at i) ∙ goes_now m moved h (shown_at at) f placed)) refl) unseen in
       record {
-        midway = entered_midway m moved h at i (Frame f) (frame_fits m.place m.areas m.jobs at.pid at.vpn f (shown_at at) (page_at_spot (state_of m) at i) placed stays) sound;
+        in_flight = entered_midway m moved h at i (Frame f) (frame_fits m.place m.areas m.jobs at.pid at.vpn f (shown_at at) (page_at_spot (state_of m) at i) placed stays) sound;
         state = sees;
         answers = refl;
         jobs = refl;
@@ -184,7 +184,7 @@ module _ (m : RunMachine) (moved : List Page) (h : IsInFlight m moved) (at : Acc
   zero_both private e =
       let unseen : (p : Page) → sight_at (state_of m) at.pid at.vpn ≡ Some (Sees p) → ⊥ = λ p k. none_sees (sym (sight_is m moved h at.pid at.vpn ∙ ap (option_map (sight_of m.areas at.pid at.vpn)) e) ∙ k) in
       record {
-        midway = entered_midway m moved h at i Zero refl (with_sight_sound (state_of m) (sources m.jobs) at ZeroPage h.sound i private unseen);
+        in_flight = entered_midway m moved h at i Zero refl (with_sight_sound (state_of m) (sources m.jobs) at ZeroPage h.sound i private unseen);
         state = entered_is m at i Zero;
         answers = refl;
         jobs = refl;

@@ -11,7 +11,7 @@ use Rattle.nm_model.specs.definitions.PageTables.{sight_of, entry_of}
 use Rattle.nm_model.specs.definitions.Sound.{times, IsSoundInFlight}
 use Rattle.nm_model.specs.definitions.RunMachine.{RunMachine, Job, job_from, state_of}
 use Rattle.nm_model.specs.definitions.Events.{held_by, hands, job_holds, home_hold}
-pub use Rattle.nm_laws.specs.Midway.{is_source, CopiesPage, frames_of_job, IsInFlight}
+pub use Rattle.nm_laws.specs.InFlight.{is_source, CopiesPage, frames_of_job, IsInFlight}
 use Rattle.nm_laws.proofs.InFlight.Jobs.{Shape, shape, sources, targets, AreCopied, from_same, held_of_shape, goes_same, content_same, some_same, sources_same, targets_same, jobs_hold}
 
 -- how many places hold the buffer of a frame

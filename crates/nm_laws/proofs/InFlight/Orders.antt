@@ -90,7 +90,7 @@ finish (Give w t ∷ events) m n moved h leads end =
 finish (Touch a ∷ events) m n moved h leads end =
     let k = after_access m a in
     let made = accessed_is m moved h a in
-    let rest = finish events k n moved made.midway (allowed _ _ n leads).1 end in
+    let rest = finish events k n moved made.in_flight (allowed _ _ n leads).1 end in
     let now = access_during (state_of m) moved a in
     let d : State → AccessResults = λ s. all_in_flight s moved (accesses_in events) in
     record {
@@ -117,7 +117,7 @@ every_order_is_the_run m target wanted events n h end =
     let k = begin_run m target wanted in
     let p = each_request (state_of m) target wanted in
     let pages = map (λ t. t.page) p.taken in
-    let rest = finish events k n pages first.midway (allowed _ _ n h.leads).1 end in
+    let rest = finish events k n pages first.in_flight (allowed _ _ n h.leads).1 end in
     let d : State → AccessResults = λ s. all_in_flight s pages (accesses_in events) in
     record {
       state = rest.state ∙ (λ i. with_counts (with_all_free (d (first.state i)).state (first.sources_are i)) (first.count i) (failures (first.statuses i)));
@@ -136,7 +136,7 @@ once_after (Give w t ∷ events) m n moved h leads f below =
     once_after events (record m { jobs = give_job t m.jobs }) n moved (same_midway m (give_job t m.jobs) (given_shape t m.jobs) moved (given_copied t m.jobs h.copied) h) (allowed _ _ n leads).1 f below
 once_after (Touch a ∷ events) m n moved h leads f below =
     let made = accessed_is m moved h a in
-    once_after events (after_access m a) n moved made.midway (allowed _ _ n leads).1 f (subst (λ g. f < frame_count g) (sym made.layout) below)
+    once_after events (after_access m a) n moved made.in_flight (allowed _ _ n leads).1 f (subst (λ g. f < frame_count g) (sym made.layout) below)
 once_after (End ∷ events) m n moved h leads f below =
     let is = after_end events (end_run m) n refl refl (allowed _ _ n leads).1 in
     ap (λ k. length (hands k f)) (sym is.1) ∙ ended_once m moved h f below
@@ -144,11 +144,11 @@ once_after (End ∷ events) m n moved h leads f below =
 pub every_buffer_is_in_one_hand : EveryBufferIsInOneHand
 every_buffer_is_in_one_hand m target wanted events n h f below =
     let first = begun_is m target wanted h.rest h.sound h.alike in
-    once_after events (begin_run m target wanted) n (map (λ t. t.page) (each_request (state_of m) target wanted).taken) first.midway (allowed _ _ n h.leads).1 f (subst (λ g. f < frame_count g) (sym first.layout) below)
+    once_after events (begin_run m target wanted) n (map (λ t. t.page) (each_request (state_of m) target wanted).taken) first.in_flight (allowed _ _ n h.leads).1 f (subst (λ g. f < frame_count g) (sym first.layout) below)
 
 -- what a run that is under way, and does not end, makes of a machine
 pub record Flies (m n : RunMachine) (moved : List Page) (d : AccessResults) : Type 0 where
-  pub midway : IsInFlight n moved
+  pub in_flight : IsInFlight n moved
   pub state : state_of n ≡ d.state
   pub answers : n.answers ≡ m.answers ++ d.answers
   pub ends : map frames_of_job n.jobs ≡ map frames_of_job m.jobs
@@ -162,7 +162,7 @@ module _ (m n : RunMachine) (moved : List Page) (h : IsInFlight m moved) where
       let d : State → AccessResults = λ s. all_in_flight s moved (accesses_in events) in
       let s = same_state m jobs same in
       record {
-        midway = rest.midway;
+        in_flight = rest.in_flight;
         state = rest.state ∙ ap (λ t. (d t).state) s;
         answers = rest.answers ∙ ap (λ t. m.answers ++ (d t).answers) s;
         ends = rest.ends ∙ sym (same_ends m jobs same);
@@ -172,7 +172,7 @@ pub flies : (events : List Event) (m n : RunMachine) (moved : List Page) → IsI
 flies [] m n moved h leads on =
     let is = some_is leads in
     record {
-      midway = subst (λ (k : RunMachine). IsInFlight k moved) is h;
+      in_flight = subst (λ (k : RunMachine). IsInFlight k moved) is h;
       state = ap state_of (sym is);
       answers = ap (λ (k : RunMachine). k.answers) (sym is) ∙ sym (append-nil m.answers);
       ends = ap (λ (k : RunMachine). map frames_of_job k.jobs) (sym is);
@@ -190,11 +190,11 @@ flies (Give w t ∷ events) m n moved h leads on =
     (flies events (record m { jobs = jobs }) n moved (same_midway m jobs same moved (given_copied t m.jobs h.copied) h) (allowed _ _ n leads).1 on)
 flies (Touch a ∷ events) m n moved h leads on =
     let made = accessed_is m moved h a in
-    let rest = flies events (after_access m a) n moved made.midway (allowed _ _ n leads).1 on in
+    let rest = flies events (after_access m a) n moved made.in_flight (allowed _ _ n leads).1 on in
     let now = access_during (state_of m) moved a in
     let d : State → AccessResults = λ s. all_in_flight s moved (accesses_in events) in
     record {
-      midway = rest.midway;
+      in_flight = rest.in_flight;
       state = rest.state ∙ ap (λ t. (d t).state) made.state;
       answers = rest.answers ∙ (λ i. made.answers i ++ (d (made.state i)).answers) ∙ append_assoc m.answers (now.answer ∷ []) (d now.state).answers;
       ends = rest.ends ∙ ap (map frames_of_job) made.jobs;
@@ -207,7 +207,7 @@ pub every_entry_of_a_moving_page_is_held : EveryEntryOfAMovingPageIsHeld
 every_entry_of_a_moving_page_is_held m target wanted events n h on =
     let first = begun_is m target wanted h.rest h.sound h.alike in
     let moved = map (λ t. t.page) (each_request (state_of m) target wanted).taken in
-    entry_is n moved (flies events (begin_run m target wanted) n moved first.midway (allowed _ _ n h.leads).1 on).midway
+    entry_is n moved (flies events (begin_run m target wanted) n moved first.in_flight (allowed _ _ n h.leads).1 on).in_flight
 
 -- a run that ends has a last moment: every job is given back, and its accesses are made
 pub record IsBeforeEnd (m : RunMachine) (events : List Event) (n : RunMachine) : Type 0 where
@@ -234,7 +234,7 @@ before_end (Give w t ∷ events) m n moved h leads end =
     record { till = Give w t ∷ rest.till; now = rest.now; leads = one_more _ _ both.0 ∙ rest.leads; moving = rest.moving; given = rest.given; accesses = rest.accesses; over = rest.over }
 before_end (Touch a ∷ events) m n moved h leads end =
     let both = allowed _ _ n leads in
-    let rest = before_end events (after_access m a) n moved (accessed_is m moved h a).midway both.1 end in
+    let rest = before_end events (after_access m a) n moved (accessed_is m moved h a).in_flight both.1 end in
     record { till = Touch a ∷ rest.till; now = rest.now; leads = one_more _ _ both.0 ∙ rest.leads; moving = rest.moving; given = rest.given; accesses = ap (λ xs. a ∷ xs) rest.accesses; over = rest.over }
 before_end (End ∷ events) m n moved h leads end =
     let both = allowed _ _ n leads in

@@ -34,15 +34,15 @@ after_both (e ∷ xs) ys m k h =
 -- after accesses the run is under way as before
 record Touches (m n : RunMachine) (moved : List Page) (accesses : List Access) : Type 0 where
   made : after m (map Touch accesses) ≡ Some n
-  midway : IsInFlight n moved
+  in_flight : IsInFlight n moved
   jobs : n.jobs ≡ m.jobs
 
 touch_all : (accesses : List Access) (m : RunMachine) (moved : List Page) → IsInFlight m moved → (n : RunMachine) × Touches m n moved accesses
-touch_all [] m moved h = (m, record { made = refl; midway = h; jobs = refl })
+touch_all [] m moved h = (m, record { made = refl; in_flight = h; jobs = refl })
 touch_all (a ∷ accesses) m moved h =
     let one = accessed_is m moved h a in
-    let rest = touch_all accesses (after_access m a) moved one.midway in
-    (rest.0, record { made = one_more (is_moving m.phase) (after (after_access m a) (map Touch accesses)) (ap is_moving h.moving) ∙ rest.1.made; midway = rest.1.midway; jobs = rest.1.jobs ∙ one.jobs })
+    let rest = touch_all accesses (after_access m a) moved one.in_flight in
+    (rest.0, record { made = one_more (is_moving m.phase) (after (after_access m a) (map Touch accesses)) (ap is_moving h.moving) ∙ rest.1.made; in_flight = rest.1.in_flight; jobs = rest.1.jobs ∙ one.jobs })
 
 -- ---- the jobs
 
@@ -133,10 +133,10 @@ unfolding AreGiven
 every_run_can_end m target wanted accesses rest sound alike =
     let k = begin_run m target wanted in
     let first = begun_is m target wanted rest sound alike in
-    let touched = touch_all accesses k (map (λ t. t.page) (each_request (state_of m) target wanted).taken) first.midway in
+    let touched = touch_all accesses k (map (λ t. t.page) (each_request (state_of m) target wanted).taken) first.in_flight in
     let n = touched.0 in
     let jobs : List Job = map (laid_for m.buf) (plan m target wanted).taken in
-    let last = copy_all jobs [] n 0 touched.1.midway.moving tt (laid_jobs m.buf (plan m target wanted).taken) refl in
+    let last = copy_all jobs [] n 0 touched.1.in_flight.moving tt (laid_jobs m.buf (plan m target wanted).taken) refl in
     let events = map Touch accesses ++ copying 0 jobs in
     let leads : after k events ≡ Some last.0 =
     after_both (map Touch accesses) (copying 0 jobs) k n touched.1.made

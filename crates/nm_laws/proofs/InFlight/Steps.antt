@@ -13,7 +13,7 @@ use Rattle.nm_laws.proofs.InFlight.Midway.{IsInFlight, frames_of_job}
 
 -- an access was made
 pub record Made (m n : RunMachine) (moved : List Page) (a : AccessResult) : Type 0 where
-  pub midway : IsInFlight n moved
+  pub in_flight : IsInFlight n moved
   pub state : state_of n ≡ a.state
   pub answers : n.answers ≡ m.answers ++ a.answer ∷ []
   pub jobs : n.jobs ≡ m.jobs
@@ -22,7 +22,7 @@ pub record Made (m n : RunMachine) (moved : List Page) (a : AccessResult) : Type
 
 -- a run has begun
 pub record Begun (m n : RunMachine) (p : Progress) : Type 0 where
-  pub midway : IsInFlight n (map (λ t. t.page) p.taken)
+  pub in_flight : IsInFlight n (map (λ t. t.page) p.taken)
   pub state : state_of n ≡ p.state
   pub sources_are : sources n.jobs ≡ frames_left p.taken
   pub ends : map frames_of_job n.jobs ≡ map (λ t. (t.from, t.to)) p.taken

@@ -33,8 +33,8 @@ abbrev pub page_class : State → ℕ → Bool → Page → Option ℕ → Class
 page_class s target all p o = class_of_look s.layout target all (look_at_page s p o)
 
 -- a state in the middle of a run
-abbrev pub midway : State → Map Page ℕ → List (List ℕ) → State
-midway s m f = record s { place = m; free = f }
+abbrev pub in_flight : State → Map Page ℕ → List (List ℕ) → State
+in_flight s m f = record s { place = m; free = f }
 
 -- only a page itself can be what its class moves
 OfPage : Page → Class → Type 0
@@ -61,13 +61,13 @@ on_target s target all p frame own =
 abbrev Stands : State → ℕ → Bool → Option ℕ → Option ℕ → Type 0
 Stands s target moved now before = MatchBool moved ((frame : ℕ) × (now ≡ Some frame) × (node_of s.layout frame ≡ target)) (now ≡ before)
 
--- midway, a page has moved to the target or is where it was, and only pages move whose class says so
+-- in_flight, a page has moved to the target or is where it was, and only pages move whose class says so
 record Midway (s : State) (target : ℕ) (all : Bool) (m : Map Page ℕ) (f : List (List ℕ)) (moved : List PageMove) : Type 0 where
   places : (q : Page) → Stands s target (has_moved moved q) (get page_cmp m q) (get page_cmp s.place q)
   classes : (q : Page) → has_moved moved q ≡ true → (from : ℕ) × (page_class s target all q (get page_cmp s.place q) ≡ Move q from)
   own : AllByRecursion (λ frame. node_of s.layout frame ≡ target) (slice_index_or f target [])
 
--- the class midway of a request that has this class at the start
+-- the class in_flight of a request that has this class at the start
 Becomes : ℕ → List PageMove → Class → Class → Type 0
 Becomes target moved (Status status) now = now ≡ Status status
 Becomes target moved (Move p from) now = MatchBool (has_moved moved p) (now ≡ Status (pos target)) (now ≡ Move p from)
@@ -95,7 +95,7 @@ page_becomes s target all m f moved i p =
     ] refl (i.places p)
 
 seen_becomes : (s : State) (target : ℕ) (all : Bool) (m : Map Page ℕ) (f : List (List ℕ)) (moved : List PageMove) → Midway s target all m f moved → (o : Option Page) (x : Option Sight)
-    → Becomes target moved (class_of_look s.layout target all (look_under s o x)) (class_of_look s.layout target all (look_under (midway s m f) o x))
+    → Becomes target moved (class_of_look s.layout target all (look_under s o x)) (class_of_look s.layout target all (look_under (in_flight s m f) o x))
 unfolding Becomes
 seen_becomes s target all m f moved i None x = refl
 seen_becomes s target all m f moved i (Some q) None = refl
@@ -103,12 +103,12 @@ seen_becomes s target all m f moved i (Some q) (Some ZeroPage) = refl
 seen_becomes s target all m f moved i (Some q) (Some (Sees p)) = page_becomes s target all m f moved i p
 
 class_becomes : (s : State) (target : ℕ) (all : Bool) (m : Map Page ℕ) (f : List (List ℕ)) (moved : List PageMove) → Midway s target all m f moved → (w : Wanted) → moves_all w ≡ all
-    → Becomes target moved (class_of s target w) (class_of (midway s m f) target w)
+    → Becomes target moved (class_of s target w) (class_of (in_flight s m f) target w)
 class_becomes s target all m f moved i (Spot pid v b) e =
-    subst (λ a. Becomes target moved (class_of s target (Spot pid v a)) (class_of (midway s m f) target (Spot pid v a))) (sym e)
+    subst (λ a. Becomes target moved (class_of s target (Spot pid v a)) (class_of (in_flight s m f) target (Spot pid v a))) (sym e)
     (seen_becomes s target all m f moved i (page_at s.areas pid v) (sight_at s pid v))
 class_becomes s target all m f moved i (Whole p) e =
-    subst (λ a. Midway s target a m f moved → Becomes target moved (class_of s target (Whole p)) (class_of (midway s m f) target (Whole p))) e
+    subst (λ a. Midway s target a m f moved → Becomes target moved (class_of s target (Whole p)) (class_of (in_flight s m f) target (Whole p))) e
     (λ j. page_becomes s target true m f moved j p) i
 
 -- a request that moves a page has that page's class
@@ -192,45 +192,45 @@ then_decide now classes moved target =
 abbrev Rest : State → ℕ → Bool → List Wanted → Type 0
 Rest s target all ws =
     (m : Map Page ℕ) (f : List (List ℕ)) (moved : List PageMove) → Midway s target all m f moved →
-    Agrees (midway s m f) target (each_request (midway s m f) target ws) (decide (map (status_or_move s target) ws) moved (slice_index_or f target []) target)
+    Agrees (in_flight s m f) target (each_request (in_flight s m f) target ws) (decide (map (status_or_move s target) ws) moved (slice_index_or f target []) target)
 
 module _ (s : State) (target : ℕ) (all : Bool) (ws : List Wanted) (rest : Rest s target all ws) (m : Map Page ℕ) (f : List (List ℕ)) (moved : List PageMove) (i : Midway s target all m f moved) where
   -- nothing moves
-  no_move : (status : ℤ) → Agrees (midway s m f) target
-      (then_each (record { state = midway s m f; status = status; taken = [] }) target ws)
+  no_move : (status : ℤ) → Agrees (in_flight s m f) target
+      (then_each (record { state = in_flight s m f; status = status; taken = [] }) target ws)
       (then_decide (record { status = status; taken = []; front = slice_index_or f target [] }) (map (status_or_move s target) ws) moved target)
-  no_move status = let r = subst (λ l. Agrees (midway s m f) target (each_request (midway s m f) target ws) (decide (map (status_or_move s target) ws) l (slice_index_or f target []) target)) (sym (append-nil moved)) (rest m f moved i) in record { statuses = ap (λ x. status ∷ x) r.statuses; taken = r.taken; state = r.state }
+  no_move status = let r = subst (λ l. Agrees (in_flight s m f) target (each_request (in_flight s m f) target ws) (decide (map (status_or_move s target) ws) l (slice_index_or f target []) target)) (sym (append-nil moved)) (rest m f moved i) in record { statuses = ap (λ x. status ∷ x) r.statuses; taken = r.taken; state = r.state }
 
   -- the page takes the front, or nothing is free
-  takes : (p : Page) (from : ℕ) → page_class s target all p (get page_cmp s.place p) ≡ Move p from → (front : List ℕ) → slice_index_or f target [] ≡ front → Agrees (midway s m f) target
-      (then_each (moved_page (midway s m f) target p from front) target ws)
+  takes : (p : Page) (from : ℕ) → page_class s target all p (get page_cmp s.place p) ≡ Move p from → (front : List ℕ) → slice_index_or f target [] ≡ front → Agrees (in_flight s m f) target
+      (then_each (moved_page (in_flight s m f) target p from front) target ws)
       (then_decide (take_front p from front target) (map (status_or_move s target) ws) moved target)
   takes p from class [] e =
-      subst (λ l. Agrees (midway s m f) target (then_each (record { state = midway s m f; status = code Enomem; taken = [] }) target ws) (then_decide (record { status = code Enomem; taken = []; front = l }) (map (status_or_move s target) ws) moved target)) e (no_move (code Enomem))
+      subst (λ l. Agrees (in_flight s m f) target (then_each (record { state = in_flight s m f; status = code Enomem; taken = [] }) target ws) (then_decide (record { status = code Enomem; taken = []; front = l }) (map (status_or_move s target) ws) moved target)) e (no_move (code Enomem))
   takes p from class (frame ∷ left) e =
       let t : PageMove = record { page = p; from = from; to = frame } in
-      let r = subst (λ l. Agrees (midway s (set page_cmp m p frame) (slice_set f target left)) target (each_request (midway s (set page_cmp m p frame) (slice_set f target left)) target ws) (decide (map (status_or_move s target) ws) (moved ++ t ∷ []) l target))
+      let r = subst (λ l. Agrees (in_flight s (set page_cmp m p frame) (slice_set f target left)) target (each_request (in_flight s (set page_cmp m p frame) (slice_set f target left)) target ws) (decide (map (status_or_move s target) ws) (moved ++ t ∷ []) l target))
       (list_now f target frame left e)
       (rest (set page_cmp m p frame) (slice_set f target left) (moved ++ t ∷ [])
       (midway_same s target all (set page_cmp m p frame) (slice_set f target left) (t ∷ moved) (moved ++ t ∷ []) (moved_at_end moved t) (after_move s target all m f moved i p from frame left class e))) in
       record {
         statuses = ap (λ x. pos target ∷ x) r.statuses;
         taken = ap (λ x. t ∷ x) r.taken;
-        state = r.state ∙ ap (λ l. with_moves (midway s (set page_cmp m p frame) (slice_set f target (drop 1 l))) target (decide (map (status_or_move s target) ws) (moved ++ t ∷ []) left target).taken) (sym e);
+        state = r.state ∙ ap (λ l. with_moves (in_flight s (set page_cmp m p frame) (slice_set f target (drop 1 l))) target (decide (map (status_or_move s target) ws) (moved ++ t ∷ []) left target).taken) (sym e);
       }
 
-  step : (c now : Class) → Becomes target moved c now → IsItsClass s target all c → Agrees (midway s m f) target
-      (then_each (decision (midway s m f) target now) target ws)
+  step : (c now : Class) → Becomes target moved c now → IsItsClass s target all c → Agrees (in_flight s m f) target
+      (then_each (decision (in_flight s m f) target now) target ws)
       (then_decide (choose c moved (slice_index_or f target []) target) (map (status_or_move s target) ws) moved target)
   unfolding Becomes IsItsClass
   step (Status status) now becomes class =
-      subst (λ c. Agrees (midway s m f) target (then_each (decision (midway s m f) target c) target ws) (then_decide (choose (Status status) moved (slice_index_or f target []) target) (map (status_or_move s target) ws) moved target)) (sym becomes) (no_move status)
+      subst (λ c. Agrees (in_flight s m f) target (then_each (decision (in_flight s m f) target c) target ws) (then_decide (choose (Status status) moved (slice_index_or f target []) target) (map (status_or_move s target) ws) moved target)) (sym becomes) (no_move status)
   step (Move p from) now becomes class =
-      elim (has_moved moved p) as (λ b. MatchBool b (now ≡ Status (pos target)) (now ≡ Move p from) → Agrees (midway s m f) target
-      (then_each (decision (midway s m f) target now) target ws)
+      elim (has_moved moved p) as (λ b. MatchBool b (now ≡ Status (pos target)) (now ≡ Move p from) → Agrees (in_flight s m f) target
+      (then_each (decision (in_flight s m f) target now) target ws)
       (then_decide (if b then record { status = pos target; taken = []; front = slice_index_or f target [] } else take_front p from (slice_index_or f target []) target) (map (status_or_move s target) ws) moved target)) [
-        | true ↦ λ is. subst (λ c. Agrees (midway s m f) target (then_each (decision (midway s m f) target c) target ws) (then_decide (record { status = pos target; taken = []; front = slice_index_or f target [] }) (map (status_or_move s target) ws) moved target)) (sym is) (no_move (pos target))
-        | false ↦ λ is. subst (λ c. Agrees (midway s m f) target (then_each (decision (midway s m f) target c) target ws) (then_decide (take_front p from (slice_index_or f target []) target) (map (status_or_move s target) ws) moved target)) (sym is) (takes p from class (slice_index_or f target []) refl)
+        | true ↦ λ is. subst (λ c. Agrees (in_flight s m f) target (then_each (decision (in_flight s m f) target c) target ws) (then_decide (record { status = pos target; taken = []; front = slice_index_or f target [] }) (map (status_or_move s target) ws) moved target)) (sym is) (no_move (pos target))
+        | false ↦ λ is. subst (λ c. Agrees (in_flight s m f) target (then_each (decision (in_flight s m f) target c) target ws) (then_decide (take_front p from (slice_index_or f target []) target) (map (status_or_move s target) ws) moved target)) (sym is) (takes p from class (slice_index_or f target []) refl)
       ] becomes
 
 no_true : false ≡ true → ⊥
@@ -239,9 +239,9 @@ no_true e = cc
 agree : (s : State) (target : ℕ) (all : Bool) (ws : List Wanted) → IsStrictlySortedBy nat_cmp (keys_of s.processes) → AllByRecursion (λ w. moves_all w ≡ all) ws → Rest s target all ws
 agree s target all [] order h = λ m f moved i. record { statuses = refl; taken = refl; state = refl }
 agree s target all (w ∷ ws) order h = λ m f moved i.
-    let becomes = subst (λ c. Becomes target moved c (status_or_move (midway s m f) target w)) (looks_suffice s target w order)
-    (subst (λ c. Becomes target moved (class_of s target w) c) (looks_suffice (midway s m f) target w order) (class_becomes s target all m f moved i w h.0)) in
-    step s target all ws (agree s target all ws order h.1) m f moved i (status_or_move s target w) (status_or_move (midway s m f) target w) becomes
+    let becomes = subst (λ c. Becomes target moved c (status_or_move (in_flight s m f) target w)) (looks_suffice s target w order)
+    (subst (λ c. Becomes target moved (class_of s target w) c) (looks_suffice (in_flight s m f) target w order) (class_becomes s target all m f moved i w h.0)) in
+    step s target all ws (agree s target all ws order h.1) m f moved i (status_or_move s target w) (status_or_move (in_flight s m f) target w) becomes
     (subst (IsItsClass s target all) (looks_suffice s target w order) (its_class s target all w h.0))
 
 pub plan_agrees : (s : State) (target : ℕ) (ws : List Wanted) → IsStrictlySortedBy nat_cmp (keys_of s.processes) → OwnsItsFree s.layout s.free target → HasOneAll ws

@@ -67,15 +67,15 @@ before_copy s moved a = if is_held moved (site_of_access s a) then held_before_c
 
 pub record AllBeforeCopy : Type 0 where
   pub state : State
-  pub dues : List PendingAccess
+  pub all_due : List PendingAccess
 
 -- one touch after another
 abbrev pub all_before_copy : State → List Page → List Access → AllBeforeCopy
-all_before_copy s moved [] = record { state = s; dues = [] }
+all_before_copy s moved [] = record { state = s; all_due = [] }
 all_before_copy s moved (a ∷ accesses) =
     let now = before_copy s moved a in
     let rest = all_before_copy now.state moved accesses in
-    record { state = rest.state; dues = now.due ∷ rest.dues }
+    record { state = rest.state; all_due = now.due ∷ rest.all_due }
 
 -- changes the value of one page
 abbrev pub at_page : {V : Type 0} → Page → (V → V) → Page → V → V
@@ -101,8 +101,8 @@ answer_after_copy s (ToWrite page at new) = Done
 -- one after another
 abbrev pub all_after_copy : State → List PendingAccess → AccessResults
 all_after_copy s [] = record { state = s; answers = [] }
-all_after_copy s (d ∷ dues) =
-    let rest = all_after_copy (after_copy s d) dues in
+all_after_copy s (d ∷ all_due) =
+    let rest = all_after_copy (after_copy s d) all_due in
     record { state = rest.state; answers = answer_after_copy s d ∷ rest.answers }
 
 -- a page is in the frame that it takes

@@ -24,5 +24,5 @@ while_one_moves =
 -- the last page has the frame after the one that was taken; no byte has been read or written yet
 abbrev pub PagesAreReadyFirst : Type 0
 PagesAreReadyFirst =
-    (while_one_moves.dues ≡ Known Held ∷ ToRead page_1 0 1 ∷ ToWrite page_4 0 (0x65 ∷ []) ∷ [])
+    (while_one_moves.all_due ≡ Known Held ∷ ToRead page_1 0 1 ∷ ToWrite page_4 0 (0x65 ∷ []) ∷ [])
     × (while_one_moves.state.free ≡ [] ∷ (6 ∷ 7 ∷ []) ∷ [])

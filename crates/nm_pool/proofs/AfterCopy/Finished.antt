@@ -10,19 +10,19 @@ use Rattle.nm_pool.proofs.Copies.Copied.{home_set}
 
 -- ---- as many frames have bytes then, and those that were home are
 
-pub done_as_many : (place : Map Page ℕ) (dues : List PendingAccess) (store : Store) → length (all_stored_after_copy place store dues).store ≡ length store
+pub done_as_many : (place : Map Page ℕ) (all_due : List PendingAccess) (store : Store) → length (all_stored_after_copy place store all_due).store ≡ length store
 done_as_many place [] store = refl
-done_as_many place (Known answer ∷ dues) store = done_as_many place dues store
-done_as_many place (ToRead page at len ∷ dues) store = done_as_many place dues store
-done_as_many place (ToWrite page at new ∷ dues) store =
+done_as_many place (Known answer ∷ all_due) store = done_as_many place all_due store
+done_as_many place (ToRead page at len ∷ all_due) store = done_as_many place all_due store
+done_as_many place (ToWrite page at new ∷ all_due) store =
     let f = frame_at place page in
-    done_as_many place dues (slice_set store f (Some (overwrite (bytes_of store f) at new))) ∙ length-set store f (Some (overwrite (bytes_of store f) at new))
+    done_as_many place all_due (slice_set store f (Some (overwrite (bytes_of store f) at new))) ∙ length-set store f (Some (overwrite (bytes_of store f) at new))
 
-pub done_home : (place : Map Page ℕ) (dues : List PendingAccess) (store : Store) (q : ℕ) → IsHome store q → IsHome (all_stored_after_copy place store dues).store q
+pub done_home : (place : Map Page ℕ) (all_due : List PendingAccess) (store : Store) (q : ℕ) → IsHome store q → IsHome (all_stored_after_copy place store all_due).store q
 done_home place [] store q home = home
-done_home place (Known answer ∷ dues) store q home = done_home place dues store q home
-done_home place (ToRead page at len ∷ dues) store q home = done_home place dues store q home
-done_home place (ToWrite page at new ∷ dues) store q home =
+done_home place (Known answer ∷ all_due) store q home = done_home place all_due store q home
+done_home place (ToRead page at len ∷ all_due) store q home = done_home place all_due store q home
+done_home place (ToWrite page at new ∷ all_due) store q home =
     let f = frame_at place page in
     let now = overwrite (bytes_of store f) at new in
-    done_home place dues (slice_set store f (Some now)) q (home_set store f q now home)
+    done_home place all_due (slice_set store f (Some now)) q (home_set store f q now home)

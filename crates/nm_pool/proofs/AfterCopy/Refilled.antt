@@ -53,9 +53,9 @@ can_then place store (Known answer) e first can = can
 can_then place store (ToRead page i len) e first can = can
 can_then place store (ToWrite page i new) e first can = can_beside place store (frame_at place page) i new e first.inside can
 
-pub all_can_then : (place : Map Page ℕ) (store : Store) (d : PendingAccess) (dues : List PendingAccess) → CanDo place store d → AllByRecursion (CanDo place store) dues → AllByRecursion (CanDo place (store_after_copy place store d)) dues
+pub all_can_then : (place : Map Page ℕ) (store : Store) (d : PendingAccess) (all_due : List PendingAccess) → CanDo place store d → AllByRecursion (CanDo place store) all_due → AllByRecursion (CanDo place (store_after_copy place store d)) all_due
 all_can_then place store d [] first can = tt
-all_can_then place store d (e ∷ dues) first can = (can_then place store d e first can.0, all_can_then place store d dues first can.1)
+all_can_then place store d (e ∷ all_due) first can = (can_then place store d e first can.0, all_can_then place store d all_due first can.1)
 
 abbrev told_first : AccessAnswer → StoreAfterCopy → StoreAfterCopy
 told_first a rest = record { store = rest.store; answers = a ∷ rest.answers }
@@ -129,20 +129,20 @@ module _ {A : Type 0} where
       let b = beside jobs store doable.frame [] can doable.home in
       record { frame = doable.frame; placed = doable.placed; home = b.home; populated = ap (λ o. length (unwrap_or o [])) b.same ∙ doable.populated; inside = doable.inside }
 
-  pub all_refilled : (place : Map Page ℕ) (jobs : List (CopyJob A)) (store : Store) (dues : List PendingAccess) → CanRefill store jobs → AllByRecursion (CanDo place store) dues → AllByRecursion (CanDo place (with_jobs_back store jobs)) dues
+  pub all_refilled : (place : Map Page ℕ) (jobs : List (CopyJob A)) (store : Store) (all_due : List PendingAccess) → CanRefill store jobs → AllByRecursion (CanDo place store) all_due → AllByRecursion (CanDo place (with_jobs_back store jobs)) all_due
   all_refilled place jobs store [] can doable = tt
-  all_refilled place jobs store (d ∷ dues) can doable = (can_refilled place jobs store d can doable.0, all_refilled place jobs store dues can doable.1)
+  all_refilled place jobs store (d ∷ all_due) can doable = (can_refilled place jobs store d can doable.0, all_refilled place jobs store all_due can doable.1)
 
   abbrev back : List (CopyJob A) → StoreAfterCopy → StoreAfterCopy
   back jobs x = record x { store = with_jobs_back (x.store) jobs }
 
-  pub all_after : (dues : List PendingAccess) (place : Map Page ℕ) (jobs : List (CopyJob A)) (store : Store) → CanRefill store jobs → AllByRecursion (CanDo place store) dues
-      → (back jobs (all_stored_after_copy place store dues) ≡ all_stored_after_copy place (with_jobs_back store jobs) dues) × CanRefill (all_stored_after_copy place store dues).store jobs
+  pub all_after : (all_due : List PendingAccess) (place : Map Page ℕ) (jobs : List (CopyJob A)) (store : Store) → CanRefill store jobs → AllByRecursion (CanDo place store) all_due
+      → (back jobs (all_stored_after_copy place store all_due) ≡ all_stored_after_copy place (with_jobs_back store jobs) all_due) × CanRefill (all_stored_after_copy place store all_due).store jobs
   all_after [] place jobs store can doable = (refl, can)
-  all_after (d ∷ dues) place jobs store can doable =
+  all_after (d ∷ all_due) place jobs store can doable =
       let now = after place jobs store d can doable.0 in
-      let rest = all_after dues place jobs (store_after_copy place store d) now.can (all_can_then place store d dues doable.0 doable.1) in (
-        ap (told_first (answer_from_store place store d)) (rest.0 ∙ ap (λ (x : Store). all_stored_after_copy place x dues) now.later)
-            ∙ ap (λ a. told_first a (all_stored_after_copy place (store_after_copy place (with_jobs_back store jobs) d) dues)) now.told,
+      let rest = all_after all_due place jobs (store_after_copy place store d) now.can (all_can_then place store d all_due doable.0 doable.1) in (
+        ap (told_first (answer_from_store place store d)) (rest.0 ∙ ap (λ (x : Store). all_stored_after_copy place x all_due) now.later)
+            ∙ ap (λ a. told_first a (all_stored_after_copy place (store_after_copy place (with_jobs_back store jobs) d) all_due)) now.told,
         rest.1,
       )

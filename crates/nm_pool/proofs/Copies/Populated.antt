@@ -90,25 +90,25 @@ copies_populated [] s q both whole = whole
 copies_populated (t ∷ taken) s q both whole =
     copies_populated taken (with_copy s t) q (froms_then taken s t both.0.0 both.1) (set_populated s t.to q (bytes_of s t.from) both.0.0 whole)
 
-pub done_populated : (place : Map Page ℕ) (dues : List PendingAccess) (s : Store) (q : ℕ) → AllByRecursion IsInside dues → IsPopulated s q → IsPopulated (all_stored_after_copy place s dues).store q
+pub done_populated : (place : Map Page ℕ) (all_due : List PendingAccess) (s : Store) (q : ℕ) → AllByRecursion IsInside all_due → IsPopulated s q → IsPopulated (all_stored_after_copy place s all_due).store q
 done_populated place [] s q inside whole = whole
-done_populated place (Known answer ∷ dues) s q inside whole = done_populated place dues s q inside.1 whole
-done_populated place (ToRead page at len ∷ dues) s q inside whole = done_populated place dues s q inside.1 whole
-done_populated place (ToWrite page at new ∷ dues) s q inside whole =
+done_populated place (Known answer ∷ all_due) s q inside whole = done_populated place all_due s q inside.1 whole
+done_populated place (ToRead page at len ∷ all_due) s q inside whole = done_populated place all_due s q inside.1 whole
+done_populated place (ToWrite page at new ∷ all_due) s q inside whole =
     let f = frame_at place page in
-    done_populated place dues (slice_set s f (Some (overwrite (bytes_of s f) at new))) q inside.1 (written_populated s f q at new inside.0 whole)
+    done_populated place all_due (slice_set s f (Some (overwrite (bytes_of s f) at new))) q inside.1 (written_populated s f q at new inside.0 whole)
 
-pub can_inside : (place : Map Page ℕ) (s : Store) (dues : List PendingAccess) → AllByRecursion (CanDo place s) dues → AllByRecursion IsInside dues
+pub can_inside : (place : Map Page ℕ) (s : Store) (all_due : List PendingAccess) → AllByRecursion (CanDo place s) all_due → AllByRecursion IsInside all_due
 can_inside place s [] can = tt
-can_inside place s (Known answer ∷ dues) can = (tt, can_inside place s dues can.1)
-can_inside place s (ToRead page at len ∷ dues) can = (can.0.inside, can_inside place s dues can.1)
-can_inside place s (ToWrite page at new ∷ dues) can = (can.0.inside, can_inside place s dues can.1)
+can_inside place s (Known answer ∷ all_due) can = (tt, can_inside place s all_due can.1)
+can_inside place s (ToRead page at len ∷ all_due) can = (can.0.inside, can_inside place s all_due can.1)
+can_inside place s (ToWrite page at new ∷ all_due) can = (can.0.inside, can_inside place s all_due can.1)
 
 -- frames that have their bytes in memory have them once pages are copied and accesses made
-pub after_populated : (fs : List ℕ) (place : Map Page ℕ) (dues : List PendingAccess) (taken : List PageMove) (out s : Store) → AllByRecursion (HasBoth s) taken → AllByRecursion (CanDo place out) dues → AllByRecursion (IsPopulated s) fs
-    → AllByRecursion (IsPopulated (all_stored_after_copy place (with_copies s taken) dues).store) fs
-after_populated [] place dues taken out s both can all = tt
-after_populated (f ∷ fs) place dues taken out s both can all = (
-  done_populated place dues (with_copies s taken) f (can_inside place out dues can) (copies_populated taken s f both all.0),
-  after_populated fs place dues taken out s both can all.1,
+pub after_populated : (fs : List ℕ) (place : Map Page ℕ) (all_due : List PendingAccess) (taken : List PageMove) (out s : Store) → AllByRecursion (HasBoth s) taken → AllByRecursion (CanDo place out) all_due → AllByRecursion (IsPopulated s) fs
+    → AllByRecursion (IsPopulated (all_stored_after_copy place (with_copies s taken) all_due).store) fs
+after_populated [] place all_due taken out s both can all = tt
+after_populated (f ∷ fs) place all_due taken out s both can all = (
+  done_populated place all_due (with_copies s taken) f (can_inside place out all_due can) (copies_populated taken s f both all.0),
+  after_populated fs place all_due taken out s both can all.1,
 )

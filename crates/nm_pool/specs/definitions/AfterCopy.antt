@@ -33,8 +33,8 @@ pub record StoreAfterCopy : Type 0 where
 -- one after another
 abbrev pub all_stored_after_copy : Map Page ℕ → Store → List PendingAccess → StoreAfterCopy
 all_stored_after_copy place store [] = record { store = store; answers = [] }
-all_stored_after_copy place store (d ∷ dues) =
-    let rest = all_stored_after_copy place (store_after_copy place store d) dues in
+all_stored_after_copy place store (d ∷ all_due) =
+    let rest = all_stored_after_copy place (store_after_copy place store d) all_due in
     record { store = rest.store; answers = answer_from_store place store d ∷ rest.answers }
 
 -- the page is in this frame, whose bytes are home and in memory, and `len` bytes from index `at` on are inside it

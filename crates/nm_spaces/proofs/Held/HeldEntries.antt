@@ -27,7 +27,7 @@ use Rattle.nm_laws.proofs.InFlight.Values.{values_same, entries_show, changed_at
 use Rattle.nm_rmap.specs.Mappers.{Mappers, mappers_of, carry}
 use Rattle.nm_spaces.specs.views.AddressSpaces.{AddressSpacesView, spaces_view, with_moved}
 use Rattle.nm_spaces.specs.views.Held.{is_taken}
-use Rattle.nm_laws.specs.Midway.{entry_in_flight, hold_entry}
+use Rattle.nm_laws.specs.InFlight.{entry_in_flight, hold_entry}
 use Rattle.nm_spaces.specs.definitions.Moves.{CanRemap, all_moved}
 use Rattle.nm_spaces.specs.views.ProcessTable.{names, IsThere, with_other_entry, put_entry, replaced_in, all_replaced, with_frame_at_all}
 use Rattle.nm_spaces.specs.definitions.Tied.{IsTied, AreInOrder, has_spot}

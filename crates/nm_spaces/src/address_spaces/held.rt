@@ -19,7 +19,7 @@ use crate::address_spaces::{AddressSpaces, SpaceParts};
 use crate::process_table::ProcessTable;
 use nm_rmap::ReverseMap;
 use nm_tables::Entry;
-use nm_types::{FrameId, Page, Pid, PageMove, Vpn};
+use nm_types::{FrameId, Page, PageMove, Pid, Vpn};
 use std::alloc::Allocator;
 use std::collections::BTreeSet;
 use std::marker::Model;
@@ -116,7 +116,11 @@ impl<A: Allocator + Copy> HeldSpaces<A> {
 }
 
 /// Makes each held entry name the frame that its page was on its way to, which is one that these moves take.
-fn arrive<A: Allocator + Copy>(tasks: &mut ProcessTable<A>, rmap: &ReverseMap<A>, moves: &[PageMove])
+fn arrive<A: Allocator + Copy>(
+    tasks: &mut ProcessTable<A>,
+    rmap: &ReverseMap<A>,
+    moves: &[PageMove],
+)
     requires order { AreInOrder (with_entries arrival_of tasks.old) }
     requires mappers { (f pid v : ℕ) →
         has_spot (mappers_of rmap.now f) (pid, v)

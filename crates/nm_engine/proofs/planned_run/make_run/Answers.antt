@@ -19,7 +19,7 @@ use Rattle.nm_model.specs.definitions.Sound.{IsSound}
 use Rattle.nm_model.specs.definitions.Touch.{Access, AccessResults, all_in_flight}
 use Rattle.nm_pool.specs.views.Accesses.{answer_shown, pending_shown}
 use Rattle.nm_engine.specs.views.Flights.{EndsAs, Flight, HoldsMovingPages, IsReadyFor, pair_of, state_in_flight}
-use Rattle.nm_engine.specs.views.MidRun.{RunState}
+use Rattle.nm_engine.specs.views.RunState.{RunState}
 use Rattle.nm_engine.specs.views.Runs.{accesses_shown, asked_by}
 use Rattle.nm_engine.proofs.Early.{early_state, early_dues, early_left, early_room}
 use Rattle.nm_engine.proofs.Runs.ByEvents.{goes_by_events}
@@ -70,11 +70,11 @@ begin-run-requires-clause-ready g c κs within =
     let accesses : List Access = accesses_shown {A = g.row.A.Denot} c.args.planned.accesses.now in
     let at = c.of-run.ensures.state in
     let ready = planned_phases r t moves accesses c.args.machine ws c.args.planned.plan at c.requires.plan c.moves-moves.ensures c.in-Ok.ensures.sound c.requires.target in
-    (t, ready_for c.prepare.new.self r c.args.machine t moves accesses at c.requires.target (early_left c.of-run.result t moves accesses c.prepare.new.self c.in-Ok.dues c.in-Ok.ensures.prepares) (early_state c.of-run.result t moves accesses c.prepare.new.self c.in-Ok.dues c.in-Ok.ensures.prepares) ready.1.back ready.1.can)
+    (t, ready_for c.prepare.new.self r c.args.machine t moves accesses at c.requires.target (early_left c.of-run.result t moves accesses c.prepare.new.self c.in-Ok.all_due c.in-Ok.ensures.prepares) (early_state c.of-run.result t moves accesses c.prepare.new.self c.in-Ok.all_due c.in-Ok.ensures.prepares) ready.1.back ready.1.can)
 
 pub begin-run-requires-clause-few : goal.begin-run-requires-clause-few
 begin-run-requires-clause-few g c κs within =
-    early_room c.of-run.result c.args.planned.requests.now.target c.moves-moves.result.now (accesses_shown {A = g.row.A.Denot} c.args.planned.accesses.now) c.prepare.new.self c.in-Ok.dues c.in-Ok.ensures.prepares
+    early_room c.of-run.result c.args.planned.requests.now.target c.moves-moves.result.now (accesses_shown {A = g.row.A.Denot} c.args.planned.accesses.now) c.prepare.new.self c.in-Ok.all_due c.in-Ok.ensures.prepares
 
 pub copy_beside-run-requires-clause-can : goal.copy_beside-run-requires-clause-can
 copy_beside-run-requires-clause-can g c κs within =
@@ -87,9 +87,9 @@ copy_beside-run-requires-clause-can g c κs within =
     let many : length accesses ≡ length c.args.planned.accesses.now = length-map c.args.planned.accesses.now _ in
     record {
       can =
-          all_by (map pending_shown c.in-Ok.dues.items) c.begin-run.ensures.pending
-          (subst (λ (ds : List PendingAccess). AllByRecursion (IsPending (pages_of moves) c.prepare.new.self.state) ds) (sym (early_dues c.of-run.result t moves accesses c.prepare.new.self c.in-Ok.dues c.in-Ok.ensures.prepares))
-          (subst (λ (x : State). AllByRecursion (IsPending (pages_of moves) x) (touched_all r t moves accesses).dues) (sym (early_state c.of-run.result t moves accesses c.prepare.new.self c.in-Ok.dues c.in-Ok.ensures.prepares)) ready.1.due));
+          all_by (map pending_shown c.in-Ok.all_due.items) c.begin-run.ensures.pending
+          (subst (λ (ds : List PendingAccess). AllByRecursion (IsPending (pages_of moves) c.prepare.new.self.state) ds) (sym (early_dues c.of-run.result t moves accesses c.prepare.new.self c.in-Ok.all_due c.in-Ok.ensures.prepares))
+          (subst (λ (x : State). AllByRecursion (IsPending (pages_of moves) x) (touched_all r t moves accesses).all_due) (sym (early_state c.of-run.result t moves accesses c.prepare.new.self c.in-Ok.all_due c.in-Ok.ensures.prepares)) ready.1.due));
       room = c.in-Ok.ensures.prepares.touches.room;
       unanswered = c.requires.empty;
       space = omega (arith, c.in-Ok.ensures.prepares.touches.len, many, c.requires.room);
@@ -114,7 +114,7 @@ returns-in-Ok-clause-failed g c = c.finish-machine.ensures.failed ∙ ap failure
 
 -- what was left to do for accesses, done where the pages have moved, is what accesses in flight do
 as_in_flight : (g : Over) (c : goal.After-into_statuses g)
-    → all_after_copy (state_in_flight c.begin-run.result.0 c.begin-run.result.1.items) (map pending_shown c.in-Ok.dues.items)
+    → all_after_copy (state_in_flight c.begin-run.result.0 c.begin-run.result.1.items) (map pending_shown c.in-Ok.all_due.items)
     ≡ all_in_flight (with_moves c.of-run.result.state c.args.planned.requests.now.target c.moves-moves.result.now) (pages_of c.moves-moves.result.now) (accesses_shown {A = g.row.A.Denot} c.args.planned.accesses.now)
 as_in_flight g c =
     let r = c.of-run.result.state in
@@ -123,12 +123,12 @@ as_in_flight g c =
     let moves : List PageMove = c.moves-moves.result.now in
     let accesses : List Access = accesses_shown {A = g.row.A.Denot} c.args.planned.accesses.now in
     let at = c.of-run.ensures.state in
-    let touched = early_state c.of-run.result t moves accesses c.prepare.new.self c.in-Ok.dues c.in-Ok.ensures.prepares in
-    let told = early_dues c.of-run.result t moves accesses c.prepare.new.self c.in-Ok.dues c.in-Ok.ensures.prepares in
-    let left = early_left c.of-run.result t moves accesses c.prepare.new.self c.in-Ok.dues c.in-Ok.ensures.prepares in
+    let touched = early_state c.of-run.result t moves accesses c.prepare.new.self c.in-Ok.all_due c.in-Ok.ensures.prepares in
+    let told = early_dues c.of-run.result t moves accesses c.prepare.new.self c.in-Ok.all_due c.in-Ok.ensures.prepares in
+    let left = early_left c.of-run.result t moves accesses c.prepare.new.self c.in-Ok.all_due c.in-Ok.ensures.prepares in
     let ready = (planned_phases r t moves accesses c.args.machine ws c.args.planned.plan at c.requires.plan c.moves-moves.ensures c.in-Ok.ensures.sound c.requires.target).1 in
     let begun = c.begin-run.ensures.state t (ready_for c.prepare.new.self r c.args.machine t moves accesses at c.requires.target left touched ready.back ready.can) in
-    ap (λ (x : State). all_after_copy x (map pending_shown c.in-Ok.dues.items)) begun
+    ap (λ (x : State). all_after_copy x (map pending_shown c.in-Ok.all_due.items)) begun
     ∙ (λ i. all_after_copy (with_moves (with_fronts (touched i) t (frames_taken moves)) t moves) (told i)) ∙ sym ready.flight
 
 pub returns-in-Ok-clause-run : goal.returns-in-Ok-clause-run
@@ -141,12 +141,12 @@ returns-in-Ok-clause-run g c =
     let at = c.of-run.ensures.state in
     let plan : IsPlanOf r t ws c.args.planned.plan = subst (λ (s : State). IsPlanOf s t ws c.args.planned.plan) (sym at) c.requires.plan in
     let during = all_in_flight (with_moves r t moves) (pages_of moves) accesses in
-    let flown = c.copy_beside-run.result.0 in
-    let now = state_in_flight flown c.copy_beside-run.result.1.items in
+    let landed = c.copy_beside-run.result.0 in
+    let now = state_in_flight landed c.copy_beside-run.result.1.items in
     let state =
     c.finish-machine.ensures.state
-    ∙ ap (λ n. with_counts (with_all_free now (frames_left flown.moves)) n (failures c.statuses.result.now)) (sym (length-map flown.moves (λ (t : PageMove). t.from)))
-    ∙ run_state r t ws c.args.planned.plan moves accesses during plan c.moves-moves.ensures refl now (frames_left flown.moves) c.statuses.result.now
+    ∙ ap (λ n. with_counts (with_all_free now (frames_left landed.moves)) n (failures c.statuses.result.now)) (sym (length-map landed.moves (λ (t : PageMove). t.from)))
+    ∙ run_state r t ws c.args.planned.plan moves accesses during plan c.moves-moves.ensures refl now (frames_left landed.moves) c.statuses.result.now
     (c.copy_beside-run.ensures.state ∙ ap (λ (x : AccessResults). x.state) (as_in_flight g c))
     (ap (λ (x : Flight). frames_left x.moves) c.copy_beside-run.ensures.run ∙ ap frames_left c.begin-run.ensures.moves) c.statuses.ensures
     ∙ ap (λ (s : State). (run s t ws accesses).state) at in

@@ -10,7 +10,7 @@ use Rattle.nm_model.specs.definitions.Effect.{drop_range}
 use Rattle.nm_model.specs.definitions.Sound.{IsSoundInFlight, IsSound, IsWhole}
 use Rattle.nm_spaces.specs.views.AddressSpaces.{AddressSpacesView}
 use Rattle.nm_engine.specs.views.Shown.{shown_by}
-use Rattle.nm_engine.specs.views.MidRun.{IsSoundMachine}
+use Rattle.nm_engine.specs.views.RunState.{IsSoundMachine}
 use Rattle.nm_laws.proofs.Soundness.Dropped.{sees_none, exit_sound}
 use Rattle.nm_engine.proofs.Between.{sound_between}
 use Rattle.nm_engine.proofs.MidRun.LostFrames.{sees_nothing}

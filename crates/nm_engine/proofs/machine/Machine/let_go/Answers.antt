@@ -8,7 +8,7 @@ use Rattle.nm_areas.specs.Splits.{HasSplit}
 use Rattle.nm_areas.proofs.Counted.{err_always}
 use Rattle.nm_spaces.specs.views.AddressSpaces.{AddressSpacesView}
 use Rattle.nm_engine.specs.views.Shown.{shown_by}
-use Rattle.nm_engine.specs.views.MidRun.{IsSoundMachine}
+use Rattle.nm_engine.specs.views.RunState.{IsSoundMachine}
 use Rattle.nm_engine.proofs.MidRun.LostFrames.{frames_of, can_go, gone_shows, gone_kept}
 use Rattle.nm_engine.proofs.machine.Machine.let_go.Goals as goal
 

@@ -7,7 +7,7 @@ use Rattle.nm_model.specs.definitions.Effect.{set_range_policy}
 use Rattle.nm_spaces.specs.views.AddressSpaces.{AddressSpacesView, mapped_of, with_mapped}
 use Rattle.nm_pool.specs.views.Frames.{FramesView}
 use Rattle.nm_engine.specs.views.Shown.{shown_by}
-use Rattle.nm_engine.specs.views.MidRun.{IsSoundMachine}
+use Rattle.nm_engine.specs.views.RunState.{IsSoundMachine}
 use Rattle.nm_engine.proofs.Between.{on_either}
 use Rattle.nm_engine.proofs.MidRun.AreaChanges.{kept_policed}
 use Rattle.nm_engine.proofs.machine.Machine.set_range_policy.Goals as goal

@@ -10,7 +10,7 @@ use Rattle.nm_types.specs.State.{State}
 use Rattle.nm_model.specs.definitions.Effect.{info_of, spawn, spawn_refusal, new_process}
 use Rattle.nm_spaces.specs.views.AddressSpaces.{AddressSpacesView, table_of}
 use Rattle.nm_engine.specs.views.Shown.{paged_frames, shown_by}
-use Rattle.nm_engine.specs.views.MidRun.{IsSoundMachine}
+use Rattle.nm_engine.specs.views.RunState.{IsSoundMachine}
 use Rattle.nm_engine.proofs.Between.{on_either}
 use Rattle.nm_engine.proofs.MidRun.AreaCalls.{kept_spawned, spawn_fine, spawn_full}
 use Rattle.nm_engine.proofs.Does.HandedOn.{may_ask, nothing_made}

@@ -5,7 +5,7 @@ use Rattle.nm_model.specs.definitions.Frames.{bytes_of, overwrite}
 use Rattle.nm_types.specs.State.{State}
 use Rattle.nm_pool.specs.views.Frames.{FramesView}
 use Rattle.nm_model.specs.definitions.Touch.{AccessResult, touch, touch_site, write, write_after}
-use Rattle.nm_engine.specs.views.MidRun.{IsSoundMachine}
+use Rattle.nm_engine.specs.views.RunState.{IsSoundMachine}
 use Rattle.nm_engine.specs.views.Shown.{state_of_parts}
 use Rattle.nm_model.specs.definitions.Seen.{frame_seen}
 use Rattle.nm_engine.proofs.Does.Touches.{touch_is, written_is, written_kept}

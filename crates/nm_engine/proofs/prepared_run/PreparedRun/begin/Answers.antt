@@ -7,7 +7,7 @@ use Rattle.nm_types.specs.State.{State}
 use Rattle.nm_frames.specs.Job.{job_after_copy}
 use Rattle.nm_pool.specs.views.Populated.{IsPopulated}
 use Rattle.nm_laws.specs.Laws.{with_moves}
-use Rattle.nm_laws.specs.Midway.{entry_in_flight}
+use Rattle.nm_laws.specs.InFlight.{entry_in_flight}
 use Rattle.nm_model.specs.definitions.BeforeCopy.{with_fronts, frames_taken}
 use Rattle.nm_model.specs.definitions.Frames.{Store}
 use Rattle.nm_model.specs.definitions.Run.{frames_left}
@@ -23,7 +23,7 @@ use Rattle.nm_pool.specs.views.Frames.{FramesView}
 use Rattle.nm_pool.proofs.Copies.Copied.{tickets_from}
 use Rattle.nm_pool.proofs.Copies.Populated.{after_populated}
 use Rattle.nm_engine.specs.views.Flights.{pair_of}
-use Rattle.nm_engine.specs.views.MidRun.{RunState, IsSoundMachine}
+use Rattle.nm_engine.specs.views.RunState.{RunState, IsSoundMachine}
 use Rattle.nm_engine.specs.views.Shown.{shown_by}
 use Rattle.nm_engine.specs.views.Spaces.{spaces_of}
 use Rattle.nm_engine.proofs.InFlight.AllAtOnce.{prepared, lefts_populated, both_whole, remap, can_copy, can_meanwhile, finished_shows, finished_kept}

@@ -5,7 +5,7 @@ use Rattle.nm_pool.specs.views.Frames.{FramesView}
 use Rattle.nm_pool.proofs.FreeLists.Returned.{sound_returns}
 use Rattle.nm_model.specs.definitions.BeforeCopy.{with_fronts, frames_taken}
 use Rattle.nm_model.specs.definitions.Sound.{IsSound}
-use Rattle.nm_engine.specs.views.MidRun.{RunState, IsSoundMachine}
+use Rattle.nm_engine.specs.views.RunState.{RunState, IsSoundMachine}
 use Rattle.nm_engine.specs.views.Shown.{shown_by}
 use Rattle.nm_engine.proofs.InFlight.TakenFrames.{back_again}
 use Rattle.nm_engine.proofs.prepared_run.PreparedRun.prepare.Goals as goal

@@ -7,7 +7,7 @@ use Rattle.nm_types.specs.State.{State}
 use Rattle.nm_model.specs.definitions.Seen.{sight_at}
 use Rattle.nm_model.specs.definitions.BeforeCopy.{BeforeCopy, Known, ToRead, pending_read}
 use Rattle.nm_model.specs.definitions.Touch.{Bytes, Refused}
-use Rattle.nm_engine.specs.views.MidRun.{RunState, with_state}
+use Rattle.nm_engine.specs.views.RunState.{RunState, with_state}
 use Rattle.nm_engine.proofs.MidRun.Sites.{found_in}
 use Rattle.nm_model.specs.definitions.Seen.{frame_seen}
 use Rattle.nm_engine.proofs.InFlight.PendingAccesses.{read_due, read_refused, read_held, read_goes, read_turned_down}

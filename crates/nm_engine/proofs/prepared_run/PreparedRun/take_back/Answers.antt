@@ -1,6 +1,6 @@
 use Rattle.std.proofs.Common.{List, ap, sym, subst, ◌∙◌}
 use Rattle.nm_engine.specs.declared.prepared_run.undo.Undo.{Undo}
-use Rattle.nm_engine.specs.views.MidRun.{RunState, with_state}
+use Rattle.nm_engine.specs.views.RunState.{RunState, with_state}
 use Rattle.nm_engine.specs.definitions.Undo.{CanUndo, all_undone}
 use Rattle.nm_engine.proofs.Undo.Touches.{all_undone-push, can_pop}
 use Rattle.nm_engine.proofs.prepared_run.PreparedRun.take_back.Goals as goal

@@ -1,6 +1,6 @@
 use Rattle.std.proofs.Common.{◌≡◌, length}
 use Rattle.std.specs.Prelude.{vec_capacity}
-use Rattle.nm_engine.specs.views.MidRun.{with_state}
+use Rattle.nm_engine.specs.views.RunState.{with_state}
 use Rattle.nm_engine.specs.definitions.Undo.{CanUndo, all_undone}
 use Rattle.nm_engine.proofs.prepared_run.PreparedRun.take_back.Given as goal
 

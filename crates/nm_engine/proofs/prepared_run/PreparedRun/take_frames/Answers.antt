@@ -6,7 +6,7 @@ use Rattle.nm_laws.proofs.Early.Phases.{tos_are}
 use Rattle.nm_types.specs.Layout.{node_count}
 use Rattle.nm_pool.specs.views.Frames.{FramesView, KeepsBytes, free_on}
 use Rattle.nm_spaces.specs.views.AddressSpaces.{AddressSpacesView}
-use Rattle.nm_engine.specs.views.MidRun.{RunState, IsSoundMachine}
+use Rattle.nm_engine.specs.views.RunState.{RunState, IsSoundMachine}
 use Rattle.nm_laws.specs.Moves.{CanMove}
 use Rattle.nm_areas.proofs.Counted.{err_always}
 use Rattle.nm_model.specs.definitions.BeforeCopy.{frames_taken, without_fronts}

@@ -8,7 +8,7 @@ use Rattle.nm_model.specs.definitions.Touch.{touch_sight}
 use Rattle.nm_engine.specs.declared.prepared_run.undo.Undo.{Undo}
 use Rattle.nm_engine.specs.definitions.Does.{Touches}
 use Rattle.nm_engine.specs.definitions.Undo.{IsStillUndone, undo_of, with_undo}
-use Rattle.nm_engine.specs.views.MidRun.{RunState}
+use Rattle.nm_engine.specs.views.RunState.{RunState}
 use Rattle.nm_engine.specs.views.Parts.{IsSiteOf, access_site}
 use Rattle.nm_engine.specs.views.Shown.{shown_by}
 use Rattle.nm_engine.proofs.Does.Touches.{inside, outside}

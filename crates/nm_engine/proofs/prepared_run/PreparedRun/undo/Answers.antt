@@ -3,7 +3,7 @@ use Rattle.std.specs.Ordering.{nat_cmp}
 use Rattle.nm_types.specs.declared.page.Page.{Page}
 use Rattle.nm_types.specs.Map.{get, page_cmp}
 use Rattle.nm_pool.specs.views.Frames.{FramesView}
-use Rattle.nm_engine.specs.views.MidRun.{RunState, with_state}
+use Rattle.nm_engine.specs.views.RunState.{RunState, with_state}
 use Rattle.nm_engine.specs.views.Shown.{shown_by}
 use Rattle.nm_model.specs.definitions.Sound.{IsSoundInFlight}
 use Rattle.nm_engine.specs.definitions.Undo.{IsGiven, seen_before, undo_touch}

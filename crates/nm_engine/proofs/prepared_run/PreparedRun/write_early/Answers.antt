@@ -4,7 +4,7 @@ use Rattle.std.specs.List.{list_any}
 use Rattle.nm_types.specs.Map.{same_page}
 use Rattle.nm_types.specs.State.{State}
 use Rattle.nm_model.specs.definitions.BeforeCopy.{BeforeCopy, Known, ToWrite}
-use Rattle.nm_engine.specs.views.MidRun.{RunState, with_state}
+use Rattle.nm_engine.specs.views.RunState.{RunState, with_state}
 use Rattle.nm_engine.proofs.MidRun.Sites.{found_in}
 use Rattle.nm_model.specs.definitions.Seen.{frame_seen}
 use Rattle.nm_engine.proofs.InFlight.PendingAccesses.{write_due, write_goes, write_refused, write_held, write_turned_down}

@@ -14,7 +14,7 @@ use Rattle.nm_pool.specs.views.Populated.{IsPopulated}
 use Rattle.nm_spaces.specs.views.AddressSpaces.{AddressSpacesView, table_of, with_new_page}
 use Rattle.nm_pool.specs.views.Frames.{FramesView, free_on}
 use Rattle.nm_engine.specs.views.Shown.{state_of_parts, shown_by, paged_frames}
-use Rattle.nm_engine.specs.views.MidRun.{IsSoundMachine}
+use Rattle.nm_engine.specs.views.RunState.{IsSoundMachine}
 use Rattle.nm_engine.specs.views.Parts.{IsSiteOf, access_site}
 use Rattle.nm_engine.proofs.Shown.BothParts.{kept_stocked, front_spare, stocked_both}
 use Rattle.nm_engine.proofs.Shown.PopulatedFrames.{same_shown, kept_again}

@@ -11,7 +11,7 @@ use Rattle.nm_model.specs.definitions.Touch.{share_page, with_sight}
 use Rattle.nm_spaces.specs.views.AddressSpaces.{AddressSpacesView, table_of, with_seen}
 use Rattle.nm_engine.specs.declared.touch.TouchOutcome.{TouchOutcome}
 use Rattle.nm_engine.specs.definitions.Undo.{given_now}
-use Rattle.nm_engine.specs.views.MidRun.{IsSoundMachine}
+use Rattle.nm_engine.specs.views.RunState.{IsSoundMachine}
 use Rattle.nm_engine.specs.views.Parts.{access_site}
 use Rattle.nm_engine.specs.views.Shown.{shown_by, paged_frames}
 use Rattle.nm_engine.proofs.Does.Touches.{seen_kept, sees_now}

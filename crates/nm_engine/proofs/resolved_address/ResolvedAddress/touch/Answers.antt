@@ -16,7 +16,7 @@ use Rattle.nm_types.specs.Map.{get, page_cmp}
 use Rattle.std.specs.Ordering.{nat_cmp}
 use Rattle.nm_model.specs.definitions.Seen.{sight_in, sight_at}
 use Rattle.nm_engine.specs.views.Shown.{state_of_parts, shown_by}
-use Rattle.nm_engine.specs.views.MidRun.{IsSoundMachine}
+use Rattle.nm_engine.specs.views.RunState.{IsSoundMachine}
 use Rattle.nm_engine.specs.views.Parts.{IsSiteOf, access_site}
 use Rattle.nm_model.specs.definitions.Seen.{frame_of}
 use Rattle.nm_engine.proofs.Does.Touches.{not_none, seen_kept, sees_now, private_here, private_unplaced_here, zero_unplaced}

@@ -16,7 +16,7 @@ loop-due-init g c =
     let place = c.args.self.spaces.place in
     let store = c.args.self.frames.frames in
     let none = ap length c.requires.can.unanswered in
-    let many = c.args.dues.ok.0 in
+    let many = c.args.all_due.ok.0 in
     let len = ap length all in
     record {
       due = subst (λ ds. AllByRecursion (CanDo place store) (map shown ds)) (sym all) c.requires.can.can;

@@ -10,7 +10,7 @@ abbrev pub invariant-loop-due : goal.invariant-loop-due
 invariant-loop-due g l =
     let place = l.self.spaces.place in
     let rest = map pending_shown l.due-iterator.rest.items in
-    let all = all_stored_after_copy l.fn.self.spaces.place l.fn.self.frames.frames (map pending_shown l.fn.dues.items) in record {
+    let all = all_stored_after_copy l.fn.self.spaces.place l.fn.self.frames.frames (map pending_shown l.fn.all_due.items) in record {
       due : AllByRecursion (CanDo place l.self.frames.frames) rest;
       room : AllByRecursion HasRoom l.due-iterator.rest.items;
       run : with_store l.self (all_stored_after_copy place l.self.frames.frames rest).store ≡ with_store l.fn.self all.store;

@@ -10,7 +10,7 @@ use Rattle.nm_pool.specs.views.Copies.{with_jobs_back, CanRefill}
 use Rattle.nm_pool.specs.views.Frames.{FramesView, HasAllFrames}
 use Rattle.nm_spaces.specs.views.AddressSpaces.{AddressSpacesView, table_of}
 use Rattle.nm_engine.specs.views.Flights.{Flight, state_in_flight}
-use Rattle.nm_engine.specs.views.MidRun.{IsSoundMachine}
+use Rattle.nm_engine.specs.views.RunState.{IsSoundMachine}
 use Rattle.nm_engine.specs.views.Shown.{paged_frames, shown_by}
 use Rattle.nm_engine.proofs.InFlight.Moments.{ends}
 use Rattle.nm_engine.proofs.MidRun.RunPages.{end_shows, end_kept}

@@ -11,7 +11,7 @@ use Rattle.nm_model.specs.definitions.Areas.{Mapping, with_frame}
 use Rattle.nm_model.specs.definitions.Events.{arrival_of, with_entries}
 use Rattle.nm_model.specs.definitions.PageTables.{Task, entry_at}
 use Rattle.nm_rmap.specs.Mappers.{Mappers, mappers_of, carry}
-use Rattle.nm_laws.specs.Midway.{entry_in_flight}
+use Rattle.nm_laws.specs.InFlight.{entry_in_flight}
 use Rattle.nm_model.specs.definitions.Seen.{sight_in}
 use Rattle.nm_spaces.specs.views.AddressSpaces.{AddressSpacesView, spaces_view, with_moved}
 use Rattle.nm_spaces.specs.views.Held.{HeldView}
