@@ -1,4 +1,4 @@
 pub mod Counts
 pub mod Watched
-pub mod Telling
+pub mod Reporting
 pub mod Waiting

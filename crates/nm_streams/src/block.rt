@@ -4,12 +4,12 @@ ghost use Rattle.std.specs.Prelude.{◌≡◌, ◌≤◌, ◌||◌, ◌++◌, �
 ghost use Rattle.std.specs.Io.KnownBytes.{Appends};
 ghost use Rattle.nm_streams.specs.Waiting.{BreaksOff, Puts, block_broken, block_room, block_waiting};
 
+use crate::reporting::ReportingWriter;
 use crate::stream_error::WriteError;
-use crate::telling::TellingWriter;
 use std::alloc::Allocator;
 
 /// Writes bytes whole, or a prefix of them and a fault: the writer failed, or took no byte.
-pub fn write_lines<W: TellingWriter>(writer: &mut W, lines: &[u8]) -> Result<(), WriteError>
+pub fn write_lines<W: ReportingWriter>(writer: &mut W, lines: &[u8]) -> Result<(), WriteError>
     ensures whole { OnOk result (Appends (W.contents writer.old) (W.contents writer.new) lines.now) }
     ensures broken { OnErr result
         (BreaksOff (W.contents writer.old) (W.contents writer.new) lines.now) }
@@ -18,7 +18,7 @@ pub fn write_lines<W: TellingWriter>(writer: &mut W, lines: &[u8]) -> Result<(),
     let mut at = 0;
     while at < lines.len() {
         let (_, rest) = lines.split_at(at);
-        match writer.write_telling(rest) {
+        match writer.write_reporting(rest) {
             Ok(0) => return Err(WriteError),
             Ok(count) => at += count,
             Err(_) => return Err(WriteError),
@@ -29,7 +29,7 @@ pub fn write_lines<W: TellingWriter>(writer: &mut W, lines: &[u8]) -> Result<(),
 
 /// Writes what waits and a text after it, and then nothing waits.
 #[inline(never)]
-fn write_through<W: TellingWriter, A: Allocator>(
+fn write_through<W: ReportingWriter, A: Allocator>(
     writer: &mut W,
     waiting: &mut Vec<u8, A>,
     text: &[u8],
@@ -109,7 +109,7 @@ impl<A: Allocator> Block<A> {
     }
 
     /// Appends bytes, which wait or are written.
-    pub fn push<W: TellingWriter>(&mut self, writer: &mut W, text: &[u8])
+    pub fn push<W: ReportingWriter>(&mut self, writer: &mut W, text: &[u8])
         ensures { Puts W.contents W.has_failed writer.old self.old writer.new self.new text.now }
     {
         if self.is_broken {
@@ -122,7 +122,7 @@ impl<A: Allocator> Block<A> {
     }
 
     /// Appends a byte, which waits or is written.
-    pub fn push_byte<W: TellingWriter>(&mut self, writer: &mut W, byte: u8)
+    pub fn push_byte<W: ReportingWriter>(&mut self, writer: &mut W, byte: u8)
         ensures { Puts W.contents W.has_failed writer.old self.old writer.new self.new (byte ∷ []) }
     {
         if self.is_broken {
@@ -135,14 +135,14 @@ impl<A: Allocator> Block<A> {
     }
 
     /// Appends a text, which waits or is written.
-    pub fn push_str<W: TellingWriter>(&mut self, writer: &mut W, text: &str)
+    pub fn push_str<W: ReportingWriter>(&mut self, writer: &mut W, text: &str)
         ensures { Puts W.contents W.has_failed writer.old self.old writer.new self.new text.now }
     {
         self.push(writer, text.as_bytes());
     }
 
     /// Writes what waits.
-    pub fn finish<W: TellingWriter>(&self, writer: &mut W) -> Result<(), WriteError>
+    pub fn finish<W: ReportingWriter>(&self, writer: &mut W) -> Result<(), WriteError>
         ensures whole { OnOk result
             (Appends (W.contents writer.old) (W.contents writer.new) (block_waiting self.now)) }
         ensures broken { OnErr result

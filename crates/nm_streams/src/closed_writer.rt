@@ -4,7 +4,7 @@ ghost use Rattle.std.specs.Prelude.{◌≡◌, ◌||◌, Some, [], true, is_err}
 ghost use Rattle.std.specs.Io.{WritesAtMost};
 ghost use Rattle.std.specs.Io.KnownBytes.{WriteAppends};
 
-use crate::telling::TellingWriter;
+use crate::reporting::ReportingWriter;
 use std::io;
 use std::io::{ErrorKind, Write};
 
@@ -31,10 +31,10 @@ impl Write for ClosedWriter {
     }
 }
 
-impl TellingWriter for ClosedWriter {
+impl ReportingWriter for ClosedWriter {
     ghost has_failed = { λ _. true };
 
-    fn write_telling(&mut self, buf: &[u8]) -> io::Result<usize> {
+    fn write_reporting(&mut self, buf: &[u8]) -> io::Result<usize> {
         self.write(buf)
     }
 }

@@ -4,13 +4,13 @@
 mod block;
 mod closed_writer;
 mod reading;
+mod reporting;
 mod stream_error;
-mod telling;
 mod watched_stream;
 
 pub use block::{Block, write_lines};
 pub use closed_writer::ClosedWriter;
 pub use reading::read_all;
+pub use reporting::{FlushingWriter, ReportingReader, ReportingWriter};
 pub use stream_error::{ReadError, WriteError};
-pub use telling::{FlushingWriter, TellingReader, TellingWriter};
 pub use watched_stream::WatchedStream;

@@ -2,17 +2,17 @@
 
 ghost use Rattle.std.specs.Prelude.{◌≡◌, ◌≤◌, length, IfOk, OnOk, IfSome};
 ghost use Rattle.std.specs.Io.KnownBytes.{IsAtEnd};
-ghost use Rattle.nm_streams.specs.Telling.{TellsRead};
+ghost use Rattle.nm_streams.specs.Reporting.{ReportsRead};
 
+use crate::reporting::ReportingReader;
 use crate::stream_error::ReadError;
-use crate::telling::TellingReader;
 use std::alloc::Allocator;
 
 /// All bytes of a reader, if they are no more than the limit.
 ///
 /// `Fault` if the reader failed or gave more bytes, of which it reads at most 16 KiB past the limit; `HostMemory` if the
 /// host was out of memory for them.
-pub fn read_all<A: Allocator, R: TellingReader>(
+pub fn read_all<A: Allocator, R: ReportingReader>(
     alloc: A,
     reader: &mut R,
     limit: usize,
@@ -24,13 +24,13 @@ pub fn read_all<A: Allocator, R: TellingReader>(
     ensures end { OnOk result (IsAtEnd (R.remaining reader.new)) }
 
     // In any case
-    ensures failure { TellsRead limit (R.has_failed reader.old) (R.has_failed reader.new)
+    ensures failure { ReportsRead limit (R.has_failed reader.old) (R.has_failed reader.new)
         (R.gave reader.old reader.new) result }
 {
     let mut bytes = Vec::new(alloc);
     let mut buffer = [0u8; 16384];
     while bytes.len() <= limit {
-        match reader.read_telling(&mut buffer) {
+        match reader.read_reporting(&mut buffer) {
             Ok(count) => {
                 if count == 0 {
                     return Ok(bytes);

@@ -8,7 +8,7 @@ ghost use Rattle.std.specs.Io.KnownBytes.{Keeps, ReadConsumes, WriteAppends};
 ghost use Rattle.nm_streams.specs.Counts.{is_failed_write, none_counted, more_counted};
 ghost use Rattle.nm_streams.specs.Watched.{watched_failed, watched_given, watched_inner};
 
-use crate::telling::{FlushingWriter, TellingReader, TellingWriter};
+use crate::reporting::{FlushingWriter, ReportingReader, ReportingWriter};
 use std::alloc::Allocator;
 use std::io;
 use std::io::{BufWriter, Read, Write};
@@ -96,12 +96,12 @@ impl<R: Read> Read for WatchedStream<R> {
     }
 }
 
-impl<R: Read> TellingReader for WatchedStream<R> {
+impl<R: Read> ReportingReader for WatchedStream<R> {
     ghost has_failed = { λ w. watched_failed w };
 
     ghost gave = { λ v w n. u64_saturate (watched_given w) ≡ u64_saturate (watched_given v + n) };
 
-    fn read_telling(&mut self, buf: &mut [u8]) -> io::Result<usize> {
+    fn read_reporting(&mut self, buf: &mut [u8]) -> io::Result<usize> {
         self.read(buf)
     }
 
@@ -147,10 +147,10 @@ impl<W: Write> Write for WatchedStream<W> {
     }
 }
 
-impl<W: Write> TellingWriter for WatchedStream<W> {
+impl<W: Write> ReportingWriter for WatchedStream<W> {
     ghost has_failed = { λ w. watched_failed w };
 
-    fn write_telling(&mut self, buf: &[u8]) -> io::Result<usize> {
+    fn write_reporting(&mut self, buf: &[u8]) -> io::Result<usize> {
         self.write(buf)
     }
 }
@@ -158,7 +158,7 @@ impl<W: Write> TellingWriter for WatchedStream<W> {
 impl<W: Write + Drop, A: Allocator> FlushingWriter for WatchedStream<BufWriter<W, A>> {
     ghost is_flushed = { λ w. writer_buffer (watched_inner w) ≡ [] };
 
-    fn flush_telling(&mut self) -> io::Result<()> {
+    fn flush_reporting(&mut self) -> io::Result<()> {
         let emptied = self.inner.flush();
         self.has_failed = emptied.is_err() || self.has_failed;
         emptied

@@ -6,7 +6,7 @@ abbrev pub invariant-loop-at : goal.invariant-loop-at
 invariant-loop-at g l = record {
   within : l.at ≤ length l.lines;
   written : Appends (g.W.Write.contents l.fn.writer) (g.W.Write.contents l.writer) (take l.at l.lines);
-  failed : g.W.TellingWriter.has_failed l.writer ≡ g.W.TellingWriter.has_failed l.fn.writer;
+  failed : g.W.ReportingWriter.has_failed l.writer ≡ g.W.ReportingWriter.has_failed l.fn.writer;
 }
 
 abbrev pub decreases-loop-at : goal.decreases-loop-at

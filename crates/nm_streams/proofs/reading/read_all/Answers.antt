@@ -7,7 +7,7 @@ loop-buffer-init g c =
     let none : c.new-bytes.result.items ≡ [] = search rules in
     record {
       left = consumes_nothing (g.R.Read.remaining c.args.reader.now) c.new-bytes.result.items none;
-      given = rw none (g.met.R.TellingReader.gave_none c.args.reader.now);
+      given = rw none (g.met.R.ReportingReader.gave_none c.args.reader.now);
       most = omega (arith, ap length none);
       failed = refl;
     }
@@ -16,8 +16,8 @@ pub returns-then-count-eq0-clause-given : goal.returns-then-count-eq0-clause-giv
 returns-then-count-eq0-clause-given g c =
     let so_far = length c.loop-buffer.bytes.items in
     let none : so_far + c.in-Ok.count ≡ so_far = omega arith in
-    subst (λ (n : ℕ). g.R.TellingReader.gave c.args.reader.now c.read_telling.new.self n) none
-    (g.met.R.TellingReader.gave_more c.args.reader.now c.loop-buffer.reader c.read_telling.new.self so_far c.in-Ok.count c.loop-buffer.invariant.given c.in-Ok.ensures.given)
+    subst (λ (n : ℕ). g.R.ReportingReader.gave c.args.reader.now c.read_reporting.new.self n) none
+    (g.met.R.ReportingReader.gave_more c.args.reader.now c.loop-buffer.reader c.read_reporting.new.self so_far c.in-Ok.count c.loop-buffer.invariant.given c.in-Ok.ensures.given)
 
 pub returns-then-count-eq0-clause-failure : goal.returns-then-count-eq0-clause-failure
 returns-then-count-eq0-clause-failure g c =
@@ -28,8 +28,8 @@ returns-then-count-eq0-clause-failure g c =
       (
         so_far,
         few,
-        subst (λ (n : ℕ). g.R.TellingReader.gave c.args.reader.now c.read_telling.new.self n) none
-            (g.met.R.TellingReader.gave_more c.args.reader.now c.loop-buffer.reader c.read_telling.new.self so_far c.in-Ok.count c.loop-buffer.invariant.given c.in-Ok.ensures.given),
+        subst (λ (n : ℕ). g.R.ReportingReader.gave c.args.reader.now c.read_reporting.new.self n) none
+            (g.met.R.ReportingReader.gave_more c.args.reader.now c.loop-buffer.reader c.read_reporting.new.self so_far c.in-Ok.count c.loop-buffer.invariant.given c.in-Ok.ensures.given),
       ),
     )
 
@@ -41,7 +41,7 @@ returns-then-is_err-clause-failure g c =
       (
         so_far + c.in-Ok.count,
         some,
-        g.met.R.TellingReader.gave_more c.args.reader.now c.loop-buffer.reader c.read_telling.new.self so_far c.in-Ok.count c.loop-buffer.invariant.given c.in-Ok.ensures.given,
+        g.met.R.ReportingReader.gave_more c.args.reader.now c.loop-buffer.reader c.read_reporting.new.self so_far c.in-Ok.count c.loop-buffer.invariant.given c.in-Ok.ensures.given,
       ),
     )
 
@@ -55,6 +55,6 @@ returns-in-Err-clause-failure g c =
       (
         so_far + 0,
         few,
-        g.met.R.TellingReader.gave_more c.args.reader.now c.loop-buffer.reader c.read_telling.new.self so_far 0 c.loop-buffer.invariant.given c.in-Err.ensures.given,
+        g.met.R.ReportingReader.gave_more c.args.reader.now c.loop-buffer.reader c.read_reporting.new.self so_far 0 c.loop-buffer.invariant.given c.in-Err.ensures.given,
       ),
     )

@@ -5,9 +5,9 @@ use Rattle.nm_streams.proofs.reading.read_all.Given as goal
 abbrev pub invariant-loop-buffer : goal.invariant-loop-buffer
 invariant-loop-buffer g l = record {
   left : Consumes (g.R.Read.remaining l.fn.reader) (g.R.Read.remaining l.reader) l.bytes.items;
-  given : g.R.TellingReader.gave l.fn.reader l.reader (length l.bytes.items);
+  given : g.R.ReportingReader.gave l.fn.reader l.reader (length l.bytes.items);
   most : length l.bytes.items ≤ l.limit + 16384;
-  failed : g.R.TellingReader.has_failed l.reader ≡ g.R.TellingReader.has_failed l.fn.reader;
+  failed : g.R.ReportingReader.has_failed l.reader ≡ g.R.ReportingReader.has_failed l.fn.reader;
 }
 
 abbrev pub decreases-loop-buffer : goal.decreases-loop-buffer

@@ -14,5 +14,5 @@ pub returns : goal.returns
 returns g c =
     let same : c.keep.new.waiting.items ≡ c.args.self.now.waiting.items = rw c.if-keep.false at c.keep.ensures.kept in
     let shorter : length c.write_through.new.waiting.items ≤ length c.args.self.now.waiting.items = rw same at c.write_through.ensures.within in
-    put_through g.W.Write.contents g.W.TellingWriter.has_failed c.write_through.result _ _ c.args.self.now _ _ c.if-self.false c.is_err-self.ensures.value
+    put_through g.W.Write.contents g.W.ReportingWriter.has_failed c.write_through.result _ _ c.args.self.now _ _ c.if-self.false c.is_err-self.ensures.value
     (rw same at c.write_through.ensures.whole) c.write_through.ensures.empty (rw same at c.write_through.ensures.broken) c.write_through.ensures.failure refl shorter

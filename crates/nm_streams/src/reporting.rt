@@ -12,7 +12,7 @@ use std::io;
 use std::io::{AsBytes, Cursor, Empty, Read, Sink, Write};
 
 /// A reader that reports whether it has failed, and how many bytes it gave.
-pub trait TellingReader: Read {
+pub trait ReportingReader: Read {
     /// A read has failed.
     ghost has_failed: { Self → Bool };
 
@@ -20,7 +20,7 @@ pub trait TellingReader: Read {
     ghost gave: { Self → Self → ℕ → Type 0 };
 
     /// Does what `read` does, and keeps the report.
-    fn read_telling(&mut self, buf: &mut [u8]) -> io::Result<usize>
+    fn read_reporting(&mut self, buf: &mut [u8]) -> io::Result<usize>
         // What `read` does
         ensures bound { ReadsAtMost result buf.new }
         ensures bytes { ReadConsumes (Self.remaining self.old)
@@ -38,12 +38,12 @@ pub trait TellingReader: Read {
 }
 
 /// A writer that reports whether it has failed.
-pub trait TellingWriter: Write {
+pub trait ReportingWriter: Write {
     /// A write has failed: with an error, or it took no byte although there was one.
     ghost has_failed: { Self → Bool };
 
     /// Does what `write` does, and keeps the report.
-    fn write_telling(&mut self, buf: &[u8]) -> io::Result<usize>
+    fn write_reporting(&mut self, buf: &[u8]) -> io::Result<usize>
         ensures bound { WritesAtMost result buf.now }
         ensures bytes { WriteAppends (Self.contents self.old)
             (Self.contents self.new) result buf.now }
@@ -52,23 +52,23 @@ pub trait TellingWriter: Write {
 }
 
 /// A writer that keeps what it took until it is flushed, and reports whether it has failed.
-pub trait FlushingWriter: TellingWriter {
+pub trait FlushingWriter: ReportingWriter {
     /// Nothing that it took waits in it.
     ghost is_flushed: { Self → Type 0 };
 
     /// Does what `flush` does, and keeps the report.
-    fn flush_telling(&mut self) -> io::Result<()>
+    fn flush_reporting(&mut self) -> io::Result<()>
         ensures bytes { Keeps (Self.contents self.old) (Self.contents self.new) }
         ensures flushed { OnOk result (is_flushed self.new) }
         ensures failed { Self.has_failed self.new ≡ (is_err result || Self.has_failed self.old) };
 }
 
-impl TellingReader for &[u8] {
+impl ReportingReader for &[u8] {
     ghost has_failed = { λ _. false };
 
     ghost gave = { λ r s n. length r.now ≡ n + length s.now };
 
-    fn read_telling(&mut self, buf: &mut [u8]) -> io::Result<usize> {
+    fn read_reporting(&mut self, buf: &mut [u8]) -> io::Result<usize> {
         self.read(buf)
     }
 
@@ -77,12 +77,12 @@ impl TellingReader for &[u8] {
     ghost gave_more = { λ r s t. more_left (length r.now) (length s.now) (length t.now) };
 }
 
-impl<A: Allocator> TellingReader for VecDeque<u8, A> {
+impl<A: Allocator> ReportingReader for VecDeque<u8, A> {
     ghost has_failed = { λ _. false };
 
     ghost gave = { λ r s n. length r.items ≡ n + length s.items };
 
-    fn read_telling(&mut self, buf: &mut [u8]) -> io::Result<usize> {
+    fn read_reporting(&mut self, buf: &mut [u8]) -> io::Result<usize> {
         self.read(buf)
     }
 
@@ -91,12 +91,12 @@ impl<A: Allocator> TellingReader for VecDeque<u8, A> {
     ghost gave_more = { λ r s t. more_left (length r.items) (length s.items) (length t.items) };
 }
 
-impl<T: AsBytes> TellingReader for Cursor<T> {
+impl<T: AsBytes> ReportingReader for Cursor<T> {
     ghost has_failed = { λ _. false };
 
     ghost gave = { λ r s n. cursor_position s ≡ cursor_position r + n };
 
-    fn read_telling(&mut self, buf: &mut [u8]) -> io::Result<usize> {
+    fn read_reporting(&mut self, buf: &mut [u8]) -> io::Result<usize> {
         self.read(buf)
     }
 
@@ -105,12 +105,12 @@ impl<T: AsBytes> TellingReader for Cursor<T> {
     ghost gave_more = { λ r s t. more_on (cursor_position r) (cursor_position s) (cursor_position t) };
 }
 
-impl TellingReader for Empty {
+impl ReportingReader for Empty {
     ghost has_failed = { λ _. false };
 
     ghost gave = { λ _ _ n. n ≡ 0 };
 
-    fn read_telling(&mut self, buf: &mut [u8]) -> io::Result<usize> {
+    fn read_reporting(&mut self, buf: &mut [u8]) -> io::Result<usize> {
         self.read(buf)
     }
 
@@ -119,18 +119,18 @@ impl TellingReader for Empty {
     ghost gave_more = { λ _ _ _. more_of_none };
 }
 
-impl TellingWriter for Sink {
+impl ReportingWriter for Sink {
     ghost has_failed = { λ _. false };
 
-    fn write_telling(&mut self, buf: &[u8]) -> io::Result<usize> {
+    fn write_reporting(&mut self, buf: &[u8]) -> io::Result<usize> {
         self.write(buf)
     }
 }
 
-impl TellingWriter for Empty {
+impl ReportingWriter for Empty {
     ghost has_failed = { λ _. false };
 
-    fn write_telling(&mut self, buf: &[u8]) -> io::Result<usize> {
+    fn write_reporting(&mut self, buf: &[u8]) -> io::Result<usize> {
         self.write(buf)
     }
 }

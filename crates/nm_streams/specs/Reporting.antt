@@ -11,7 +11,7 @@ HasReadCause limit now gave =
 -- what a result says about the reader, given whether it had failed before and after, and how many bytes it gave in
 -- between: a fault has its cause; with any other result the reader has not failed anew; with its bytes it gave no more than
 -- the limit, and if the host is out of memory at least one
-abbrev pub TellsRead : {X : Type 0} → ℕ → Bool → Bool → (ℕ → Type 0) → Result X ReadError → Type 0
-TellsRead limit before now gave (Ok bytes) = (now ≡ before) × ((n : ℕ) × (n ≤ limit) × gave n)
-TellsRead limit before now gave (Err Fault) = HasReadCause limit now gave
-TellsRead limit before now gave (Err HostMemory) = (now ≡ before) × ((n : ℕ) × (0 < n) × gave n)
+abbrev pub ReportsRead : {X : Type 0} → ℕ → Bool → Bool → (ℕ → Type 0) → Result X ReadError → Type 0
+ReportsRead limit before now gave (Ok bytes) = (now ≡ before) × ((n : ℕ) × (n ≤ limit) × gave n)
+ReportsRead limit before now gave (Err Fault) = HasReadCause limit now gave
+ReportsRead limit before now gave (Err HostMemory) = (now ≡ before) × ((n : ℕ) × (0 < n) × gave n)
