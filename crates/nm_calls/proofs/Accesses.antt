@@ -1,4 +1,2 @@
 pub mod ByPlace
 pub mod EachAnswered
-pub mod Lent
-pub mod Loops

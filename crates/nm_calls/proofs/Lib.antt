@@ -1,8 +1,6 @@
 pub mod Accesses
-pub mod Batches
 pub mod CallLaws
 pub mod Lines
-pub mod Looks
 pub mod NodesOffline
 pub mod Outcomes
 pub mod PageLists

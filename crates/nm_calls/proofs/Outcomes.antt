@@ -18,18 +18,20 @@ use Rattle.nm_model.specs.definitions.Cut.{Stretch, requests_of}
 use Rattle.nm_model.specs.definitions.Run.{runs_from}
 use Rattle.nm_model.specs.definitions.Touch.{Access, touch, write, write_after}
 use Rattle.nm_pool.specs.views.Accesses.{answer_shown}
-use Rattle.nm_steps.specs.Calls.{Call, MovePages, MigratePages}
-use Rattle.nm_calls.specs.declared.call_error.CallError.{CallError}
-use Rattle.nm_calls.specs.declared.call_error.CallError.TheVariants.{Refused, HostMemory}
-use Rattle.nm_calls.specs.declared.answer.Moved.{Moved}
+use Rattle.nm_requests.specs.Calls.{Call, MovePages, MigratePages}
+use Rattle.nm_passes.specs.declared.call_error.CallError.{CallError}
+use Rattle.nm_passes.specs.declared.call_error.CallError.TheVariants.{Refused, HostMemory}
+use Rattle.nm_passes.specs.declared.moved.Moved.{Moved}
 use Rattle.nm_calls.specs.definitions.Answers.{Answer, Refusal, Done, Statuses, Failed}
-use Rattle.nm_calls.specs.definitions.Permission.{owner_of, has_move_all, query_refusal, allowed_at}
-use Rattle.nm_calls.specs.definitions.Batch.{move_refusal}
+use Rattle.nm_passes.specs.definitions.Permission.{owner_of, has_move_all, query_refusal, allowed_at}
+use Rattle.nm_passes.specs.definitions.Batch.{move_refusal}
 use Rattle.nm_calls.specs.definitions.Migrate.{migrate_refusal, migration}
-use Rattle.nm_calls.specs.views.Errors.{out_of_memory, of_machine}
+use Rattle.nm_passes.specs.views.Errors.{out_of_memory, of_machine}
 use Rattle.nm_calls.specs.definitions.Systems.{SystemState, in_state}
-use Rattle.nm_calls.specs.definitions.Outcome.{Outcome, refusal_in, refusal_of, refused_at_once, start, sets_policy, runs_asked, runs_of, accesses_asked, end_of_call, outcome, states_from, trail, after_runs}
-use Rattle.nm_calls.specs.definitions.Does.{HostLeaves, Does, Moves}
+use Rattle.nm_calls.specs.definitions.Outcome.{Outcome, refusal_in, refusal_of, refused_at_once, start, sets_policy, runs_asked, runs_of, accesses_asked, end_of_call, outcome, trail, after_runs}
+use Rattle.nm_passes.specs.definitions.Moves.{states_from}
+use Rattle.nm_calls.specs.definitions.Does.{HostLeaves, Does}
+use Rattle.nm_passes.specs.definitions.Moves.{Moves}
 use Rattle.nm_calls.proofs.Trails.{runs_unless, state_unless}
 
 -- what a call that runs out of host memory leaves

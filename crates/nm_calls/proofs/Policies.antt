@@ -1,9 +1,4 @@
 pub mod Late
-pub mod Moves
-pub mod NamedNodes
 pub mod NoBytes
 pub mod Nodes
 pub mod Results
-pub mod SentPages
-pub mod StrayPages
-pub mod Turns

@@ -1,6 +1,5 @@
 -- What the calls of a system do: which are refused, what the others answer, and the system after them.
 pub mod Answers
-pub mod Batch
 pub mod Does
 pub mod Entries
 pub mod Maps
@@ -9,6 +8,4 @@ pub mod Memory
 pub mod Migrate
 pub mod Offline
 pub mod Outcome
-pub mod Passes
-pub mod Permission
 pub mod Systems

@@ -1,4 +1,5 @@
 -- Worked examples.
+pub mod Calling
 pub mod DuringRows
 pub mod MbindRows
 pub mod MigrateRows

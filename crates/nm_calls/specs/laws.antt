@@ -1,4 +1,3 @@
 -- What holds of all calls.
 pub mod Calls
-pub mod Full
 pub mod Migrations

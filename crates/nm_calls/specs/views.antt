@@ -1,7 +1,4 @@
 -- What contracts see the values of the code as, and what private functions return.
 pub mod Answers
-pub mod Errors
-pub mod Listing
-pub mod Runs
+pub mod Ends
 pub mod Tally
-pub mod Turns

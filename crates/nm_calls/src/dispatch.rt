@@ -1,17 +1,17 @@
 //! Making calls that are given as values.
 
 ghost use Rattle.std.specs.Prelude.{◌<◌};
-ghost use Rattle.nm_steps.specs.Calls as calls;
+ghost use Rattle.nm_requests.specs.Calls as calls;
 ghost use Rattle.nm_calls.specs.definitions.Does.{Asks, Does};
 ghost use Rattle.nm_calls.specs.definitions.Memory.{MayAllocate};
-ghost use Rattle.nm_steps.specs.Views.{attach_call, call_of, mbind_call, query_call, spawn_call};
+ghost use Rattle.nm_requests.specs.Views.{attach_call, call_of, mbind_call, query_call, spawn_call};
 ghost use Rattle.nm_calls.specs.views.Answers.{answer_of, moved_shown};
 
-use crate::answer::{Answer, Moved};
-use crate::call_error::CallError;
+use crate::answer::Answer;
 use crate::system::System;
 use nm_engine::RunCrew;
-use nm_steps::{Attachment, Call, MbindRequest, NewProcess, Question};
+use nm_passes::{CallError, Moved};
+use nm_requests::{Attachment, Call, MbindRequest, NewProcess, Question};
 use nm_types::NodeId;
 use std::alloc::Allocator;
 

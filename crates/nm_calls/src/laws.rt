@@ -5,7 +5,6 @@ ghost use Rattle.nm_calls.specs.laws.Migrations.{EachPageIsListedOnce, RunsGoToN
 ghost use Rattle.nm_calls.specs.examples.MigrateRows.{EachPageGoesOnce, HalfWay, TwoOfFourGo, SharedPageGoesByPrivilege, MigrationsAreRefused, NothingMigrates, SizesOfWhatIsKept, PageIsListedOnce, RunsHaveALimit};
 ghost use Rattle.nm_calls.specs.definitions.Mbind.{NoStrayIsListedTwice};
 ghost use Rattle.nm_calls.specs.definitions.Offline.{RunsIgnoreOnline};
-ghost use Rattle.nm_calls.specs.laws.Full.{FullNodeTakesNone, LeftWouldMove, MovesElsewhere, RunsGoByLength, NextPassTakesNone};
 ghost use Rattle.nm_calls.specs.examples.OfflineRows.{PagesLeaveTheNode, NothingIsTakenOffline, PinnedPageKeepsItsNode, PassesGoByDistance, UnseenPageMoves, SharedPageLeavesItsNode, OfflineNodesAreNotKept, NearestNodeFirst, LastNodeStays, PagesGoBySegment};
 ghost use Rattle.nm_calls.specs.examples.DuringRows.{FramesAreReserved, AccessFindsNoFrame, HeldAtEachAddress, RefusedBeforeHeld, RefusedCallsMakeNone, AnsweredInOrder, LimitMakesRuns};
 ghost use Rattle.nm_calls.specs.examples.MbindRows.{PinnedPageIsTold, StrictAloneRefuses, StayingIsNoError, LinesAreSplit, NewPagesTakeTurns, BoundPagesGoNowhereElse, SecondPassTakesTheRest, FollowersStay, StrayPagesTakeTurns, BindingsAreRefused, LastByteCounts, TurnsGoByIndex, StrayIsListedOnce, SharedPagesMoveWithAll, SetsAsText, BothProcessesAreCounted, LastPage};
@@ -87,17 +86,6 @@ pub fn each_page_is_listed_once()
 /// Runs and passes are the same whichever nodes are online: a node may go offline before its pages leave it, or after.
 pub fn runs_ignore_online()
     ensures { RunsIgnoreOnline }
-{}
-
-/// Pages that a pass leaves without a frame are also left by a pass over another node, if that has no free frame and
-/// none of these pages: only the total of failures grows, by their number. How many runs such a pass has depends on
-/// their number alone.
-pub fn full_nodes_take_none()
-    ensures full { FullNodeTakesNone }
-    ensures left { LeftWouldMove }
-    ensures elsewhere { MovesElsewhere }
-    ensures runs { RunsGoByLength }
-    ensures next { NextPassTakesNone }
 {}
 
 /// Worked examples of taking nodes offline and bringing them online.

@@ -2,29 +2,20 @@
 #![tactic(auto)]
 
 mod answer;
-mod batch;
-mod call_error;
 mod dispatch;
 pub mod laws;
-mod listing;
 mod maps;
 mod mbind;
 mod migrate;
 mod number_text;
 mod offline;
-mod passes;
-mod permission;
-mod placement;
 mod status;
-mod stray_pages;
 mod system;
-mod turns;
 
-pub use answer::{Answer, Moved, PagemapEntry};
-pub use batch::run_count;
-pub use call_error::CallError;
+pub use answer::{Answer, PagemapEntry};
 pub use nm_engine::{AccessAnswer, RunCrew, Totals};
-pub use nm_steps::{
+pub use nm_passes::{CallError, Moved, run_count};
+pub use nm_requests::{
     Attachment, Batch, Call, InFlight, MbindRequest, MigrateRequest, MoveRequest, NewArea,
     NewProcess, Question,
 };

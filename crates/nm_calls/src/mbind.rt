@@ -6,20 +6,22 @@ ghost use Rattle.nm_types.specs.Layout.{node_count};
 ghost use Rattle.nm_areas.specs.Splits.{HasSplit};
 ghost use Rattle.nm_runs.specs.Targets.{Checks};
 ghost use Rattle.nm_model.specs.definitions.Effect.{set_range_policy};
-ghost use Rattle.nm_calls.specs.declared.call_error.CallError.TheVariants.{HostMemory};
-ghost use Rattle.nm_calls.specs.definitions.Permission.{info_at};
-ghost use Rattle.nm_calls.specs.definitions.Permission.{usable};
-ghost use Rattle.nm_calls.specs.definitions.Mbind.{preferred_policy, policy_of, policy_asked, is_misfit, is_bad_set, has_move, is_stray, mode_refusal, range_of, binding_refusal, home_of, is_strict, pages_to_bind, mbind_runs, mbind_refusal, binding};
-ghost use Rattle.nm_calls.specs.views.Runs.{nodes_named, Binds};
+ghost use Rattle.nm_passes.specs.declared.call_error.CallError.TheVariants.{HostMemory};
+ghost use Rattle.nm_passes.specs.definitions.Permission.{info_at};
+ghost use Rattle.nm_passes.specs.definitions.Permission.{usable};
+ghost use Rattle.nm_calls.specs.definitions.Mbind.{preferred_policy, policy_of, policy_asked, is_misfit, is_bad_set, has_move, mode_refusal, range_of, binding_refusal, home_of, is_strict, pages_to_bind, mbind_runs, mbind_refusal, binding};
+ghost use Rattle.nm_passes.specs.definitions.Placement.{is_stray};
+ghost use Rattle.nm_passes.specs.views.Runs.{nodes_named};
+ghost use Rattle.nm_calls.specs.views.Ends.{Binds};
 
-use crate::call_error::CallError;
-use crate::permission::{names_missing_node, usable};
-use crate::placement::{make, way_of};
-use crate::stray_pages::{astray, some_stray, stray_from};
 use nm_areas::PageRange;
 use nm_engine::{Machine, RunCrew};
-use nm_steps::MbindRequest;
-use nm_types::{Errno, LocatedPage, MoveFlags, NodeId, NodeMask, Pid, Policy, ProcessInfo, Vpn};
+use nm_passes::{
+    Binding, CallError, astray, make_moves, names_missing_node, some_stray, stray_from, usable,
+    way_of,
+};
+use nm_requests::MbindRequest;
+use nm_types::{Errno, LocatedPage, MoveFlags, NodeId, NodeMask, Policy, ProcessInfo};
 use std::alloc::{AllocError, Allocator};
 
 // The modes of mbind(2), by their numbers.
@@ -33,21 +35,8 @@ const MPOL_INTERLEAVE: u32 = 3;
 
 const MPOL_LOCAL: u32 = 4;
 
-/// A range of a process's page numbers, and the policy that it gets.
-#[derive(Clone, Copy)]
-pub(crate) struct Binding {
-    /// The process's number.
-    pub(crate) pid: Pid,
-    /// The first page number.
-    pub(crate) first: Vpn,
-    /// The page number after the last.
-    pub(crate) end: Vpn,
-    /// The policy.
-    pub(crate) policy: Policy,
-}
-
 /// The lowest node is preferred, or the nearest if there is none.
-fn preferred(nodes: NodeMask) -> Policy
+fn preferred_policy(nodes: NodeMask) -> Policy
     ensures { result ≡ preferred_policy nodes }
 {
     match nodes.nth(0) {
@@ -61,7 +50,7 @@ fn policy_of(mode: u32, nodes: NodeMask) -> Policy
     ensures { result ≡ policy_of mode nodes }
 {
     if mode == MPOL_PREFERRED {
-        preferred(nodes)
+        preferred_policy(nodes)
     } else if mode == MPOL_BIND {
         Policy::Bind(nodes)
     } else if mode == MPOL_INTERLEAVE {
@@ -215,7 +204,7 @@ fn binding_of<A: Allocator + Copy + Send + Sync>(
 }
 
 /// What a call asks for, and the range of its policy. Returns the errors of `asked_of`, then those of `binding_of`.
-pub(crate) fn ready<A: Allocator + Copy + Send + Sync>(
+pub(crate) fn check_binding<A: Allocator + Copy + Send + Sync>(
     machine: &Machine<A>,
     request: &MbindRequest,
 ) -> Result<(Asked, Binding), Errno>
@@ -239,7 +228,7 @@ pub(crate) fn ready<A: Allocator + Copy + Send + Sync>(
 }
 
 /// The pages to move: none without a flag to move, and then it does not allocate.
-fn listed<A: Allocator + Copy + Send + Sync>(
+fn pages_to_bind<A: Allocator + Copy + Send + Sync>(
     alloc: A,
     machine: &Machine<A>,
     binding: &Binding,
@@ -295,14 +284,14 @@ pub(crate) fn bind<A: Allocator + Copy + Send + Sync, C: RunCrew<A>>(
 {
     let Asked { home, flags, .. } = asked;
     let all = flags.moves_all();
-    let pages = listed(alloc, machine, binding, flags)?;
+    let pages = pages_to_bind(alloc, machine, binding, flags)?;
     let way = way_of(alloc, machine, home, binding, all, pages.as_slice())?;
     let range = PageRange {
         first: binding.first,
         end: binding.end,
     };
     machine.set_range_policy(binding.pid, range, binding.policy)?;
-    if let Err(error) = make(crew, alloc, machine, way, limit) {
+    if let Err(error) = make_moves(crew, alloc, machine, way, limit) {
         return Err(error);
     }
     if is_late(machine, &binding.policy, pages.as_slice(), flags) {

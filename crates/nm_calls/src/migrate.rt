@@ -5,20 +5,19 @@ ghost use Rattle.std.specs.List.{AllByRecursion};
 ghost use Rattle.nm_types.specs.Layout.{node_count};
 ghost use Rattle.nm_policy.specs.Pairs.{pairs};
 ghost use Rattle.nm_runs.specs.Targets.{Checks};
-ghost use Rattle.nm_calls.specs.definitions.Does.{Moves};
-ghost use Rattle.nm_calls.specs.definitions.Permission.{info_at};
-ghost use Rattle.nm_calls.specs.definitions.Permission.{usable};
-ghost use Rattle.nm_calls.specs.definitions.Migrate.{new_refusal, migrate_refusal, migration, migrate_list};
+ghost use Rattle.nm_passes.specs.definitions.Moves.{Moves};
+ghost use Rattle.nm_passes.specs.definitions.Permission.{info_at};
+ghost use Rattle.nm_passes.specs.definitions.Permission.{usable};
+ghost use Rattle.nm_calls.specs.definitions.Migrate.{new_refusal, migrate_refusal, migration};
+ghost use Rattle.nm_passes.specs.definitions.Listing.{migrate_list};
 
-use crate::answer::Moved;
-use crate::batch::move_runs;
-use crate::call_error::CallError;
-use crate::listing::migrate_list;
-use crate::permission::{acted_on, names_missing_node, owner_of, usable};
 use nm_engine::{Machine, RunCrew};
+use nm_passes::{
+    CallError, Moved, acted_on, migrate_list, move_runs, names_missing_node, owner_of, usable,
+};
 use nm_policy::pairs;
+use nm_requests::{InFlight, MigrateRequest};
 use nm_runs::cut;
-use nm_steps::{InFlight, MigrateRequest};
 use nm_types::{Errno, NodeMask, Pid, ProcessInfo};
 use std::alloc::Allocator;
 
@@ -35,7 +34,7 @@ pub(crate) struct Migration {
 
 /// Which of the nodes that a caller names the pages of a process may go to. Errors, in order: EPERM (a node that the
 /// process may not use, without privilege); EINVAL (no node that is online and allowed).
-#[tactic(auto, using(crate::proofs::Policies::NamedNodes::none_is))]
+#[tactic(auto, using(nm_passes::proofs::Policies::NamedNodes::none_is))]
 fn targets_of<A: Allocator + Copy + Send + Sync>(
     machine: &Machine<A>,
     privileged: bool,
@@ -101,7 +100,7 @@ pub(crate) fn migration_of<A: Allocator + Copy + Send + Sync>(
 /// Moves a process's pages from nodes to nodes, run after run, with at most `limit` requests in each run. The list of
 /// pages and all runs are made before the first run starts. An error means that the host is out of memory, and says
 /// after how many runs.
-#[tactic(auto, using(crate::proofs::Trails::first_state))]
+#[tactic(auto, using(nm_passes::proofs::Trails::first_state))]
 pub(crate) fn migrate<A: Allocator + Copy + Send + Sync, C: RunCrew<A>>(
     crew: &C,
     alloc: A,

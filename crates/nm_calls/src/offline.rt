@@ -6,13 +6,12 @@ ghost use Rattle.nm_types.specs.Layout.{node_count};
 ghost use Rattle.nm_types.specs.Nodes.{is_in, without_node};
 ghost use Rattle.nm_types.specs.declared.request.Wanted.TheVariants.{Whole};
 ghost use Rattle.nm_runs.specs.Targets.{Checks};
-ghost use Rattle.nm_calls.specs.definitions.Migrate.{is_on};
-ghost use Rattle.nm_calls.specs.views.Runs.{Empties};
+ghost use Rattle.nm_passes.specs.definitions.Listing.{is_on};
+ghost use Rattle.nm_calls.specs.views.Ends.{Empties};
 ghost use Rattle.nm_calls.specs.definitions.Offline.{offline_refusal, offline_runs, refuges};
 
-use crate::call_error::CallError;
-use crate::passes::make_passes;
 use nm_engine::{Machine, RunCrew};
+use nm_passes::{CallError, make_passes};
 use nm_policy::zonelist;
 use nm_runs::Wanted;
 use nm_types::{Errno, NodeId, NodeMask, Page};
@@ -104,7 +103,7 @@ fn some_on<A: Allocator + Copy + Send + Sync>(
 /// Moves the pages of an online node to the others, in passes by their distance from it, and takes the node offline.
 /// All pages are listed before the first moves. EBUSY if a page is still on the node: the node is online, and the moves
 /// remain. If the host runs out of memory, the first runs remain, and the node is online.
-pub(crate) fn empty<A: Allocator + Copy + Send + Sync, C: RunCrew<A>>(
+pub(crate) fn empty_node<A: Allocator + Copy + Send + Sync, C: RunCrew<A>>(
     crew: &C,
     alloc: A,
     machine: &mut Machine<A>,

@@ -5,7 +5,7 @@ ghost use Rattle.nm_types.specs.State.{free_list};
 ghost use Rattle.nm_model.specs.definitions.PageTables.{entries_of};
 ghost use Rattle.nm_model.specs.definitions.Sound.{each_frame_is_once};
 ghost use Rattle.nm_model.specs.definitions.Sound.{IsSound};
-ghost use Rattle.nm_steps.specs.Calls.{Unmap, Exit, Pin, Unpin, ReadBytes, WriteBytes, Offline, Online, FreeList, Pagemap, Vmstat, NumaMaps, default_limit};
+ghost use Rattle.nm_requests.specs.Calls.{Unmap, Exit, Pin, Unpin, ReadBytes, WriteBytes, Offline, Online, FreeList, Pagemap, Vmstat, NumaMaps, default_limit};
 ghost use Rattle.nm_calls.specs.definitions.Answers.{Done, NewSegment, TheBytes, Statuses, Failed, Frames, Entries, TheTotals, Lines};
 ghost use Rattle.nm_calls.specs.definitions.Entries.{entries_mapped, entries_shown};
 ghost use Rattle.nm_calls.specs.definitions.Maps.{lines_shown};
@@ -14,23 +14,20 @@ ghost use Rattle.nm_calls.specs.definitions.Systems.{new_system, system_with};
 ghost use Rattle.nm_calls.specs.definitions.Outcome.{outcome};
 ghost use Rattle.nm_calls.specs.definitions.Does.{Asks, Does, DoesOrRefuses};
 ghost use Rattle.nm_calls.specs.views.Answers.{moved_shown};
-ghost use Rattle.nm_steps.specs.Views.{attach_call, map_call, mbind_call, migrate_call, move_call, query_call, spawn_call};
+ghost use Rattle.nm_requests.specs.Views.{attach_call, map_call, mbind_call, migrate_call, move_call, query_call, spawn_call};
 
-use crate::answer::{Moved, PagemapEntry};
-use crate::batch::{check_targets, move_batch};
-use crate::call_error::CallError;
-use crate::listing::entries_of;
+use crate::answer::PagemapEntry;
 use crate::maps::areas_text;
-use crate::mbind::{bind, ready};
+use crate::mbind::{bind, check_binding};
 use crate::migrate::{migrate, migration_of};
-use crate::offline::{check_offline, empty};
-use crate::permission::permit_of;
+use crate::offline::{check_offline, empty_node};
 use crate::status::statuses_of;
 use nm_engine::{Machine, RunCrew, Totals};
-use nm_spaces::frame_named;
-use nm_steps::{
+use nm_passes::{CallError, Moved, check_targets, entries_of, move_batch, permit_of};
+use nm_requests::{
     Attachment, MbindRequest, MigrateRequest, MoveRequest, NewArea, NewProcess, Question,
 };
+use nm_spaces::frame_named;
 use nm_tables::Entry;
 use nm_types::limits::MAX_BATCH;
 use nm_types::{Errno, FrameId, Geometry, NodeId, Pid, Vpn};
@@ -82,7 +79,7 @@ impl<A: Allocator + Copy + Send + Sync> Model for System<A> {
     ghost invariant = { λ s. 0 < s.run_limit };
 }
 
-#[tactic(auto, unfolding(crate::specs::definitions::Outcome::refused, crate::specs::definitions::Outcome::refused_at_once, crate::specs::definitions::Outcome::ended, crate::specs::definitions::Outcome::runs_asked, crate::specs::definitions::Outcome::start, crate::specs::definitions::Outcome::sets_policy, crate::specs::definitions::Outcome::accesses_asked), using(crate::proofs::Outcomes::answers, crate::proofs::Outcomes::refuses, crate::proofs::Outcomes::unchanged, crate::proofs::Outcomes::host_leaves))]
+#[tactic(auto, unfolding(crate::specs::definitions::Outcome::refusal_of, crate::specs::definitions::Outcome::refused_at_once, crate::specs::definitions::Outcome::end_of_call, crate::specs::definitions::Outcome::runs_asked, crate::specs::definitions::Outcome::start, crate::specs::definitions::Outcome::sets_policy, crate::specs::definitions::Outcome::accesses_asked), using(crate::proofs::Outcomes::answers, crate::proofs::Outcomes::refuses, crate::proofs::Outcomes::unchanged, crate::proofs::Outcomes::host_leaves))]
 impl<A: Allocator + Copy + Send + Sync> System<A> {
     /// Makes a new machine: no process, every node online, every frame free, and each free list in ascending order. An
     /// error means that the host is out of memory.
@@ -333,7 +330,7 @@ impl<A: Allocator + Copy + Send + Sync> System<A> {
         ensures done { Does (λ done. Failed 0) result self.old self.new (mbind_call request.now) }
         ensures allocates { Asks result (MayAllocate self.old.state (mbind_call request.now)) }
     {
-        let (asked, binding) = ready(&self.machine, request)?;
+        let (asked, binding) = check_binding(&self.machine, request)?;
         if request.len == 0 {
             return Ok(());
         }
@@ -359,7 +356,7 @@ impl<A: Allocator + Copy + Send + Sync> System<A> {
             return Ok(());
         }
         let limit = self.run_limit;
-        empty(crew, self.alloc, &mut self.machine, node, limit)
+        empty_node(crew, self.alloc, &mut self.machine, node, limit)
     }
 
     /// Brings a node online: its free frames may be taken again, and pages may go there. Does not allocate. A node that

@@ -31,7 +31,7 @@ use Rattle.std.specs.contracts.impls.GlobalAllocator.TheImpl.{ghosts}
 use Rattle.std.proofs.GlobalToken.{dealloc_token-Testable}
 use Rattle.std_alloc.proofs.BoxSteps.Form.{Bx, R, P, τ, handle, word}
 use Rattle.std_alloc.proofs.BoxSteps.Steps.{box_out}
-use Rattle.nm_library.specs.contracts.handle.Kept as contents
+use Rattle.nm_library.specs.contracts.handle.OpenSession as contents
 use Rattle.nm_library.proofs.handle.OpenSession.TheLaws as contents_laws
 use Rattle.nm_library.specs.contracts.handle.Handle as a_handle
 use Rattle.nm_library.specs.contracts.raw_box.RawBox as raw_box

@@ -5,12 +5,12 @@ use Rattle.std.specs.declared.alloc.Global.{Global}
 use Rattle.std.specs.declared.vec.Vec.{Vec}
 use Rattle.nm_model.specs.definitions.Status.{code}
 use Rattle.nm_pool.specs.views.Accesses.{answer_shown}
-use Rattle.nm_steps.specs.Calls.{Call, ReadBytes, WriteBytes, FreeList, Pagemap, NumaMaps}
+use Rattle.nm_requests.specs.Calls.{Call, ReadBytes, WriteBytes, FreeList, Pagemap, NumaMaps}
 use Rattle.nm_calls.specs.declared.answer.Answer as values
-use Rattle.nm_calls.specs.declared.answer.Moved.{Moved}
+use Rattle.nm_passes.specs.declared.moved.Moved.{Moved}
 use Rattle.nm_calls.specs.declared.answer.PagemapEntry.{PagemapEntry}
-use Rattle.nm_calls.specs.declared.call_error.CallError.{CallError}
-use Rattle.nm_calls.specs.declared.call_error.CallError.TheVariants.{Refused, HostMemory}
+use Rattle.nm_passes.specs.declared.call_error.CallError.{CallError}
+use Rattle.nm_passes.specs.declared.call_error.CallError.TheVariants.{Refused, HostMemory}
 use Rattle.nm_calls.specs.definitions.Answers.{Answer, Done, NewSegment, TheBytes, Statuses, Failed, Frames, Entries, Lines}
 use Rattle.nm_calls.specs.definitions.Does.{Does}
 use Rattle.nm_calls.specs.definitions.Entries.{entries_mapped}
@@ -81,7 +81,7 @@ MovesListed call before statuses before_failed failed status old new =
 -- ---- calls that only look
 
 -- the system is asked: with a value, `Told` says what is written and with which status, and else the status is the error's; or there is no
--- memory to tell with
+-- memory for the answer
 abbrev pub AsksSystem : (V : Type 0) → (V → Answer) → Call → (V → ℤ → Type 0) → Type 0 → ℤ → OpenSession → Type 0
 AsksSystem V view call Told Untold status kept =
     ((r : Result V CallError) × Does view r kept.session.system kept.session.system call

@@ -1,8 +1,8 @@
--- What traces, sessions and steps tell and leave.
+-- What traces, sessions and steps write and leave.
 use Rattle.std.specs.Prelude.{◌≡◌, ◌⊎◌, ℕ, ℤ, pos, List, [], Option, Some, None, Ok, Err}
 use Rattle.nm_library.specs.declared.handle.OpenSession.{OpenSession}
 use Rattle.nm_library.specs.Rooms.{FillsRoom}
-use Rattle.nm_steps.specs.Calls.{Call}
+use Rattle.nm_requests.specs.Calls.{Call}
 use Rattle.nm_steps.specs.Faults.{TraceContents, trace_of}
 use Rattle.nm_steps.specs.declared.trace_error.TraceError.{TraceError}
 use Rattle.nm_steps.specs.declared.trace_error.TraceError.TheVariants.{NotJson, BadMachine, BadStep, ReadFault, WriteFault, HostMemory}
@@ -31,7 +31,7 @@ IsBad (HostMemory k) = ⊥
 abbrev pub IsReport : List ℕ → List ℕ → Type 0
 IsReport trace text = (plan : TraceContents) × (trace_of trace ≡ Ok plan) × (text ≡ report_of plan)
 
--- the report on a trace is told; or nothing is, for a fault, which is that of the bytes if it is one of bytes
+-- the report on a trace is written; or nothing is, for a fault, which is that of the bytes if it is one of bytes
 abbrev pub ReportsTrace : List ℕ → ℤ → List ℕ → List ℕ → ℕ → ℕ → Type 0
 ReportsTrace trace status old new before needed =
     ((text : List ℕ) × IsReport trace text × FillsRoom text status old new needed)
@@ -59,7 +59,7 @@ LeavesStep ReadFault old step new = ⊥
 LeavesStep WriteFault old step new = ⊥
 LeavesStep (HostMemory k) old step new = StopsShort old.session step new.session
 
--- a step is made and its lines are told; or nothing is, for a fault, and the lines of the step before are kept
+-- a step is made and its lines are written; or nothing is, for a fault, and the lines of the step before are kept
 abbrev pub MakesSteps : List ℕ → List ℕ → List ℕ → ℕ → ℕ → ℤ → OpenSession → OpenSession → Type 0
 MakesSteps step before after needed_before needed status old new =
     (IsStep old step new × FillsRoom new.lines.items status before after needed)

@@ -1,7 +1,7 @@
 //! Calls on a session's system, by the caller alone.
 
 ghost use Rattle.std.specs.Prelude.{◌≡◌};
-ghost use Rattle.nm_steps.specs.Views.{call_of};
+ghost use Rattle.nm_requests.specs.Views.{call_of};
 ghost use Rattle.nm_library.specs.Calls.{error_status, Completes, OfSession};
 
 use crate::handle::{Handle, OpenSession};
@@ -23,7 +23,7 @@ pub fn status_for(error: CallError) -> i32
     }
 }
 
-/// Makes a call, and tells how it ended.
+/// Makes a call, and returns how it ended.
 pub fn make(kept: &mut OpenSession, call: &Call<Global>) -> i32
     ensures { Completes (call_of call.now) result kept.old kept.new }
 {

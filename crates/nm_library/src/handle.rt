@@ -27,7 +27,7 @@ pub struct Handle {
 
 impl Model for Handle {
     ghost use Rattle.nm_library.specs.Held.{session_cell};
-    ghost use Rattle.nm_library.specs.contracts.handle.Kept.{the_row};
+    ghost use Rattle.nm_library.specs.contracts.handle.OpenSession.{the_row};
 
     ghost also_owns = { λ h. session_cell the_row h.alloc h.at h.value };
 }

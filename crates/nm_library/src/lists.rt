@@ -26,7 +26,13 @@ fn numbers_of(alloc: Global, frames: &[FrameId]) -> Result<Vec<u16>, AllocError>
 }
 
 /// Tells the free frames of a node.
-fn free_list(alloc: Global, kept: &OpenSession, node: u32, frames: &mut [u16], needed: &mut usize) -> i32
+fn free_list(
+    alloc: Global,
+    kept: &OpenSession,
+    node: u32,
+    frames: &mut [u16],
+    needed: &mut usize,
+) -> i32
     ensures { ListsFree node frames.old frames.new needed.old needed.new result kept.now }
 {
     match kept.session.system().free_list(NodeId::new(node)) {
@@ -74,7 +80,13 @@ fn entries_of(alloc: Global, mapped: &[PagemapEntry]) -> Result<Vec<Entry>, Allo
 }
 
 /// Tells the entries of a process.
-fn pagemap(alloc: Global, kept: &OpenSession, pid: u32, entries: &mut [Entry], needed: &mut usize) -> i32
+fn pagemap(
+    alloc: Global,
+    kept: &OpenSession,
+    pid: u32,
+    entries: &mut [Entry],
+    needed: &mut usize,
+) -> i32
     ensures { ListsEntries pid entries.old entries.new needed.old needed.new result kept.now }
 {
     match kept.session.system().pagemap(Pid::new(pid)) {
@@ -123,7 +135,13 @@ fn text_of(alloc: Global, lines: &[String]) -> Result<Vec<u8>, AllocError>
 }
 
 /// Tells the areas of a process as text.
-fn numa_maps(alloc: Global, kept: &OpenSession, pid: u32, text: &mut [u8], needed: &mut usize) -> i32
+fn numa_maps(
+    alloc: Global,
+    kept: &OpenSession,
+    pid: u32,
+    text: &mut [u8],
+    needed: &mut usize,
+) -> i32
     ensures { ListsAreas pid text.old text.new needed.old needed.new result kept.now }
 {
     match kept.session.system().numa_maps(Pid::new(pid)) {

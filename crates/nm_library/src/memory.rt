@@ -1,7 +1,7 @@
 //! Reads and writes, pins, and nodes that come and go.
 
 ghost use Rattle.std.specs.Prelude.{◌≡◌, pos};
-ghost use Rattle.nm_steps.specs.Calls.{Pin, Unpin, Offline, Online};
+ghost use Rattle.nm_requests.specs.Calls.{Pin, Unpin, Offline, Online};
 ghost use Rattle.nm_library.specs.Calls.{Completes, OfSession, Reads, WritesBytes};
 
 use crate::calls::{make_on, status_for};

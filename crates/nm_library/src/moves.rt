@@ -2,8 +2,8 @@
 
 ghost use Rattle.std.specs.Prelude.{◌≡◌, ◌≢◌, ◌⊎◌, [], pos, length, IfOk};
 ghost use Rattle.nm_types.specs.Nodes.{members};
-ghost use Rattle.nm_steps.specs.Calls.{MovePages, MigratePages, Mbind, Query};
-ghost use Rattle.nm_steps.specs.Views.{migrate_call, move_call};
+ghost use Rattle.nm_requests.specs.Calls.{MovePages, MigratePages, Mbind, Query};
+ghost use Rattle.nm_requests.specs.Views.{migrate_call, move_call};
 ghost use Rattle.nm_library.specs.Calls.{Completes, LooksOnly, Migrates, MovesPages, MovesListed, OfSession, Queries};
 
 use crate::calls::{make_on, status_for};
@@ -145,7 +145,13 @@ pub extern "C" fn numatrace_move_pages(
 }
 
 /// Asks where pages are.
-fn query(alloc: Global, kept: &OpenSession, asking: &Asking, pages: &[u64], statuses: &mut [i32]) -> i32
+fn query(
+    alloc: Global,
+    kept: &OpenSession,
+    asking: &Asking,
+    pages: &[u64],
+    statuses: &mut [i32],
+) -> i32
     ensures { Queries (Query asking.now.caller asking.now.pid pages.now asking.now.flags)
         statuses.old statuses.new result kept.now }
 {

@@ -9,7 +9,7 @@ use crate::handle::OpenSession;
 use crate::rooms::tell;
 use crate::status;
 use nm_crew::Alone;
-use nm_trace::{Session, TraceError, Watched, run_trace};
+use nm_trace::{Session, TraceError, WatchedStream, run_trace};
 use std::alloc::Global;
 
 /// The report on a trace.
@@ -18,7 +18,7 @@ pub fn report_on(alloc: Global, trace: &[u8]) -> Result<Vec<u8>, TraceError>
     ensures bad { IfErr result (λ fault. IsBad fault → trace_of trace.now ≡ Err fault) }
 {
     let mut reader = trace;
-    let mut writer = Watched::new(Vec::new(alloc));
+    let mut writer = WatchedStream::new(Vec::new(alloc));
     run_trace(&Alone, alloc, alloc, &mut reader, &mut writer)?;
     Ok(writer.into_inner())
 }
@@ -47,7 +47,7 @@ pub fn step(alloc: Global, kept: &mut OpenSession, step: &[u8]) -> Result<(), Tr
     Ok(())
 }
 
-/// Makes a step, keeps its lines, and tells them.
+/// Makes a step, keeps its lines, and writes them.
 pub fn step_told(
     alloc: Global,
     kept: &mut OpenSession,

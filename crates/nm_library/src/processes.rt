@@ -2,8 +2,8 @@
 
 ghost use Rattle.std.specs.Prelude.{◌≡◌, pos};
 ghost use Rattle.nm_types.specs.Nodes.{members};
-ghost use Rattle.nm_steps.specs.Calls.{Spawn, Exit, MapPages, Attach, Unmap};
-ghost use Rattle.nm_steps.specs.Views.{map_call};
+ghost use Rattle.nm_requests.specs.Calls.{Spawn, Exit, MapPages, Attach, Unmap};
+ghost use Rattle.nm_requests.specs.Views.{map_call};
 ghost use Rattle.nm_library.specs.Calls.{Completes, Maps, OfSession};
 
 use crate::calls::{make_on, status_for};

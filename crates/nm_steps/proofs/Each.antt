@@ -5,7 +5,7 @@ use Rattle.serde_json.specs.Data.{Data}
 use Rattle.nm_steps.specs.Tree.{items_seen}
 use Rattle.nm_steps.specs.declared.step_error.StepError.{StepError}
 use Rattle.nm_steps.specs.declared.step_error.StepError.TheVariants.{Bad, Memory}
-use Rattle.nm_steps.specs.Calls.{Call}
+use Rattle.nm_requests.specs.Calls.{Call}
 use Rattle.nm_steps.specs.Form.{◌>>=◌, each, step_of}
 use Rattle.nm_steps.specs.Faults.{first_bad}
 use Rattle.nm_steps.specs.Memory.{starts, begins}

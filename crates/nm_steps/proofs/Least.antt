@@ -1,7 +1,7 @@
 -- The first item that is no step.
 use Rattle.std.proofs.Common.{◌≡◌, ℕ, zero, suc, ◌<◌, List, ◌∷◌, Option, Some, None, IsSome, is_some, if◌then◌else◌, refl, arith}
 use Rattle.serde_json.specs.Data.{Data, Items, no_items, item}
-use Rattle.nm_steps.specs.Calls.{Call}
+use Rattle.nm_requests.specs.Calls.{Call}
 use Rattle.nm_steps.specs.Form.{◌>>=◌, each, step_of}
 use Rattle.nm_steps.specs.Faults.{first_bad}
 use Rattle.nm_steps.specs.Laws.{item_at, FirstBadIsLeast}

@@ -1,5 +1,3 @@
-pub mod Calls
-pub mod Views
 pub mod Tree
 pub mod Form
 pub mod Gives

@@ -1,6 +1,6 @@
 -- What a trace in memory asks for.
 use Rattle.std.specs.Prelude.{map}
-use Rattle.nm_steps.specs.Views.{call_of}
+use Rattle.nm_requests.specs.Views.{call_of}
 use Rattle.nm_steps.specs.declared.trace.Trace.{Trace}
 use Rattle.nm_steps.specs.Faults.{TraceContents}
 

@@ -1,7 +1,6 @@
-//! The calls of a system as values, and traces: which bytes are which calls.
+//! Traces: which bytes are which calls, and which fault they have where they are none.
 #![tactic(auto)]
 
-mod call;
 mod json_value;
 mod keys;
 pub mod laws;
@@ -13,10 +12,6 @@ mod trace;
 mod trace_error;
 mod tree;
 
-pub use call::{
-    Attachment, Batch, Call, InFlight, MbindRequest, MigrateRequest, MoveRequest, NewArea,
-    NewProcess, Question,
-};
 pub use json_value::JsonValue;
 pub use parsing::step_of;
 pub use reading::{geometry_of, read_trace, run_limit_of, value_of};

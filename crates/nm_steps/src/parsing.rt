@@ -3,21 +3,21 @@
 ghost use Rattle.std.specs.Prelude.{◌≡◌, ◌<◌, ◌++◌, ◌∷◌, [], true, option_map, OnOk, IfErr, codes};
 ghost use Rattle.nm_steps.specs.Tree.{items_seen};
 ghost use Rattle.nm_model.specs.views.Asked.{access_shown};
-ghost use Rattle.nm_steps.specs.Calls as calls;
+ghost use Rattle.nm_requests.specs.Calls as calls;
 ghost use Rattle.nm_steps.specs.Form.{small_at, place_at};
 ghost use Rattle.nm_steps.specs.Form as form;
-ghost use Rattle.nm_steps.specs.Views.{call_of, shown_during};
+ghost use Rattle.nm_requests.specs.Views.{call_of, shown_during};
 ghost use Rattle.nm_steps.specs.Gives.{GivesStep};
 ghost use Rattle.nm_steps.specs.Memory.{takes_memory, access_takes_memory, batch_starts, begins, begins_at, flight_asks, move_takes_memory, names_run, query_takes_memory, write_has_pairs};
 ghost use Rattle.nm_steps.specs.declared.step_error.StepError.TheVariants.{Bad, Memory};
 
-use crate::call::{
-    Attachment, Batch, Call, InFlight, MbindRequest, MigrateRequest, MoveRequest, NewArea,
-    NewProcess, Question,
-};
 use crate::json_value::JsonValue;
 use crate::keys::{flag, hex, number, numbers, set, small_number, small_numbers, text};
 use crate::step_error::StepError;
+use nm_requests::{
+    Attachment, Batch, Call, InFlight, MbindRequest, MigrateRequest, MoveRequest, NewArea,
+    NewProcess, Question,
+};
 use nm_runs::run_count;
 use nm_types::limits::MAX_BATCH;
 use nm_types::{Access, NodeId, Pid};
@@ -72,7 +72,7 @@ fn access_named<A: Allocator + Copy + Send + Sync, V: JsonValue>(
 }
 
 /// An access in flight, whose run is below `runs`.
-#[tactic(auto, unfolding(crate::specs::Form::in_flight))]
+#[tactic(auto, unfolding(crate::specs::Form::during_of))]
 fn in_flight<A: Allocator + Copy + Send + Sync, V: JsonValue>(
     alloc: A,
     value: &V,
@@ -444,7 +444,7 @@ fn numa_maps<A: Allocator + Copy + Send + Sync, V: JsonValue>(
     })
 }
 
-#[tactic(auto, unfolding(crate::specs::Form::named))]
+#[tactic(auto, unfolding(crate::specs::Form::step_named))]
 fn step_named<A: Allocator + Copy + Send + Sync, V: JsonValue>(
     alloc: A,
     op: &str,

@@ -1,8 +1,8 @@
 //! Reading a trace from bytes.
 
 ghost use Rattle.std.specs.Prelude.{map, ◌≡◌, ◌⊎◌, ◌<◌, ◌≤◌, ◌^◌, [], ◌∷◌, ◌++◌, length, true, IfOk, OnOk, IfErr, codes};
-ghost use Rattle.nm_steps.specs.Calls.{default_limit};
-ghost use Rattle.nm_steps.specs.Views.{call_of};
+ghost use Rattle.nm_requests.specs.Calls.{default_limit};
+ghost use Rattle.nm_requests.specs.Views.{call_of};
 ghost use Rattle.std.specs.Option.{ok_or};
 ghost use Rattle.std.specs.Str.{is_utf8};
 ghost use Rattle.json.specs.Scratch.{room};
@@ -18,7 +18,6 @@ ghost use Rattle.nm_steps.specs.Gives as of_step;
 ghost use Rattle.nm_steps.specs.Memory.{IsSomeText, NeedsMemory, begins, has_items, machine_takes_memory, row_asks, starts, starts_at, step_asks, steps_take_memory};
 ghost use Rattle.serde_json.specs.Find.{as_array};
 
-use crate::call::Call;
 use crate::json_value::JsonValue;
 use crate::keys::{list, number, small_numbers};
 use crate::parsing::step_of;
@@ -27,6 +26,7 @@ use crate::trace::Trace;
 use crate::trace_error::TraceError;
 use crate::tree;
 use json::{Scratch, Value};
+use nm_requests::Call;
 use nm_types::Geometry;
 use nm_types::limits::MAX_BATCH;
 use std::alloc::{Allocator, Global};

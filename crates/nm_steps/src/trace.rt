@@ -1,9 +1,9 @@
 //! Traces in memory.
 
 ghost use Rattle.std.specs.Prelude.{◌<◌, ◌≤◌};
-ghost use Rattle.nm_steps.specs.Calls.{default_limit};
+ghost use Rattle.nm_requests.specs.Calls.{default_limit};
 
-use crate::call::Call;
+use nm_requests::Call;
 use nm_types::Geometry;
 use std::alloc::Allocator;
 

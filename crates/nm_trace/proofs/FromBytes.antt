@@ -2,14 +2,14 @@
 use Rattle.std.proofs.Common.{◌≡◌, ℕ, ◌<◌, ◌≤◌, Bool, List, [], ◌++◌, length, Option, IfSome, Result, Ok, Err, refl, sym, ap, ◌∙◌, subst, append_assoc}
 use Rattle.std.proofs.lemmas.Option.{slice_get_within}
 use Rattle.nm_calls.specs.definitions.Systems.{SystemState, system_with}
-use Rattle.nm_steps.specs.Calls.{Call}
+use Rattle.nm_requests.specs.Calls.{Call}
 use Rattle.nm_trace.specs.declared.playing.Summary.{Summary}
 use Rattle.nm_steps.specs.declared.trace_error.TraceError.{TraceError}
 use Rattle.nm_steps.specs.declared.trace_error.TraceError.TheVariants.{NotJson, BadMachine, BadStep, ReadFault, WriteFault, HostMemory}
 use Rattle.nm_steps.specs.Faults.{Fails, Gives, TraceContents, trace_of, trace_limit}
 use Rattle.nm_trace.specs.Headline.{Runs}
 use Rattle.nm_trace.specs.Played.{ComesTo, Plays}
-use Rattle.nm_trace.specs.Telling.{GivesTrace, IsTraceOf}
+use Rattle.nm_trace.specs.Reporting.{GivesTrace, IsTraceOf}
 use Rattle.nm_streams.proofs.Known.{appends_none}
 use Rattle.nm_trace.proofs.InParts.{report_front}
 

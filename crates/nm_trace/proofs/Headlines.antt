@@ -7,7 +7,7 @@ use Rattle.nm_model.specs.definitions.Memory.{mem}
 use Rattle.nm_model.specs.definitions.Sound.{IsSound, each_frame_is_once}
 use Rattle.nm_laws.proofs.Soundness.New.{new_sound}
 use Rattle.nm_laws.proofs.Soundness.Sounded.{sound_is_audited}
-use Rattle.nm_steps.specs.Calls.{Call}
+use Rattle.nm_requests.specs.Calls.{Call}
 use Rattle.nm_calls.specs.definitions.Outcome.{outcome}
 use Rattle.nm_calls.specs.definitions.Systems.{SystemState, system_with}
 use Rattle.nm_calls.proofs.CallLaws.BytesStay.{calls_keep_memory}

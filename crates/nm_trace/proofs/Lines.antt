@@ -9,8 +9,8 @@ use Rattle.nm_model.specs.definitions.Touch.{Access, AccessAnswer}
 use Rattle.nm_model.specs.views.Asked.{access_shown}
 use Rattle.nm_pool.specs.views.Accesses.{answer_shown}
 use Rattle.nm_pool.specs.declared.answers.AccessAnswer.{AccessAnswer as Given}
-use Rattle.nm_steps.specs.declared.call.InFlight.{InFlight}
-use Rattle.nm_steps.specs.Views.{shown_during}
+use Rattle.nm_requests.specs.declared.call.InFlight.{InFlight}
+use Rattle.nm_requests.specs.Views.{shown_during}
 use Rattle.nm_calls.specs.definitions.Outcome.{access_answer}
 use Rattle.nm_steps.specs.Form.{access_step}
 use Rattle.nm_trace.specs.Report.{word_of, answer_text, line_of, access_line, access_lines}

@@ -2,7 +2,7 @@
 use Rattle.std.specs.Prelude.{◌≡◌, [], ◌∷◌, ◌++◌, codes, false}
 use Rattle.nm_types.specs.declared.errno.Errno.TheVariants.{Enomem}
 use Rattle.nm_model.specs.definitions.Touch.{Read, Write, Bytes, Done, Held, Refused}
-use Rattle.nm_steps.specs.Calls.{Spawn, MapPages, WriteBytes, MovePages, FreeList, Pagemap}
+use Rattle.nm_requests.specs.Calls.{Spawn, MapPages, WriteBytes, MovePages, FreeList, Pagemap}
 use Rattle.nm_steps.specs.Faults.{TraceContents}
 use Rattle.nm_trace.specs.Report.{access_line, access_lines}
 use Rattle.nm_trace.specs.Played.{report_of}

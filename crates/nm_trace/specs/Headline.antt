@@ -4,7 +4,7 @@ use Rattle.std.specs.Io.KnownBytes.{Appends}
 use Rattle.nm_types.specs.Layout.{Layout}
 use Rattle.nm_model.specs.definitions.Memory.{mem}
 use Rattle.nm_model.specs.definitions.Sound.{IsSound, each_frame_is_once}
-use Rattle.nm_steps.specs.Calls.{Call}
+use Rattle.nm_requests.specs.Calls.{Call}
 use Rattle.nm_calls.specs.laws.Calls.{writes_or_maps, byte_after}
 use Rattle.nm_calls.specs.definitions.Outcome.{runs_of}
 use Rattle.nm_calls.specs.definitions.Systems.{SystemState, system_with}

@@ -1,6 +1,6 @@
 -- A worked report.
 use Rattle.std.specs.Prelude.{◌≡◌, [], ◌∷◌, ◌++◌, codes, false}
-use Rattle.nm_steps.specs.Calls.{Spawn, MapPages, ReadBytes, WriteBytes, MovePages, FreeList, Pagemap}
+use Rattle.nm_requests.specs.Calls.{Spawn, MapPages, ReadBytes, WriteBytes, MovePages, FreeList, Pagemap}
 use Rattle.nm_steps.specs.Faults.{TraceContents}
 use Rattle.nm_trace.specs.Played.{report_of}
 

@@ -3,5 +3,5 @@ pub mod Played
 pub mod Headline
 pub mod Laws
 pub mod Flights
-pub mod Telling
+pub mod Reporting
 pub mod Session

@@ -2,7 +2,7 @@
 use Rattle.std.specs.Prelude.{◌≡◌, ◌⊎◌, ℕ, ◌-◌, ◌≤◌, Bool, List, [], ◌++◌, length, take, slice_get, Option, Some, Result, Ok, Err}
 use Rattle.std.specs.Io.KnownBytes.{Appends}
 use Rattle.nm_calls.specs.definitions.Systems.{SystemState, system_with}
-use Rattle.nm_steps.specs.Calls.{Call}
+use Rattle.nm_requests.specs.Calls.{Call}
 use Rattle.nm_calls.specs.definitions.Does.{HostLeaves}
 use Rattle.nm_calls.specs.definitions.Memory.{MayAllocate}
 use Rattle.nm_trace.specs.declared.playing.Summary.{Summary}

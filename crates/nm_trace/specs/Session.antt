@@ -2,9 +2,9 @@
 use Rattle.std.specs.Prelude.{◌≡◌, ◌⊎◌, ℕ, ◌+◌, List, [], ◌∷◌, ◌++◌, Option, Some, None, Result, Ok, Err}
 use Rattle.std.specs.Option.{ok_or}
 use Rattle.serde_json.specs.Data.{Data}
-use Rattle.nm_steps.specs.Calls.{Call}
-use Rattle.nm_steps.specs.declared.call.Call.{Call as Made}
-use Rattle.nm_steps.specs.Views.{call_of}
+use Rattle.nm_requests.specs.Calls.{Call}
+use Rattle.nm_requests.specs.declared.call.Call.{Call as Made}
+use Rattle.nm_requests.specs.Views.{call_of}
 use Rattle.nm_calls.specs.definitions.Outcome.{outcome}
 use Rattle.nm_calls.specs.definitions.Systems.{SystemState, system_with}
 use Rattle.nm_steps.specs.declared.trace_error.TraceError.{TraceError}

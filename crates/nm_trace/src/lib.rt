@@ -9,7 +9,9 @@ mod text;
 
 pub use nm_calls::RunCrew;
 pub use nm_steps::{Trace, TraceError, read_trace};
-pub use nm_streams::{FlushingWriter, TellingReader, TellingWriter, WatchedStream, write_lines};
+pub use nm_streams::{
+    FlushingWriter, ReportingReader, ReportingWriter, WatchedStream, write_lines,
+};
 pub use playing::{Summary, play};
 pub use running::{FinishedTrace, TRACE_LIMIT, run_on, run_trace};
 pub use session::Session;

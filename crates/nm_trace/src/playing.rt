@@ -2,14 +2,14 @@
 
 ghost use Rattle.std.specs.Prelude.{◌≡◌, ◌||◌, OnErr, map};
 ghost use Rattle.nm_calls.specs.definitions.Memory.{MayAllocate};
-ghost use Rattle.nm_steps.specs.Views.{call_of};
+ghost use Rattle.nm_requests.specs.Views.{call_of};
 ghost use Rattle.nm_trace.specs.Played.{Plays, PutsLines};
-ghost use Rattle.nm_trace.specs.Telling.{is_write_fault};
+ghost use Rattle.nm_trace.specs.Reporting.{is_write_fault};
 
 use crate::text::{push_refusal, push_text};
 use nm_calls::{Call, CallError, RunCrew, System};
 use nm_steps::{Trace, TraceError};
-use nm_streams::{Block, TellingWriter};
+use nm_streams::{Block, ReportingWriter};
 use std::alloc::{AllocError, Allocator};
 
 /// Lines wait until there are this many bytes of them: writing each line to the system by itself would take longer than
@@ -25,7 +25,7 @@ pub struct Summary {
 
 /// Makes the call of step k, and puts its lines, even if it is refused. An error means that the host was out of memory
 /// for the call: then nothing was put.
-pub(crate) fn make_step<A: Allocator + Copy + Send + Sync, C: RunCrew<A>, W: TellingWriter>(
+pub(crate) fn make_step<A: Allocator + Copy + Send + Sync, C: RunCrew<A>, W: ReportingWriter>(
     crew: &C,
     system: &mut System<A>,
     k: usize,
@@ -51,7 +51,7 @@ pub(crate) fn make_step<A: Allocator + Copy + Send + Sync, C: RunCrew<A>, W: Tel
 }
 
 /// Makes calls, from step 0 on, and writes their lines a block at a time.
-pub(crate) fn play_calls<A: Allocator + Copy + Send + Sync, C: RunCrew<A>, W: TellingWriter>(
+pub(crate) fn play_calls<A: Allocator + Copy + Send + Sync, C: RunCrew<A>, W: ReportingWriter>(
     crew: &C,
     alloc: A,
     system: &mut System<A>,
@@ -87,7 +87,7 @@ pub(crate) fn play_calls<A: Allocator + Copy + Send + Sync, C: RunCrew<A>, W: Te
 /// `HostMemory(k)` if the host was out of memory in step k: the lines of the steps before it were written, and step k
 /// was made as far as its call says. The lines themselves need no memory. Which crew it is makes no
 /// difference to the report or to the system.
-pub fn play<A: Allocator + Copy + Send + Sync, C: RunCrew<A>, W: TellingWriter>(
+pub fn play<A: Allocator + Copy + Send + Sync, C: RunCrew<A>, W: ReportingWriter>(
     crew: &C,
     alloc: A,
     system: &mut System<A>,

@@ -5,19 +5,19 @@ ghost use Rattle.std.specs.Io.KnownBytes.{IsAtEnd};
 ghost use Rattle.nm_steps.specs.Faults.{TraceContents, trace_limit};
 ghost use Rattle.nm_trace.specs.Headline.{IsPlayed, PlaysWhole, Runs};
 ghost use Rattle.nm_trace.specs.Played.{ComesTo};
-ghost use Rattle.nm_trace.specs.Telling.{GivesTrace, IsTraceOf, is_write_fault};
+ghost use Rattle.nm_trace.specs.Reporting.{GivesTrace, IsTraceOf, is_write_fault};
 
 use crate::playing::{Summary, play_calls};
 use nm_calls::{RunCrew, System};
 use nm_steps::{Trace, TraceError, read_trace};
-use nm_streams::{ReadError, TellingReader, TellingWriter, read_all};
+use nm_streams::{ReadError, ReportingReader, ReportingWriter, read_all};
 use std::alloc::{Allocator, Global};
 
 /// The most bytes that a trace may have.
 pub const TRACE_LIMIT: usize = 16_777_216;
 
 /// All bytes of a reader, if they are no more than a trace may have.
-fn read_bytes<A: Allocator + Copy, R: TellingReader>(
+fn read_bytes<A: Allocator + Copy, R: ReportingReader>(
     alloc: A,
     reader: &mut R,
 ) -> Result<Vec<u8, A>, TraceError>
@@ -50,7 +50,7 @@ pub struct FinishedTrace<A: Allocator + Copy + Send + Sync> {
 }
 
 /// Checks all bytes of a trace, and then plays it on a new system.
-fn run_bytes<A: Allocator + Copy + Send + Sync, C: RunCrew<A>, W: TellingWriter>(
+fn run_bytes<A: Allocator + Copy + Send + Sync, C: RunCrew<A>, W: ReportingWriter>(
     crew: &C,
     alloc: A,
     heap: Global,
@@ -85,7 +85,12 @@ fn run_bytes<A: Allocator + Copy + Send + Sync, C: RunCrew<A>, W: TellingWriter>
 /// What it promises is what `run_trace` does, of the system that it returns. With a fault, it also says how far the play
 /// came: at most 65,536 bytes of lines before the last step that was made were not written, and memory was refused in a
 /// step that asks for some.
-pub fn run_on<A: Allocator + Copy + Send + Sync, C: RunCrew<A>, R: TellingReader, W: TellingWriter>(
+pub fn run_on<
+    A: Allocator + Copy + Send + Sync,
+    C: RunCrew<A>,
+    R: ReportingReader,
+    W: ReportingWriter,
+>(
     crew: &C,
     alloc: A,
     heap: Global,
@@ -119,8 +124,8 @@ pub fn run_on<A: Allocator + Copy + Send + Sync, C: RunCrew<A>, R: TellingReader
 pub fn run_trace<
     A: Allocator + Copy + Send + Sync,
     C: RunCrew<A>,
-    R: TellingReader,
-    W: TellingWriter,
+    R: ReportingReader,
+    W: ReportingWriter,
 >(crew: &C, alloc: A, heap: Global, reader: &mut R, writer: &mut W) -> Result<Summary, TraceError>
     // The reader gives a trace, which is played to the writer
     ensures runs { (trace : Result TraceContents TraceError)

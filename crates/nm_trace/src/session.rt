@@ -64,7 +64,7 @@ impl<A: Allocator + Copy + Send + Sync> Session<A> {
     /// Begins a session with the machine and the limit on runs at the top of a trace. Reads the
     /// top as `read_trace` does, except that `steps` is not looked at, and may be missing. Faults, in order: `NotJson`,
     /// `BadMachine`; `HostMemory(0)` if the host is out of memory: never for bytes that are not UTF-8.
-    #[tactic(auto, unfolding(crate::specs::Session::opened, crate::specs::Session::begun))]
+    #[tactic(auto, unfolding(crate::specs::Session::session_of, crate::specs::Session::new_session))]
     pub fn open(alloc: A, heap: Global, bytes: &[u8]) -> Result<Self, TraceError>
         ensures session { Gives (λ s. s) result (session_of bytes.now) }
         ensures allocates { result ≡ Err (HostMemory 0) → IsSomeText bytes.now }
@@ -88,7 +88,7 @@ impl<A: Allocator + Copy + Send + Sync> Session<A> {
     /// step with its line. `NotJson`, or `BadStep` with the step's number, if the bytes are no step: nothing has
     /// changed. `HostMemory` with the step's number if the host is out of memory: the step is not counted, but its call
     /// may have been made in part, as the call says, or whole and without its lines.
-    #[tactic(auto, unfolding(crate::specs::Session::asked))]
+    #[tactic(auto, unfolding(crate::specs::Session::next_call))]
     pub fn step<C: RunCrew<A>>(
         &mut self,
         crew: &C,

@@ -9,7 +9,7 @@ ghost use Rattle.nm_calls.specs.definitions.Answers.{Refusal};
 ghost use Rattle.nm_calls.specs.definitions.Maps.{lines_shown};
 ghost use Rattle.nm_calls.specs.definitions.Outcome.{accesses_asked, access_answer};
 ghost use Rattle.nm_steps.specs.Form.{access_step};
-ghost use Rattle.nm_steps.specs.Views.{call_of, shown_during};
+ghost use Rattle.nm_requests.specs.Views.{call_of, shown_during};
 ghost use Rattle.nm_calls.specs.views.Answers.{answer_of};
 ghost use Rattle.nm_trace.specs.Report.{word_of, each_after_space, entry_text, answer_text, line_of, text_of, access_lines, answers_in, access_line};
 ghost use Rattle.nm_streams.specs.Waiting.{Puts};
@@ -20,11 +20,11 @@ use nm_calls::{
     ADDRESS_BYTES, Access, AccessAnswer, Answer, Call, InFlight, PagemapEntry, Totals,
     address_bytes,
 };
-use nm_streams::{Block, TellingWriter};
+use nm_streams::{Block, ReportingWriter};
 use nm_types::{Errno, FrameId};
 use std::alloc::Allocator;
 
-/// How many bytes are told at once.
+/// How many bytes are printed at a time.
 const PIECE_BYTES: usize = 256;
 
 /// The word for a call.
@@ -55,7 +55,7 @@ fn word<A: Allocator + Copy + Send + Sync>(call: &Call<A>) -> &'static str
 }
 
 /// Puts a number.
-fn push_number<W: TellingWriter, A: Allocator>(block: &mut Block<A>, writer: &mut W, number: u64)
+fn push_number<W: ReportingWriter, A: Allocator>(block: &mut Block<A>, writer: &mut W, number: u64)
     ensures { Puts W.contents W.has_failed writer.old block.old writer.new block.new
         (decimal number) }
 {
@@ -64,7 +64,7 @@ fn push_number<W: TellingWriter, A: Allocator>(block: &mut Block<A>, writer: &mu
 }
 
 /// Puts each frame after a space.
-fn push_frames<W: TellingWriter, A: Allocator>(
+fn push_frames<W: ReportingWriter, A: Allocator>(
     block: &mut Block<A>,
     writer: &mut W,
     frames: &[FrameId],
@@ -80,7 +80,7 @@ fn push_frames<W: TellingWriter, A: Allocator>(
 }
 
 /// Puts each status after a space.
-fn push_statuses<W: TellingWriter, A: Allocator>(
+fn push_statuses<W: ReportingWriter, A: Allocator>(
     block: &mut Block<A>,
     writer: &mut W,
     statuses: &[i32],
@@ -96,7 +96,7 @@ fn push_statuses<W: TellingWriter, A: Allocator>(
 }
 
 /// Puts the number of a frame, or that there is none.
-fn push_frame<W: TellingWriter, A: Allocator>(
+fn push_frame<W: ReportingWriter, A: Allocator>(
     block: &mut Block<A>,
     writer: &mut W,
     frame: Option<FrameId>,
@@ -114,7 +114,7 @@ fn push_frame<W: TellingWriter, A: Allocator>(
 }
 
 /// Puts an entry after a space.
-fn push_entry<W: TellingWriter, A: Allocator>(
+fn push_entry<W: ReportingWriter, A: Allocator>(
     block: &mut Block<A>,
     writer: &mut W,
     entry: &PagemapEntry,
@@ -130,7 +130,7 @@ fn push_entry<W: TellingWriter, A: Allocator>(
 }
 
 /// Puts each entry after a space.
-fn push_entries<W: TellingWriter, A: Allocator>(
+fn push_entries<W: ReportingWriter, A: Allocator>(
     block: &mut Block<A>,
     writer: &mut W,
     entries: &[PagemapEntry],
@@ -144,7 +144,7 @@ fn push_entries<W: TellingWriter, A: Allocator>(
 }
 
 /// Puts a number and a colon.
-fn push_count<W: TellingWriter, A: Allocator>(block: &mut Block<A>, writer: &mut W, count: usize)
+fn push_count<W: ReportingWriter, A: Allocator>(block: &mut Block<A>, writer: &mut W, count: usize)
     ensures { Puts W.contents W.has_failed writer.old block.old writer.new block.new
         (decimal count ++ codes ":") }
 {
@@ -154,7 +154,11 @@ fn push_count<W: TellingWriter, A: Allocator>(block: &mut Block<A>, writer: &mut
 }
 
 /// Puts the two totals, each after its name.
-fn push_totals<W: TellingWriter, A: Allocator>(block: &mut Block<A>, writer: &mut W, totals: Totals)
+fn push_totals<W: ReportingWriter, A: Allocator>(
+    block: &mut Block<A>,
+    writer: &mut W,
+    totals: Totals,
+)
     ensures { Puts W.contents W.has_failed writer.old block.old writer.new block.new
         ((codes "pgmigrate_success " ++ decimal totals.moved)
         ++ (codes " pgmigrate_fail " ++ decimal totals.failed)) }
@@ -166,7 +170,7 @@ fn push_totals<W: TellingWriter, A: Allocator>(block: &mut Block<A>, writer: &mu
 }
 
 /// Puts each line after a line feed.
-fn push_lines<W: TellingWriter, A: Allocator>(
+fn push_lines<W: ReportingWriter, A: Allocator>(
     block: &mut Block<A>,
     writer: &mut W,
     lines: &[String<A>],
@@ -191,7 +195,7 @@ fn hex_of<'a>(bytes: &[u8], digits: &'a mut [u8; 2 * PIECE_BYTES]) -> &'a [u8]
 }
 
 /// Puts bytes as hexadecimal digits.
-fn push_bytes<W: TellingWriter, A: Allocator>(block: &mut Block<A>, writer: &mut W, bytes: &[u8])
+fn push_bytes<W: ReportingWriter, A: Allocator>(block: &mut Block<A>, writer: &mut W, bytes: &[u8])
     ensures { Puts W.contents W.has_failed writer.old block.old writer.new block.new
         (encode_lower bytes.now) }
 {
@@ -207,7 +211,7 @@ fn push_bytes<W: TellingWriter, A: Allocator>(block: &mut Block<A>, writer: &mut
 
 /// Puts an answer.
 #[tactic(auto, unfolding(crate::specs::Report::answer_text))]
-fn push_answer<W: TellingWriter, A: Allocator + Copy + Send + Sync>(
+fn push_answer<W: ReportingWriter, A: Allocator + Copy + Send + Sync>(
     block: &mut Block<A>,
     writer: &mut W,
     answer: &Answer<A>,
@@ -244,7 +248,7 @@ fn push_answer<W: TellingWriter, A: Allocator + Copy + Send + Sync>(
 }
 
 /// Puts the front of a step's line: its number and its word, each followed by a space.
-fn push_front<W: TellingWriter, A: Allocator + Copy + Send + Sync>(
+fn push_front<W: ReportingWriter, A: Allocator + Copy + Send + Sync>(
     block: &mut Block<A>,
     writer: &mut W,
     k: usize,
@@ -262,7 +266,7 @@ fn push_front<W: TellingWriter, A: Allocator + Copy + Send + Sync>(
 
 /// Puts the line of step k, whose call was not refused, and then those of an answer of several lines.
 #[tactic(auto, unfolding(crate::specs::Report::line_of))]
-fn push_line<W: TellingWriter, A: Allocator + Copy + Send + Sync>(
+fn push_line<W: ReportingWriter, A: Allocator + Copy + Send + Sync>(
     block: &mut Block<A>,
     writer: &mut W,
     k: usize,
@@ -289,7 +293,7 @@ fn access_word<A: Allocator + Copy>(access: &Access<A>) -> &'static str
 
 /// Puts the answer to an access.
 #[tactic(auto, unfolding(crate::specs::Report::answer_text))]
-fn push_access_answer<W: TellingWriter, A: Allocator + Copy>(
+fn push_access_answer<W: ReportingWriter, A: Allocator + Copy>(
     block: &mut Block<A>,
     writer: &mut W,
     answer: &AccessAnswer<A>,
@@ -309,7 +313,7 @@ fn push_access_answer<W: TellingWriter, A: Allocator + Copy>(
 }
 
 /// Puts the front of the line of access j of a step: both numbers and the word of the access, followed by a space.
-fn push_access_front<W: TellingWriter, A: Allocator + Copy>(
+fn push_access_front<W: ReportingWriter, A: Allocator + Copy>(
     block: &mut Block<A>,
     writer: &mut W,
     step: usize,
@@ -331,7 +335,7 @@ fn push_access_front<W: TellingWriter, A: Allocator + Copy>(
 
 /// Puts the line of access j of step k.
 #[tactic(auto, unfolding(crate::specs::Report::access_line))]
-fn push_access<W: TellingWriter, A: Allocator + Copy>(
+fn push_access<W: ReportingWriter, A: Allocator + Copy>(
     block: &mut Block<A>,
     writer: &mut W,
     k: usize,
@@ -348,7 +352,7 @@ fn push_access<W: TellingWriter, A: Allocator + Copy>(
 }
 
 /// Puts the lines of the accesses of step k, one after another, each with the answer at its place.
-fn push_accesses<W: TellingWriter, A: Allocator + Copy + Send + Sync>(
+fn push_accesses<W: ReportingWriter, A: Allocator + Copy + Send + Sync>(
     block: &mut Block<A>,
     writer: &mut W,
     k: usize,
@@ -368,7 +372,7 @@ fn push_accesses<W: TellingWriter, A: Allocator + Copy + Send + Sync>(
 
 /// Puts the lines of the accesses of step k that were made while pages moved.
 #[tactic(auto, unfolding(nm_calls::specs::definitions::Outcome::accesses_asked))]
-fn push_flights<W: TellingWriter, A: Allocator + Copy + Send + Sync>(
+fn push_flights<W: ReportingWriter, A: Allocator + Copy + Send + Sync>(
     block: &mut Block<A>,
     writer: &mut W,
     k: usize,
@@ -393,7 +397,7 @@ fn push_flights<W: TellingWriter, A: Allocator + Copy + Send + Sync>(
 /// Puts the lines of step k, whose call was not refused: its own, and those of the accesses that were made while pages
 /// moved.
 #[tactic(auto, unfolding(crate::specs::Report::text_of))]
-pub(crate) fn push_text<W: TellingWriter, A: Allocator + Copy + Send + Sync>(
+pub(crate) fn push_text<W: ReportingWriter, A: Allocator + Copy + Send + Sync>(
     block: &mut Block<A>,
     writer: &mut W,
     k: usize,
@@ -409,7 +413,7 @@ pub(crate) fn push_text<W: TellingWriter, A: Allocator + Copy + Send + Sync>(
 
 /// Puts the line of step k, whose call was refused.
 #[tactic(auto, unfolding(crate::specs::Report::text_of, crate::specs::Report::line_of, crate::specs::Report::answer_text))]
-pub(crate) fn push_refusal<W: TellingWriter, A: Allocator + Copy + Send + Sync>(
+pub(crate) fn push_refusal<W: ReportingWriter, A: Allocator + Copy + Send + Sync>(
     block: &mut Block<A>,
     writer: &mut W,
     k: usize,

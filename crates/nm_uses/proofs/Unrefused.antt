@@ -3,9 +3,9 @@ use Rattle.std.proofs.Common.{◌≡◌, ℕ, ℤ, List, [], ◌∷◌, Bool, tr
 use Rattle.std.specs.Prelude.{IfErr}
 use Rattle.nm_model.specs.definitions.Memory.{mem}
 use Rattle.nm_model.specs.definitions.Status.{node_status}
-use Rattle.nm_steps.specs.Calls.{Call}
-use Rattle.nm_calls.specs.declared.call_error.CallError.{CallError}
-use Rattle.nm_calls.specs.declared.call_error.CallError.TheVariants.{Refused, HostMemory}
+use Rattle.nm_requests.specs.Calls.{Call}
+use Rattle.nm_passes.specs.declared.call_error.CallError.{CallError}
+use Rattle.nm_passes.specs.declared.call_error.CallError.TheVariants.{Refused, HostMemory}
 use Rattle.nm_calls.specs.definitions.Answers.{Answer, Refusal, Done, Held, NewSegment, TheBytes, Statuses, Failed, Frames, Entries, TheTotals, Lines}
 use Rattle.nm_calls.specs.definitions.Does.{Does}
 use Rattle.nm_calls.specs.definitions.Outcome.{Outcome, outcome, refusal_of, end_of_call, runs_asked, accesses_asked, start}

@@ -1,9 +1,9 @@
 -- A machine, and the calls by which a page moves.
 use Rattle.std.specs.Prelude.{false, [], ◌∷◌}
 use Rattle.nm_types.specs.Layout.{Layout}
-use Rattle.nm_steps.specs.Calls.{Call, Spawn, MapPages, ReadBytes, WriteBytes, MovePages, Query}
-use Rattle.nm_calls.specs.declared.call_error.CallError.{CallError}
-use Rattle.nm_calls.specs.declared.call_error.CallError.TheVariants.{Refused, HostMemory}
+use Rattle.nm_requests.specs.Calls.{Call, Spawn, MapPages, ReadBytes, WriteBytes, MovePages, Query}
+use Rattle.nm_passes.specs.declared.call_error.CallError.{CallError}
+use Rattle.nm_passes.specs.declared.call_error.CallError.TheVariants.{Refused, HostMemory}
 use Rattle.nm_calls.specs.definitions.Outcome.{outcome}
 use Rattle.nm_calls.specs.definitions.Systems.{SystemState, new_system}
 

@@ -14,7 +14,7 @@ mod values;
 
 use making::make_trace;
 use moving::page_moved;
-use nm_trace::{Trace, TraceError, Watched};
+use nm_trace::{Trace, TraceError, WatchedStream};
 use std::alloc::Global;
 use std::io::{Read, Write};
 use std::process::ExitCode;
@@ -56,7 +56,7 @@ fn main(rt: HostRuntime) -> ExitCode {
     if rt.stdin().read_to_end(&mut bytes).is_err() {
         return ExitCode::FAILURE;
     }
-    let mut out = Watched::new(rt.stdout());
+    let mut out = WatchedStream::new(rt.stdout());
     if bytes.is_empty() && !use_calls(heap, &mut out, &mut rt.stderr()) {
         return ExitCode::FAILURE;
     }

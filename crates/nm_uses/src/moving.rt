@@ -9,8 +9,8 @@ ghost use Rattle.nm_uses.specs.Moving.{after_map, after_move, after_spawn, nodes
 use nm_calls::{CallError, Question, System};
 use nm_crew::Alone;
 use nm_frames::CopyJob;
+use nm_requests::{Batch, MoveRequest, NewArea, NewProcess};
 use nm_spaces::AddressSpaces;
-use nm_steps::{Batch, MoveRequest, NewArea, NewProcess};
 use nm_types::{Geometry, NodeId, NodeMask, Pid};
 use std::alloc::{AllocError, Global};
 use std::marker::PhantomData;
@@ -123,7 +123,7 @@ fn move_page(heap: Global, system: &mut System<Global>) -> Result<(), CallError>
     move_there(heap, system)
 }
 
-/// The node of the page, as move_pages(2) without nodes tells it, and the byte there.
+/// The node of the page, as move_pages(2) without nodes answers, and the byte there.
 fn look(heap: Global, system: &mut System<Global>) -> Result<(Vec<i32>, Vec<u8>), CallError>
     requires { system.old ≡ after_move }
     ensures found { IfOk result (λ seen. (seen.0.items ≡ pos 1 ∷ []) × (seen.1.items ≡ 97 ∷ [])) }

@@ -12,7 +12,7 @@ use nm_calls::System;
 use nm_crew::Alone;
 use nm_frames::CopyJob;
 use nm_spaces::AddressSpaces;
-use nm_trace::{Summary, TellingWriter, Trace, TraceError, play};
+use nm_trace::{ReportingWriter, Summary, Trace, TraceError, play};
 use serde_json::Value;
 use std::alloc::Global;
 use std::marker::PhantomData;
@@ -40,7 +40,7 @@ pub fn read_value(heap: Global, bytes: &[u8]) -> Result<Trace<Global>, TraceErro
 }
 
 /// Plays a trace on a new system, on the calling thread; or the host has no memory for one, and nothing is written.
-pub fn play_new<W: TellingWriter>(
+pub fn play_new<W: ReportingWriter>(
     heap: Global,
     trace: &Trace<Global>,
     out: &mut W,

@@ -10,7 +10,7 @@ use Rattle.nm_steps.specs.declared.trace_error.TraceError.{TraceError}
 use Rattle.nm_steps.specs.declared.trace_error.TraceError.TheVariants.{NotJson, BadMachine, BadStep, ReadFault, WriteFault, HostMemory}
 use Rattle.nm_steps.specs.Faults.{TraceContents}
 use Rattle.nm_trace.specs.Headline.{PlaysWhole, Runs}
-use Rattle.nm_trace.specs.Telling.{GivesTrace, is_write_fault}
+use Rattle.nm_trace.specs.Reporting.{GivesTrace, is_write_fault}
 use Rattle.nm_trace.specs.declared.playing.Summary.{Summary}
 
 -- the exit status of a fault
@@ -70,7 +70,7 @@ pub record RefusesWords {R W E : Type 0} (told : E → Option (List ℕ)) (telli
   pub unread : s ≡ r
   pub unwritten : v ≡ w
 
--- the words are accepted, and the trace that the reader gives is run; a fault is told, and success is not
+-- the words are accepted, and the trace that the reader gives is run; a fault is printed, and success is not
 pub record RunsTrace {R W E : Type 0} (remaining : R → Option (List ℕ)) (read_failed : R → Bool) (gave : R → R → ℕ → Type 0)
     (contents : W → Option (List ℕ)) (write_failed : W → Bool) (refusals : Kinds) (status : ℕ)
     (r s : R) (w v : W) (e f : E) : Type 0 where

@@ -5,7 +5,7 @@
 mod tests;
 mod words;
 
-use nm_trace::Watched;
+use nm_trace::WatchedStream;
 use std::io::ErrorKind;
 use std::process::ExitCode;
 pub use words::run_words;
@@ -23,9 +23,9 @@ fn main(rt: HostRuntime) -> ExitCode {
             &rt,
             alloc,
             words.as_slice(),
-            &mut Watched::new(rt.stdin()),
-            &mut Watched::new(rt.stdout()),
-            &mut Watched::new(rt.stderr()),
+            &mut WatchedStream::new(rt.stdin()),
+            &mut WatchedStream::new(rt.stdout()),
+            &mut WatchedStream::new(rt.stderr()),
         ),
         Err(kind) => words::unread_words(kind, &mut rt.stderr()),
     };

@@ -8,7 +8,7 @@ use nm_frames::CopyJob;
 use nm_refusing_alloc::Refusing;
 use nm_spaces::AddressSpaces;
 use nm_threads::Hired;
-use nm_trace::{RunCrew, Watched};
+use nm_trace::{RunCrew, WatchedStream};
 use std::alloc::{AllocError, Allocator, Global};
 use std::io;
 use std::io::{ErrorKind, Write};
@@ -99,9 +99,9 @@ fn run<A: Allocator + Copy + Send + Sync, C: RunCrew<A> + Drop, H: FnOnce(usize)
     requires { (workers : ℕ) → 0 < workers → workers ≤ 64 → H.pre hire workers }
 {
     let words = words_of(global, "numatrace")?;
-    let mut err = Watched::new(Vec::new(global));
+    let mut err = WatchedStream::new(Vec::new(global));
     let mut trace = TRACE.as_bytes();
-    let mut watched = Watched::new(out);
+    let mut watched = WatchedStream::new(out);
     let status = run_words_by(
         hire,
         alloc,
@@ -163,7 +163,7 @@ fn workers_hired(global: Global, text: &str) -> Result<Option<usize>, AllocError
     let _work: PhantomData<(CopyJob<Global>, AddressSpaces<Global>)> = PhantomData;
     let words = words_of(global, text)?;
     let hired = AtomicUsize::new(0);
-    let mut written = Watched::new(Vec::new(global));
+    let mut written = WatchedStream::new(Vec::new(global));
     let status = run_words_by(
         |workers: usize| {
             hired.store(workers, Ordering::SeqCst);
@@ -174,7 +174,7 @@ fn workers_hired(global: Global, text: &str) -> Result<Option<usize>, AllocError
         words.as_slice(),
         &mut TRACE.as_bytes(),
         &mut written,
-        &mut Watched::new(Vec::new(global)),
+        &mut WatchedStream::new(Vec::new(global)),
     );
     let told = status == 0 && written.get_ref().as_slice() == REPORT.as_bytes();
     Ok(told.then_some(hired.load(Ordering::SeqCst)))

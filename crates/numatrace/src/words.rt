@@ -11,7 +11,7 @@ use clap::error::ErrorKind;
 use nm_frames::CopyJob;
 use nm_spaces::AddressSpaces;
 use nm_threads::Hired;
-use nm_trace::{RunCrew, TellingReader, TellingWriter, TraceError, run_trace, write_lines};
+use nm_trace::{ReportingReader, ReportingWriter, RunCrew, TraceError, run_trace, write_lines};
 use nm_words::read_words;
 use std::alloc::{Allocator, Global};
 use std::io;
@@ -55,7 +55,7 @@ fn refused_words(kind: ErrorKind) -> u8
 }
 
 /// Writes why words were refused, in one line or in clap's own text. A fault of `err` is not reported.
-fn tell_refusal<E: TellingWriter>(error: &Error, err: &mut E)
+fn tell_refusal<E: ReportingWriter>(error: &Error, err: &mut E)
     ensures { TellsRefusal (kind_of error.now) (E.contents err.old) (E.contents err.new) (E.has_failed err.new) }
 {
     if matches!(error.kind(), ErrorKind::OutOfMemory) {
@@ -100,7 +100,7 @@ pub(crate) fn unread_words<E: Write>(kind: io::ErrorKind, err: &mut E) -> u8
 /// exit status: 0 after a whole report; 2 for a bad trace, for words that are refused, and for `--help` and `--version`;
 /// 3 if the host is out of memory; 4 for a read or write fault. A fault is reported on `err`, in one line or in clap's
 /// own text, and a fault of `err` does not change the status.
-pub fn run_words<T: Threads + Wait, R: TellingReader, W: TellingWriter, E: TellingWriter>(
+pub fn run_words<T: Threads + Wait, R: ReportingReader, W: ReportingWriter, E: ReportingWriter>(
     rt: &T,
     heap: Global,
     words: &[String],
@@ -125,9 +125,9 @@ pub(crate) fn run_words_by<
     C: RunCrew<A> + Drop,
     H: FnOnce(usize) -> C,
     A: Allocator + Copy + Send + Sync,
-    R: TellingReader,
-    W: TellingWriter,
-    E: TellingWriter,
+    R: ReportingReader,
+    W: ReportingWriter,
+    E: ReportingWriter,
 >(hire: H, alloc: A, heap: Global, words: &[String], reader: &mut R, out: &mut W, err: &mut E) -> u8
     requires { (workers : ℕ) → 0 < workers → workers ≤ 64 → H.pre hire workers }
     ensures { Ends R.remaining R.has_failed R.gave W.contents W.has_failed E.contents E.has_failed
@@ -148,9 +148,9 @@ pub(crate) fn run_words_by<
 fn run_with<
     A: Allocator + Copy + Send + Sync,
     C: RunCrew<A>,
-    R: TellingReader,
-    W: TellingWriter,
-    E: TellingWriter,
+    R: ReportingReader,
+    W: ReportingWriter,
+    E: ReportingWriter,
 >(crew: &C, alloc: A, heap: Global, reader: &mut R, out: &mut W, err: &mut E) -> u8
     ensures { RunsTrace R.remaining R.has_failed R.gave W.contents W.has_failed
         [] result reader.old reader.new out.old out.new err.old err.new }

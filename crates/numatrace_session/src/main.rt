@@ -21,7 +21,7 @@ ghost use Rattle.numatrace_session.specs.Replies.{bad_step_reply, has_line, Ends
 use nm_crew::Alone;
 use nm_frames::CopyJob;
 use nm_spaces::AddressSpaces;
-use nm_trace::{FlushingWriter, Session, TellingWriter, TraceError, Watched, write_lines};
+use nm_trace::{FlushingWriter, ReportingWriter, Session, TraceError, WatchedStream, write_lines};
 use std::alloc::Global;
 use std::io;
 use std::io::{BufRead, BufReader, BufWriter, ErrorKind, Read, Write};
@@ -56,7 +56,7 @@ fn unread(kind: ErrorKind, has_failed: bool) -> End
 
 /// Reads the next line, with its end, in place of what is in the list. False where the input has ended.
 fn next_line<R: Read>(
-    input: &mut BufReader<Watched<R>, Global>,
+    input: &mut BufReader<WatchedStream<R>, Global>,
     line: &mut Vec<u8>,
 ) -> Result<bool, End>
     // On success
@@ -85,7 +85,7 @@ fn next_line<R: Read>(
 }
 
 /// Writes bytes.
-fn put<W: TellingWriter>(out: &mut W, bytes: &[u8]) -> Result<(), End>
+fn put<W: ReportingWriter>(out: &mut W, bytes: &[u8]) -> Result<(), End>
     ensures { Writes (W.contents out.old) (W.contents out.new)
         (W.has_failed out.old) (W.has_failed out.new) bytes.now result }
 {
@@ -96,7 +96,7 @@ fn put<W: TellingWriter>(out: &mut W, bytes: &[u8]) -> Result<(), End>
 }
 
 /// Writes bytes, and then others.
-fn put_both<W: TellingWriter>(out: &mut W, first: &[u8], second: &[u8]) -> Result<(), End>
+fn put_both<W: ReportingWriter>(out: &mut W, first: &[u8], second: &[u8]) -> Result<(), End>
     ensures { Writes (W.contents out.old) (W.contents out.new)
         (W.has_failed out.old) (W.has_failed out.new) (first.now ++ second.now) result }
 {
@@ -105,7 +105,7 @@ fn put_both<W: TellingWriter>(out: &mut W, first: &[u8], second: &[u8]) -> Resul
 }
 
 /// Writes that the step with this number is none, and an empty line. Does not allocate.
-fn put_bad_step<W: TellingWriter>(out: &mut W, step: usize) -> Result<(), End>
+fn put_bad_step<W: ReportingWriter>(out: &mut W, step: usize) -> Result<(), End>
     ensures { Writes (W.contents out.old) (W.contents out.new)
         (W.has_failed out.old) (W.has_failed out.new) (bad_step_reply step) result }
 {
@@ -117,7 +117,7 @@ fn put_bad_step<W: TellingWriter>(out: &mut W, step: usize) -> Result<(), End>
 
 /// Writes what is wrong with a line, and an empty line; nothing if its fault is lack of memory, which is returned.
 #[tactic(auto, using(nm_streams::proofs::Known::appends_none))]
-fn put_fault<W: TellingWriter>(out: &mut W, fault: TraceError) -> Result<(), End>
+fn put_fault<W: ReportingWriter>(out: &mut W, fault: TraceError) -> Result<(), End>
     ensures { TellsFault fault (W.contents out.old) (W.contents out.new)
         (W.has_failed out.old) (W.has_failed out.new) result }
 {
@@ -129,7 +129,7 @@ fn put_fault<W: TellingWriter>(out: &mut W, fault: TraceError) -> Result<(), End
 }
 
 /// Makes a step, and writes its reply.
-fn reply<W: TellingWriter>(
+fn reply<W: ReportingWriter>(
     heap: Global,
     session: &mut Session<Global>,
     step: &[u8],
@@ -149,7 +149,7 @@ fn reply<W: TellingWriter>(
 
 /// Writes the replies that wait, unless a further line is there already.
 fn flush_unless_asked<R: Read, W: FlushingWriter>(
-    input: &BufReader<Watched<R>, Global>,
+    input: &BufReader<WatchedStream<R>, Global>,
     out: &mut W,
 ) -> Result<(), End>
     // If a further line is there
@@ -166,7 +166,7 @@ fn flush_unless_asked<R: Read, W: FlushingWriter>(
     if input.buffer().contains(&b'\n') {
         return Ok(());
     }
-    let Ok(()) = out.flush_telling() else {
+    let Ok(()) = out.flush_reporting() else {
         return Err(End::Stream);
     };
     Ok(())
@@ -177,7 +177,7 @@ fn reply_to_lines<T: Wait, R: Read, W: FlushingWriter>(
     rt: &T,
     heap: Global,
     session: &mut Session<Global>,
-    input: &mut BufReader<Watched<R>, Global>,
+    input: &mut BufReader<WatchedStream<R>, Global>,
     out: &mut W,
 ) -> Result<(), End>
     // On success
@@ -229,7 +229,7 @@ fn begin(heap: Global, top: &[u8]) -> Result<Session<Global>, End>
 fn talk<T: Wait, R: Read, W: FlushingWriter>(
     rt: &T,
     heap: Global,
-    input: &mut BufReader<Watched<R>, Global>,
+    input: &mut BufReader<WatchedStream<R>, Global>,
     out: &mut W,
 ) -> Result<(), End>
     // On success
@@ -255,7 +255,7 @@ fn talk<T: Wait, R: Read, W: FlushingWriter>(
 fn talk_to_end<T: Wait, R: Read, W: FlushingWriter>(
     rt: &T,
     heap: Global,
-    input: &mut BufReader<Watched<R>, Global>,
+    input: &mut BufReader<WatchedStream<R>, Global>,
     out: &mut W,
 ) -> Result<(), End>
     // On success
@@ -276,7 +276,7 @@ fn talk_to_end<T: Wait, R: Read, W: FlushingWriter>(
         ⊎ W.is_flushed out.new }
 {
     let ended = talk(rt, heap, input, out);
-    let Ok(()) = out.flush_telling() else {
+    let Ok(()) = out.flush_reporting() else {
         return Err(End::Stream);
     };
     ended
@@ -297,11 +297,11 @@ fn buffer_over<W: Write + Drop>(heap: Global, to: W) -> Result<BufWriter<W, Glob
 fn buffered_input<R: Read + Drop>(
     heap: Global,
     from: R,
-) -> Result<BufReader<Watched<R>, Global>, End>
+) -> Result<BufReader<WatchedStream<R>, Global>, End>
     ensures input { IfOk result (λ b. left_in R.remaining b ≡ R.remaining from) }
     ensures fault { IfErr result (λ e. e ≡ End.HostMemory) }
 {
-    let Ok(input) = BufReader::new(heap, Watched::new(from)) else {
+    let Ok(input) = BufReader::new(heap, WatchedStream::new(from)) else {
         return Err(End::HostMemory);
     };
     Ok(input)
@@ -339,7 +339,7 @@ fn serve<T: Wait, R: Read + Drop, W: Write + Drop>(
 ) -> Result<(), End> {
     let mut input = buffered_input(heap, from)?;
     let out = buffer_over(heap, to)?;
-    talk_to_end(rt, heap, &mut input, &mut Watched::new(out))
+    talk_to_end(rt, heap, &mut input, &mut WatchedStream::new(out))
 }
 
 fn main(rt: HostRuntime) -> ExitCode {

@@ -5,9 +5,9 @@ use Rattle.std.proofs.lemmas.Bool.{cases_lt, eqb-true}
 use Rattle.std.proofs.lemmas.List.{get_or-set_same, get_or-set_other, get_or_past, set_past, drop-drop}
 use Rattle.std.proofs.lemmas.List.Sums.{sum_by-cons}
 use Rattle.nm_model.specs.definitions.Touch.{AccessAnswer}
-use Rattle.nm_calls.specs.definitions.Batch.{list_at, answers_in_order, by_place}
+use Rattle.nm_passes.specs.definitions.Batch.{list_at, answers_in_order, by_place}
 use Rattle.nm_calls.specs.laws.Calls.{AnswersGoByPlace}
-use Rattle.nm_calls.proofs.Accesses.Loops.{differ}
+use Rattle.nm_passes.proofs.Accesses.Loops.{differ}
 
 pub one_more : (k run : ℕ) (before : List ℕ) (b : Bool) → (run == k) ≡ b → count_by (λ r. r == k) (run ∷ before) ≡ cond b 1 0 + count_by (λ r. r == k) before
 one_more k run before b h = sum_by-cons (λ r. cond (r == k) 1 0) run before ∙ ap (λ b. cond b 1 0 + count_by (λ r. r == k) before) h

@@ -12,14 +12,14 @@ use Rattle.nm_model.specs.definitions.Touch.{Access, AccessAnswer}
 use Rattle.nm_model.specs.definitions.Touch.{access_during, all_in_flight}
 use Rattle.nm_model.specs.definitions.Run.{each_request, run}
 use Rattle.nm_model.specs.definitions.Run.{accesses_of, runs_from}
-use Rattle.nm_steps.specs.Calls.{Call, MovePages}
+use Rattle.nm_requests.specs.Calls.{Call, MovePages}
 use Rattle.nm_calls.specs.definitions.Answers.{Answer, Statuses}
 use Rattle.std.specs.Map.{keys_of}
-use Rattle.nm_calls.specs.definitions.Batch.{list_at, answers_in_order}
+use Rattle.nm_passes.specs.definitions.Batch.{list_at, answers_in_order}
 use Rattle.nm_calls.specs.definitions.Systems.{SystemState}
 use Rattle.nm_calls.specs.definitions.Outcome.{refusal_of, start, runs_asked, accesses_asked, end_of_call, unless}
 use Rattle.nm_calls.specs.laws.Calls.{EachAccessIsAnswered}
-use Rattle.nm_calls.proofs.Accesses.Loops.{first_asked, differ}
+use Rattle.nm_passes.proofs.Accesses.Loops.{first_asked, differ}
 use Rattle.nm_calls.proofs.Accesses.ByPlace.{one_more, shorter}
 use Rattle.nm_calls.proofs.Trails.{runs_unless}
 

@@ -20,7 +20,7 @@ use Rattle.nm_laws.proofs.OneByOne.Memory.{runs_keep}
 use Rattle.nm_laws.proofs.Seen.Rewritten.{runs_write}
 use Rattle.nm_laws.proofs.Soundness.Policed.{policy_keeps}
 use Rattle.nm_laws.proofs.Soundness.Touched.{reading_keeps}
-use Rattle.nm_steps.specs.Calls.{Call, Spawn, MapPages, Attach, Unmap, Exit, Pin, Unpin, ReadBytes, WriteBytes, MovePages, MigratePages, Query, FreeList, Pagemap, Vmstat, NumaMaps, Mbind, Offline, Online}
+use Rattle.nm_requests.specs.Calls.{Call, Spawn, MapPages, Attach, Unmap, Exit, Pin, Unpin, ReadBytes, WriteBytes, MovePages, MigratePages, Query, FreeList, Pagemap, Vmstat, NumaMaps, Mbind, Offline, Online}
 use Rattle.nm_calls.specs.definitions.Mbind.{binding, with_binding}
 use Rattle.nm_calls.specs.definitions.Offline.{still_on}
 use Rattle.nm_calls.specs.definitions.Systems.{SystemState}

@@ -1,6 +1,6 @@
 -- A call that moves pages is one batch.
 use Rattle.nm_model.specs.definitions.Run.{batch}
-use Rattle.nm_steps.specs.Calls.{MovePages, MigratePages}
+use Rattle.nm_requests.specs.Calls.{MovePages, MigratePages}
 use Rattle.nm_calls.specs.definitions.Outcome.{start, runs_asked, accesses_asked, end_of_call}
 use Rattle.nm_calls.specs.laws.Calls.{MovePagesIsABatch, MigrationIsABatch}
 use Rattle.nm_calls.proofs.Outcomes.{answers}

@@ -28,7 +28,7 @@ use Rattle.nm_laws.proofs.Soundness.Online.{online_sound, changed_below}
 use Rattle.nm_laws.proofs.Soundness.Policed.{policy_sound}
 use Rattle.nm_laws.proofs.Soundness.Ran.{run_sound}
 use Rattle.nm_laws.proofs.Soundness.Touched.{access_sound}
-use Rattle.nm_steps.specs.Calls.{Call, Spawn, MapPages, Attach, Unmap, Exit, Pin, Unpin, ReadBytes, WriteBytes, MovePages, MigratePages, Query, FreeList, Pagemap, Vmstat, NumaMaps, Mbind, Offline, Online}
+use Rattle.nm_requests.specs.Calls.{Call, Spawn, MapPages, Attach, Unmap, Exit, Pin, Unpin, ReadBytes, WriteBytes, MovePages, MigratePages, Query, FreeList, Pagemap, Vmstat, NumaMaps, Mbind, Offline, Online}
 use Rattle.nm_calls.specs.definitions.Mbind.{binding}
 use Rattle.nm_calls.specs.definitions.Offline.{still_on}
 use Rattle.nm_calls.specs.definitions.Systems.{SystemState}

@@ -11,7 +11,7 @@ use Rattle.nm_model.specs.definitions.Cut.{Stretch, all_to}
 use Rattle.nm_model.specs.definitions.Run.{Decision, moved_page, decision, one_request, Progress, each_request, with_free, with_all_free, frames_left, failures, with_counts, RunResult, run}
 use Rattle.nm_model.specs.definitions.Run.{runs_from}
 use Rattle.nm_model.specs.definitions.Cut.{cut_within}
-use Rattle.nm_calls.specs.definitions.Passes.{short_of_frames, passes}
+use Rattle.nm_passes.specs.definitions.Passes.{short_of_frames, passes}
 use Rattle.nm_calls.specs.definitions.Offline.{with_online, RunsIgnoreOnline}
 
 abbrev decision_with : List ℕ → Decision → Decision

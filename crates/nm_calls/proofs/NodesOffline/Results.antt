@@ -2,6 +2,7 @@
 use Rattle.std.proofs.Common.{◌≡◌, ℕ, ◌<◌, Bool, true, false, cond, List, [], ◌∷◌, inl, inr, length, refl, sym, ap, subst, ◌∙◌, slice_index_or, None, Result, Ok, Err}
 use Rattle.std.specs.Prelude.{◌==◌, not, ◌&&◌, ◌||◌, nat_lt, map, if◌then◌else◌}
 use Rattle.std.specs.List.{AllByRecursion, fold, list_any}
+use Rattle.std.specs.Result.{IsErrAnd}
 use Rattle.std.proofs.lemmas.Bool.{true≢false}
 use Rattle.std.proofs.lemmas.List.{length-map}
 use Rattle.nm_types.specs.declared.page.Page.{Page}
@@ -16,20 +17,41 @@ use Rattle.nm_model.specs.definitions.Run.{runs_from}
 use Rattle.nm_model.specs.definitions.Effect.{set_online}
 use Rattle.nm_model.specs.definitions.Seen.{placed_on}
 use Rattle.nm_model.specs.definitions.Run.{moves_all, HasOneAll}
-use Rattle.nm_calls.specs.declared.call_error.CallError.{CallError}
-use Rattle.nm_calls.specs.declared.call_error.CallError.TheVariants.{Refused, HostMemory}
+use Rattle.nm_passes.specs.declared.call_error.CallError.{CallError}
+use Rattle.nm_passes.specs.declared.call_error.CallError.TheVariants.{Refused, HostMemory}
 use Rattle.nm_types.specs.declared.errno.Errno.TheVariants.{Ebusy}
-use Rattle.nm_steps.specs.Calls.{Call, Offline}
+use Rattle.nm_requests.specs.Calls.{Call, Offline}
 use Rattle.nm_calls.specs.definitions.Answers.{Refusal, Done}
-use Rattle.nm_calls.specs.definitions.Migrate.{is_on}
-use Rattle.nm_calls.specs.definitions.Passes.{passes}
+use Rattle.nm_passes.specs.definitions.Listing.{is_on}
+use Rattle.nm_passes.specs.definitions.Passes.{passes}
 use Rattle.nm_calls.specs.definitions.Systems.{SystemState, in_state}
 use Rattle.nm_calls.specs.definitions.Offline.{offline_refusal, offline_runs, refuges, still_on}
-use Rattle.nm_calls.specs.definitions.Outcome.{refusal_of, refused_at_once, start, sets_policy, runs_asked, accesses_asked, runs_of, end_of_call, offline_outcome, outcome, states_of, trail}
+use Rattle.nm_calls.specs.definitions.Outcome.{refusal_of, refused_at_once, start, sets_policy, runs_asked, accesses_asked, runs_of, end_of_call, offline_outcome, outcome, trail}
+use Rattle.nm_passes.specs.definitions.Moves.{states_of}
 use Rattle.nm_calls.specs.definitions.Does.{Does}
-use Rattle.nm_calls.specs.views.Runs.{Stops, Empties}
+use Rattle.nm_passes.specs.views.Errors.{out_of_memory}
+use Rattle.nm_passes.specs.views.Runs.{Stops}
+use Rattle.nm_calls.specs.views.Ends.{Keeps, Empties}
+use Rattle.nm_passes.proofs.Batches.Results.{err_of}
 use Rattle.nm_calls.proofs.Outcomes.{LeavesSome, answers}
 use Rattle.nm_calls.proofs.Trails.{runs_unless, state_unless}
+
+-- no memory before a node is emptied ..
+pub none_emptied : {T : Type 0} (r : Result T CallError) (s : State) (node : ℕ) (rs : List Stretch) → IsErrAnd r (λ e. e ≡ out_of_memory 0) → Empties r s s node rs
+none_emptied r s node rs h = subst (λ r. Empties r s s node rs) (sym (err_of r (out_of_memory 0) h)) (inl (refl, refl, refl))
+
+-- .. and none for one of its runs
+pub keeps_stopped : (e : CallError) (old new : State) (node : ℕ) (rs qs : List Stretch) → rs ≡ qs → Stops false e old new rs → Keeps e old new node qs
+keeps_stopped (Refused e) old new node rs qs runs h = absurd h
+keeps_stopped (HostMemory k policy_set) old new node rs qs runs h =
+    inr (subst (Stops false (HostMemory k policy_set) old new) runs h)
+
+-- whether a page is found on the node after the runs
+pub still_found : (old made new : State) (node : ℕ) (pages : List Page) (b : Bool) → is_in old.online node ≡ true → pages ≡ placed_on old node → made ≡ new → list_any (is_on made node) pages ≡ b → still_on old new node ≡ b
+still_found old made new node pages b online all after h =
+    ap (λ x. x && list_any (is_on new node) (placed_on old node)) online
+    ∙ ap (λ t. list_any (is_on t node) (placed_on old node)) (sym after)
+    ∙ ap (list_any (is_on made node)) (sym all) ∙ h
 
 -- requests by page
 pub wholes_alike : (pages : List Page) → HasOneAll (map Whole pages)

@@ -13,10 +13,10 @@ use Rattle.nm_types.proofs.Maps.{equal, exact_page}
 use Rattle.nm_policy.specs.declared.pairing.Pair.{Pair}
 use Rattle.nm_policy.proofs.Paired.{each_set_is_paired_in_order}
 use Rattle.nm_model.specs.definitions.Seen.{sights}
-use Rattle.nm_calls.specs.definitions.Migrate.{pages_in}
-use Rattle.nm_calls.specs.definitions.Migrate.{pages_seen, is_on, pages_on}
+use Rattle.nm_passes.specs.definitions.Listing.{pages_in}
+use Rattle.nm_passes.specs.definitions.Listing.{pages_seen, is_on, pages_on}
 use Rattle.nm_calls.specs.laws.Migrations.{EachPageIsListedOnce}
-use Rattle.nm_calls.proofs.PageLists.FirstPages.{once_valued}
+use Rattle.nm_passes.proofs.PageLists.FirstPages.{once_valued}
 
 -- two page numbers with different pages
 abbrev Differs : ℕ × Page → ℕ × Page → Type 0

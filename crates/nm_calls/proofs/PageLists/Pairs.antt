@@ -1,32 +1,29 @@
 -- What is asked for, by pairs of nodes.
-use Rattle.std.proofs.Common.{◌≡◌, ℕ, ⊎_elim, Bool, true, List, [], ◌∷◌, ◌++◌, map, refl, subst}
-use Rattle.std.specs.Prelude.{◌==◌, Option, Some, None}
+use Rattle.std.proofs.Common.{◌≡◌, ℕ, Bool, true, List, [], ◌∷◌, ◌++◌, map, refl}
+use Rattle.std.specs.Prelude.{Option, Some, None}
 use Rattle.std.specs.List.{AllByRecursion}
-use Rattle.std.proofs.lemmas.Bool.{eqb-true, or_cases, false≢true}
 use Rattle.nm_types.specs.declared.page.Page.{Page}
 use Rattle.nm_types.specs.Map.{Map}
-use Rattle.nm_types.specs.Nodes.{is_in}
+use Rattle.nm_types.specs.Nodes.{is_in, IsNodeSet}
 use Rattle.nm_types.specs.State.{State}
 use Rattle.nm_policy.specs.declared.pairing.Pair.{Pair}
 use Rattle.nm_types.specs.declared.request.Wanted.TheVariants.{At}
-use Rattle.nm_model.specs.definitions.Cut.{Request}
+use Rattle.nm_model.specs.definitions.Cut.{Request, Stretch, cut_within}
 use Rattle.nm_types.specs.declared.errno.Errno.{Errno}
-use Rattle.nm_types.specs.Nodes.{IsNodeSet}
 use Rattle.nm_policy.specs.Pairs.{pairs}
 use Rattle.nm_policy.proofs.Paired.{each_set_is_paired_in_order}
-use Rattle.nm_model.specs.definitions.Cut.{Stretch}
-use Rattle.nm_model.specs.definitions.Cut.{cut_within}
 use Rattle.nm_types.specs.declared.process.ProcessInfo.{ProcessInfo}
 use Rattle.nm_model.specs.definitions.Run.{moves_all}
-use Rattle.nm_calls.specs.definitions.Permission.{owner_of, info_at}
-use Rattle.nm_calls.specs.definitions.Permission.{usable}
-use Rattle.nm_steps.specs.Calls.{MigratePages}
+use Rattle.nm_passes.specs.definitions.Permission.{owner_of, info_at, usable}
+use Rattle.nm_requests.specs.Calls.{MigratePages}
 use Rattle.nm_calls.specs.definitions.Outcome.{refusal_of, runs_asked}
 use Rattle.nm_calls.specs.laws.Migrations.{RunsGoToNodesOnline}
-use Rattle.nm_calls.proofs.Batches.Requests.{cut_targets}
-use Rattle.nm_calls.proofs.Policies.NamedNodes.{usable_online}
+use Rattle.nm_passes.proofs.Batches.Requests.{cut_targets}
+use Rattle.nm_passes.proofs.Policies.NamedNodes.{usable_online}
 use Rattle.nm_calls.proofs.Trails.{runs_unless}
-use Rattle.nm_calls.specs.definitions.Migrate.{pages_on, migrate_list, migrated_by, migration}
+use Rattle.nm_passes.specs.definitions.Listing.{pages_on, migrate_list}
+use Rattle.nm_calls.specs.definitions.Migrate.{migrated_by, migration}
+use Rattle.nm_passes.proofs.Policies.Nodes.{of_member}
 
 all-append : (P : Request → Type 0) (es fs : List Request) → AllByRecursion P es → AllByRecursion P fs → AllByRecursion P (es ++ fs)
 all-append P [] fs h k = k
@@ -42,11 +39,6 @@ all_asked P s pid all [] h = tt
 all_asked P s pid all (p ∷ ps) h =
     all-append P (map {B = Request} (λ (e : ℕ × Page). record { target = p.to; wanted = At pid e.0 all }) (pages_on s pid p.from)) (migrate_list s pid all ps)
     (asked_on P p.to pid all (pages_on s pid p.from) h.0) (all_asked P s pid all ps h.1)
-
--- what holds of each node of a set holds of one that is in it
-pub of_member : (P : ℕ → Type 0) (ns : List ℕ) (n : ℕ) → AllByRecursion P ns → is_in ns n ≡ true → P n
-of_member P [] n h inside = absurd (false≢true inside)
-of_member P (m ∷ ns) n h inside = ⊎_elim (λ e. subst P (eqb-true m n e) h.0) (λ r. of_member P ns n h.1 r) (or_cases (m == n) (is_in ns n) inside)
 
 targets_of : (P : ℕ → Type 0) (ns : List ℕ) (ps : List Pair) (pid : ℕ) (all : Bool) → AllByRecursion P ns → AllByRecursion (λ p. is_in ns p.to ≡ true) ps → AllByRecursion (λ (p : Pair). (v : ℕ) → P p.to) ps
 targets_of P ns [] pid all h inside = tt

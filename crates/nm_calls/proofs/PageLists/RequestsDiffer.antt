@@ -7,7 +7,7 @@ use Rattle.nm_model.specs.definitions.Order.{follows}
 use Rattle.nm_types.specs.declared.located_page.LocatedPage.{LocatedPage}
 use Rattle.nm_model.specs.definitions.Seen.{located_between}
 use Rattle.nm_calls.specs.definitions.Mbind.{NoStrayIsListedTwice}
-use Rattle.nm_calls.proofs.Policies.StrayPages.{pages_once}
+use Rattle.nm_passes.proofs.Policies.StrayPages.{pages_once}
 
 -- a page, and those that are another one
 abbrev differs : LocatedPage → LocatedPage → Type 0

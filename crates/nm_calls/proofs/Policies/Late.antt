@@ -5,11 +5,13 @@ use Rattle.std.specs.Prelude.{◌==◌, IsTrue}
 use Rattle.std.specs.List.{list_any}
 use Rattle.nm_types.specs.State.{State}
 use Rattle.nm_model.specs.definitions.Cut.{Stretch}
-use Rattle.nm_calls.specs.declared.call_error.CallError.{CallError}
-use Rattle.nm_calls.specs.declared.call_error.CallError.TheVariants.{Refused, HostMemory}
-use Rattle.nm_calls.specs.declared.mbind.Binding.{Binding}
-use Rattle.nm_calls.specs.definitions.Mbind.{has_stray, is_stray, is_strict, pages_to_bind, has_move, stray_pages, tells_late}
-use Rattle.nm_calls.specs.views.Runs.{FailsBinding, Stops}
+use Rattle.nm_passes.specs.declared.call_error.CallError.{CallError}
+use Rattle.nm_passes.specs.declared.call_error.CallError.TheVariants.{Refused, HostMemory}
+use Rattle.nm_passes.specs.declared.binding.Binding.{Binding}
+use Rattle.nm_calls.specs.definitions.Mbind.{has_stray, is_strict, pages_to_bind, has_move, tells_late}
+use Rattle.nm_passes.specs.definitions.Placement.{is_stray, stray_pages}
+use Rattle.nm_calls.specs.views.Ends.{FailsBinding}
+use Rattle.nm_passes.specs.views.Runs.{Stops}
 
 -- an error after the moves is told exactly where a listed page strays then
 pub late_is : (s t : State) (b : Binding) (flags : ℕ) → (is_strict flags && list_any (is_stray t b.policy) (pages_to_bind s b flags)) ≡ (tells_late flags && has_stray s t b)

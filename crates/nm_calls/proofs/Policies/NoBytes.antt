@@ -4,29 +4,29 @@ use Rattle.std.specs.Prelude.{nat_le, nat_lt, not}
 use Rattle.std.specs.List.{filter, flat_map, list_any}
 use Rattle.std.proofs.lemmas.Bool.{le-ltb, leb-true, ltb-true, and_parts, false_from_ne_true}
 use Rattle.nm_types.specs.declared.area.Policy.{Policy}
-use Rattle.nm_types.specs.declared.area.Policy.TheVariants.{Default, Preferred, Bind, Interleave, Local}
 use Rattle.nm_types.specs.Map.{Map, same_page}
 use Rattle.nm_types.specs.State.{State}
-use Rattle.nm_policy.specs.Turns.{sent_to}
-use Rattle.nm_model.specs.definitions.Cut.{Stretch, cut_within}
+use Rattle.nm_model.specs.definitions.Cut.{Stretch}
 use Rattle.nm_model.specs.definitions.Effect.{areas_of, page_count, parts_with_policy, set_policy, with_areas_of}
 use Rattle.nm_model.specs.definitions.Order.{follows}
 use Rattle.nm_model.specs.definitions.Run.{runs_from}
 use Rattle.nm_model.specs.definitions.Seen.{between, located_in, sights}
-use Rattle.nm_calls.specs.declared.call_error.CallError.{CallError}
-use Rattle.nm_calls.specs.declared.call_error.CallError.TheVariants.{Refused, HostMemory}
-use Rattle.nm_calls.specs.declared.mbind.Binding.{Binding}
-use Rattle.nm_steps.specs.Calls.{Mbind}
+use Rattle.nm_passes.specs.declared.call_error.CallError.{CallError}
+use Rattle.nm_passes.specs.declared.call_error.CallError.TheVariants.{Refused, HostMemory}
+use Rattle.nm_passes.specs.declared.binding.Binding.{Binding}
+use Rattle.nm_requests.specs.Calls.{Mbind}
 use Rattle.nm_calls.specs.definitions.Answers.{Failed}
 use Rattle.nm_calls.specs.definitions.Outcome.{outcome}
-use Rattle.nm_calls.specs.definitions.Mbind.{binding, each_to, has_stray, home_of, is_stray, pages_to_bind, mbind_refusal, mbind_runs, has_move, nodes_tried, runs_by, stray_pages, tells_late}
-use Rattle.nm_calls.specs.definitions.Migrate.{once}
-use Rattle.nm_calls.specs.definitions.Permission.{info_at, has_move_all}
+use Rattle.nm_calls.specs.definitions.Mbind.{binding, has_stray, home_of, pages_to_bind, mbind_refusal, mbind_runs, has_move, tells_late}
+use Rattle.nm_passes.specs.definitions.Placement.{is_stray, runs_by, stray_pages}
+use Rattle.nm_passes.specs.definitions.Listing.{once}
+use Rattle.nm_passes.specs.definitions.Permission.{info_at, has_move_all}
 use Rattle.nm_calls.specs.definitions.Systems.{SystemState}
-use Rattle.nm_calls.specs.views.Runs.{Binds, Stops}
+use Rattle.nm_calls.specs.views.Ends.{Binds}
+use Rattle.nm_passes.specs.views.Runs.{Stops}
 use Rattle.nm_types.specs.declared.located_page.LocatedPage.{LocatedPage}
 use Rattle.nm_calls.proofs.Policies.Results.{binds_does}
-use Rattle.nm_calls.proofs.NodesOffline.Passes.{passes_none}
+use Rattle.nm_passes.proofs.Policies.Moves.{no_moves}
 
 -- a range that ends where it begins has no page number
 none_between : {V : Type 0} (first end : ℕ) (m : Map ℕ V) → end ≤ first → between first end m ≡ []
@@ -39,18 +39,6 @@ none_between first end (e ∷ m) few =
 no_strays : (s : State) (b : Binding) → b.end ≤ b.first → stray_pages s b ≡ []
 no_strays s b few =
     ap (λ sees. once (λ l m. same_page l.page m.page) (filter (λ l. not (follows b.policy l.node)) (located_in s.layout s.place sees))) (none_between b.first b.end (sights s.processes b.pid) few)
-
-no_turns : (nodes : List ℕ) → flat_map (sent_to []) nodes ≡ []
-no_turns [] = refl
-no_turns (n ∷ nodes) = no_turns nodes
-
--- no pages make no run
-pub no_moves : (limit : ℕ) (s : State) (policy : Policy) (home pid : ℕ) (all : Bool) → runs_by limit s policy home pid all [] ≡ []
-no_moves limit s Default home pid all = passes_none limit s (nodes_tried s home Default)
-no_moves limit s (Preferred node) home pid all = passes_none limit s (nodes_tried s home (Preferred node))
-no_moves limit s (Bind nodes) home pid all = passes_none limit s (nodes_tried s home (Bind nodes))
-no_moves limit s (Interleave nodes) home pid all = ap (λ sent. cut_within limit (each_to pid all sent)) (no_turns nodes)
-no_moves limit s Local home pid all = passes_none limit s (nodes_tried s home Local)
 
 no_runs : (limit : ℕ) (s : State) (b : Binding) (flags : ℕ) → b.end ≤ b.first → mbind_runs limit s b flags ≡ []
 no_runs limit s b flags few =

@@ -8,16 +8,19 @@ use Rattle.nm_types.specs.State.{State}
 use Rattle.nm_model.specs.definitions.Cut.{Stretch}
 use Rattle.nm_model.specs.definitions.Run.{runs_from}
 use Rattle.nm_model.specs.definitions.Effect.{page_count}
-use Rattle.nm_calls.specs.declared.call_error.CallError.{CallError}
-use Rattle.nm_calls.specs.declared.call_error.CallError.TheVariants.{Refused, HostMemory}
-use Rattle.nm_steps.specs.Calls.{Call, Mbind}
+use Rattle.nm_passes.specs.declared.call_error.CallError.{CallError}
+use Rattle.nm_passes.specs.declared.call_error.CallError.TheVariants.{Refused, HostMemory}
+use Rattle.nm_requests.specs.Calls.{Call, Mbind}
 use Rattle.nm_calls.specs.definitions.Answers.{Refusal, Failed}
 use Rattle.nm_calls.specs.definitions.Systems.{SystemState, in_state}
 use Rattle.nm_calls.specs.definitions.Mbind.{mbind_refusal, binding, mbind_runs, with_binding, tells_late, has_stray}
-use Rattle.nm_calls.specs.definitions.Outcome.{refusal_of, refused_at_once, start, sets_policy, runs_asked, accesses_asked, runs_of, end_of_call, outcome, leaves, states_of, trail}
+use Rattle.nm_calls.specs.definitions.Outcome.{refusal_of, refused_at_once, start, sets_policy, runs_asked, accesses_asked, runs_of, end_of_call, outcome, leaves, trail}
+use Rattle.nm_passes.specs.definitions.Moves.{states_of}
 use Rattle.nm_calls.specs.definitions.Does.{Does}
-use Rattle.nm_calls.specs.views.Runs.{Stops, Binds}
-use Rattle.nm_calls.proofs.Trails.{states_are, runs_unless, state_unless}
+use Rattle.nm_passes.specs.views.Runs.{Stops}
+use Rattle.nm_calls.specs.views.Ends.{Binds}
+use Rattle.nm_passes.proofs.Trails.{states_are}
+use Rattle.nm_calls.proofs.Trails.{runs_unless, state_unless}
 use Rattle.nm_calls.proofs.Outcomes.{LeavesSome, answers, refuses}
 use Rattle.nm_calls.proofs.CallLaws.RefusalsChangeNothing.{late_answer}
 

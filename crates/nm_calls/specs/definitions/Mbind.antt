@@ -1,33 +1,21 @@
 -- mbind(2): what is refused, which policy is set, and which pages move.
-use Rattle.std.specs.Prelude.{ℕ, ◌+◌, ◌/◌, ◌%◌, nat_le, ◌==◌, Bool, not, ◌&&◌, ◌||◌, List, [], ◌∷◌, map, length, false, Option, Some, None, if◌then◌else◌}
-use Rattle.std.specs.List.{IsDistinct, list_any, filter}
+use Rattle.std.specs.Prelude.{ℕ, ◌+◌, ◌/◌, ◌%◌, nat_le, ◌==◌, Bool, not, ◌&&◌, ◌||◌, List, [], ◌∷◌, map, length, Option, Some, None, if◌then◌else◌}
+use Rattle.std.specs.List.{IsDistinct, list_any}
 use Rattle.std.specs.Option.{unwrap_or, option_map}
 use Rattle.nm_types.specs.declared.area.Policy.{Policy}
 use Rattle.nm_types.specs.declared.area.Policy.TheVariants.{Default, Preferred, Bind, Interleave, Local}
 use Rattle.nm_types.specs.declared.errno.Errno.{Errno}
 use Rattle.nm_types.specs.declared.errno.Errno.TheVariants.{Eperm, Esrch, Eio, Einval}
-use Rattle.nm_types.specs.Map.{get, page_cmp, same_page}
-use Rattle.nm_types.specs.Layout.{node_of}
-use Rattle.nm_types.specs.Nodes.{is_in}
+use Rattle.nm_types.specs.Map.{same_page}
 use Rattle.nm_types.specs.State.{State}
-use Rattle.nm_policy.specs.declared.targets.Destination.{Destination}
-use Rattle.nm_model.specs.definitions.Order.{zonelist, follows}
-use Rattle.nm_policy.specs.Turns.{by_turns}
-use Rattle.nm_types.specs.declared.request.Wanted.{Wanted}
-use Rattle.nm_types.specs.declared.request.Wanted.TheVariants.{At}
-use Rattle.nm_model.specs.definitions.Cut.{Request, Stretch}
-use Rattle.nm_model.specs.definitions.Cut.{cut_within}
+use Rattle.nm_model.specs.definitions.Cut.{Stretch}
 use Rattle.nm_runs.specs.Targets.{earlier}
 use Rattle.nm_types.specs.declared.located_page.LocatedPage.{LocatedPage}
 use Rattle.nm_types.specs.declared.process.ProcessInfo.{ProcessInfo}
-use Rattle.nm_model.specs.definitions.Seen.{located_between}
-use Rattle.nm_model.specs.definitions.Effect.{page_count, policy_refusal, set_policy}
-use Rattle.nm_model.specs.definitions.Effect.{first_error}
-use Rattle.nm_calls.specs.declared.mbind.Binding.{Binding}
-use Rattle.nm_calls.specs.definitions.Migrate.{once}
-use Rattle.nm_calls.specs.definitions.Permission.{has_move_all, info_at, allowed_at}
-use Rattle.nm_calls.specs.definitions.Passes.{passes}
-use Rattle.nm_calls.specs.definitions.Permission.{names_missing_node, usable, is_none}
+use Rattle.nm_model.specs.definitions.Effect.{page_count, policy_refusal, set_policy, first_error}
+use Rattle.nm_passes.specs.declared.binding.Binding.{Binding}
+use Rattle.nm_passes.specs.definitions.Permission.{has_move_all, info_at, allowed_at, names_missing_node, usable, is_none}
+use Rattle.nm_passes.specs.definitions.Placement.{stray_pages, is_stray, runs_by}
 
 -- the lowest node is preferred, or the nearest if there is none
 abbrev pub preferred_policy : List ℕ → Policy
@@ -60,14 +48,6 @@ is_misfit mode nodes = if is_none nodes then (mode == 2) || (mode == 3) else (mo
 abbrev pub is_bad_set : State → List ℕ → ℕ → List ℕ → Bool
 is_bad_set s allowed mode nodes =
     nat_le 5 mode || is_misfit mode nodes || names_missing_node s nodes || (not (is_none nodes) && is_none (usable s allowed nodes))
-
--- the pages seen from one page number up to another that do not follow a policy, in order of page number
-abbrev pub strays_between : State → ℕ → ℕ → ℕ → Policy → List LocatedPage
-strays_between s pid first end policy = filter (λ l. not (follows policy l.node)) (located_between s pid first end)
-
--- the pages seen in the range that do not follow the policy, in address order, each at its lowest address
-abbrev pub stray_pages : State → Binding → List LocatedPage
-stray_pages s b = once (λ l m. same_page l.page m.page) (strays_between s b.pid b.first b.end b.policy)
 
 -- the policy that a caller asks for: it keeps those of its nodes that are online and allowed
 abbrev pub policy_asked : State → ℕ → ℕ → List ℕ → Policy
@@ -107,26 +87,6 @@ mbind_refusal s caller address len mode nodes flags =
     let range = binding_refusal s caller address len (policy_asked s caller mode nodes) flags in
     earlier (mode_refusal s (info_at s caller) mode nodes flags) range
 
--- requests for pages, each at the page number where a process sees it
-abbrev pub requests_at : ℕ → Bool → List LocatedPage → List Wanted
-requests_at pid all pages = map (λ l. At pid l.vpn all) pages
-
--- requests for page numbers, each with its node
-abbrev pub each_to : ℕ → Bool → List Destination → List Request
-each_to pid all targets = map (λ t. record { target = t.to; wanted = At pid t.vpn all }) targets
-
--- the nodes that a policy tries one after another for all pages; for BIND by distance from a home node
-abbrev pub nodes_tried : State → ℕ → Policy → List ℕ
-nodes_tried s home (Preferred node) = node ∷ []
-nodes_tried s home (Bind nodes) = filter (is_in nodes) (zonelist s.layout s.online home)
-nodes_tried s home policy = []
-
--- the runs that bring pages to where a policy wants them: by turns for INTERLEAVE, in passes for the others
-abbrev pub runs_by : ℕ → State → Policy → ℕ → ℕ → Bool → List LocatedPage → List Stretch
-runs_by limit s (Interleave nodes) home pid all pages =
-    cut_within limit (each_to pid all (by_turns nodes pages))
-runs_by limit s policy home pid all pages = passes limit s (nodes_tried s home policy) (requests_at pid all pages)
-
 -- the pages to move: none without a flag to move
 abbrev pub pages_to_bind : State → Binding → ℕ → List LocatedPage
 pages_to_bind s b flags = if has_move flags then stray_pages s b else []
@@ -135,11 +95,6 @@ pages_to_bind s b flags = if has_move flags then stray_pages s b else []
 abbrev pub mbind_runs : ℕ → State → Binding → ℕ → List Stretch
 mbind_runs limit s b flags =
     runs_by limit s b.policy (home_of (info_at s b.pid)) b.pid (has_move_all flags) (pages_to_bind s b flags)
-
--- whether a listed page, where it is in this state, does not follow the policy
-abbrev pub is_stray : State → Policy → LocatedPage → Bool
-is_stray s policy l =
-    unwrap_or (option_map (λ frame. not (follows policy (node_of s.layout frame))) (get page_cmp s.place l.page)) false
 
 -- whether a page that did not follow the policy before the moves does not follow it after them
 abbrev pub has_stray : State → State → Binding → Bool

@@ -12,7 +12,7 @@ use Rattle.nm_model.specs.definitions.Areas.{page_count}
 use Rattle.nm_model.specs.definitions.PageTables.{entries_of}
 use Rattle.nm_model.specs.definitions.Seen.{sight_at}
 use Rattle.nm_calls.specs.definitions.Mbind.{has_move}
-use Rattle.nm_steps.specs.Calls.{Call, Unmap, Exit, Pin, Unpin, WriteBytes, MovePages, Query, FreeList, Pagemap, Vmstat, NumaMaps, Mbind, Offline, Online}
+use Rattle.nm_requests.specs.Calls.{Call, Unmap, Exit, Pin, Unpin, WriteBytes, MovePages, Query, FreeList, Pagemap, Vmstat, NumaMaps, Mbind, Offline, Online}
 
 -- what has to hold where a call asks for memory: there is something to unmap (an area, and a page that has a frame or an
 -- area that is split), to move or to list, it sets the policy of some bytes and moves pages or splits an area, or it

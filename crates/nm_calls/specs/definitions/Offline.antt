@@ -13,9 +13,9 @@ use Rattle.nm_model.specs.definitions.Cut.{Stretch}
 use Rattle.nm_model.specs.definitions.Run.{runs_from}
 use Rattle.nm_model.specs.definitions.Seen.{placed_on}
 use Rattle.nm_model.specs.definitions.Effect.{first_error}
-use Rattle.nm_calls.specs.definitions.Migrate.{is_on}
-use Rattle.nm_calls.specs.definitions.Passes.{passes}
-use Rattle.nm_calls.specs.definitions.Permission.{is_none}
+use Rattle.nm_passes.specs.definitions.Listing.{is_on}
+use Rattle.nm_passes.specs.definitions.Passes.{passes}
+use Rattle.nm_passes.specs.definitions.Permission.{is_none}
 
 -- EINVAL: no such node; EBUSY: no other node is online
 abbrev pub offline_refusal : State → ℕ → Option Errno

@@ -1,30 +1,27 @@
 -- Which calls are refused, the answers of the others, and the state after each, also if the host runs out of memory.
-use Rattle.std.specs.Prelude.{ℕ, ℤ, ◌+◌, ◌/◌, Bool, true, false, ◌&&◌, if◌then◌else◌, List, [], ◌∷◌, map, slice_index_or, Option, Some, None}
+use Rattle.std.specs.Prelude.{ℕ, ℤ, ◌/◌, Bool, true, false, ◌&&◌, if◌then◌else◌, List, [], map, slice_index_or, Option, Some, None}
 use Rattle.std.specs.Map.{keys_of}
 use Rattle.std.specs.Option.{is_some}
 use Rattle.nm_types.specs.declared.errno.Errno.{Errno}
 use Rattle.nm_types.specs.State.{State, free_list}
-use Rattle.nm_model.specs.definitions.Cut.{Stretch}
-use Rattle.nm_model.specs.definitions.Cut.{cut_within, requests_of}
+use Rattle.nm_model.specs.definitions.Cut.{Stretch, cut_within, requests_of}
 use Rattle.nm_model.specs.definitions.Touch.{Access, read, write, site_refusal}
 use Rattle.nm_model.specs.definitions.Touch as engine
-use Rattle.nm_model.specs.definitions.Effect.{set_online, spawn, map_new, attach, unmap, exit, pin, unpin}
-use Rattle.nm_model.specs.definitions.Effect.{spawn_refusal, map_refusal, attach_refusal, unmap_refusal, exit_refusal, pin_refusal, unpin_refusal, list_refusal, entries_refusal}
-use Rattle.nm_model.specs.definitions.Run.{RunResult, run}
-use Rattle.nm_model.specs.definitions.Run.{accesses_of, failures, runs_from}
+use Rattle.nm_model.specs.definitions.Effect.{set_online, spawn, map_new, attach, unmap, exit, pin, unpin, spawn_refusal, map_refusal, attach_refusal, unmap_refusal, exit_refusal, pin_refusal, unpin_refusal, list_refusal, entries_refusal}
+use Rattle.nm_model.specs.definitions.Run.{RunResult, failures, runs_from}
 use Rattle.nm_model.specs.definitions.Status.{node_status}
-use Rattle.nm_steps.specs.Calls.{Call, Spawn, MapPages, Attach, Unmap, Exit, Pin, Unpin, ReadBytes, WriteBytes, MovePages, MigratePages, Query, FreeList, Pagemap, Vmstat, NumaMaps, Mbind, Offline, Online}
+use Rattle.nm_requests.specs.Calls.{Call, Spawn, MapPages, Attach, Unmap, Exit, Pin, Unpin, ReadBytes, WriteBytes, MovePages, MigratePages, Query, FreeList, Pagemap, Vmstat, NumaMaps, Mbind, Offline, Online}
 use Rattle.nm_calls.specs.definitions.Answers.{Answer, Refusal, Done, Held, NewSegment, TheBytes, Statuses, Failed, Frames, Entries, TheTotals, Lines}
 use Rattle.nm_calls.specs.definitions.Entries.{pagemap}
 use Rattle.nm_calls.specs.definitions.Maps.{numa_maps}
-use Rattle.nm_calls.specs.definitions.Permission.{query_refusal, has_move_all, owner_of}
+use Rattle.nm_passes.specs.definitions.Permission.{query_refusal, has_move_all, owner_of}
 use Rattle.nm_types.specs.declared.errno.Errno.TheVariants.{Eio, Ebusy}
-use Rattle.nm_calls.specs.definitions.Batch.{move_refusal}
-use Rattle.nm_calls.specs.definitions.Batch.{answers_in_order}
+use Rattle.nm_passes.specs.definitions.Batch.{move_refusal, answers_in_order}
 use Rattle.nm_calls.specs.definitions.Migrate.{migrate_refusal, migration}
 use Rattle.nm_calls.specs.definitions.Mbind.{mbind_refusal, with_binding, binding, mbind_runs, has_stray, tells_late}
 use Rattle.nm_calls.specs.definitions.Offline.{offline_refusal, offline_runs, still_on}
 use Rattle.nm_calls.specs.definitions.Systems.{SystemState, in_state}
+use Rattle.nm_passes.specs.definitions.Moves.{states_from}
 
 -- why an access is refused, if it is
 abbrev pub refusal_in : engine.AccessAnswer → Option Errno
@@ -152,16 +149,6 @@ outcome y call =
 -- the runs of a call; none if it is refused
 abbrev pub runs_of : SystemState → Call → List Stretch
 runs_of y call = if is_some (refusal_of y.state call) then [] else runs_asked y call
-
--- the states before, between and after runs numbered from k on, each with its accesses
-abbrev pub states_from : ℕ → State → List Stretch → List (ℕ × Access) → List State
-states_from k s [] accesses = s ∷ []
-states_from k s (r ∷ rs) accesses =
-    s ∷ states_from (k + 1) (run s r.target r.wanted (accesses_of k accesses)).state rs accesses
-
--- the states before, between and after runs without accesses
-abbrev pub states_of : State → List Stretch → List State
-states_of s rs = states_from 0 s rs []
 
 -- the state before the first run of a call, with the policy of mbind set; as it was if the call is refused
 abbrev pub state_before_runs : SystemState → Call → State

@@ -3,7 +3,7 @@ use Rattle.std.specs.Prelude.{ℕ}
 use Rattle.nm_types.specs.Layout.{Layout}
 use Rattle.nm_types.specs.State.{State}
 use Rattle.nm_model.specs.definitions.Effect.{new_machine}
-use Rattle.nm_steps.specs.Calls.{default_limit}
+use Rattle.nm_requests.specs.Calls.{default_limit}
 
 -- the state of its machine, and the most entries that a run may have
 pub record SystemState : Type 0 where

@@ -6,11 +6,11 @@ use Rattle.nm_model.specs.definitions.Status.{code}
 use Rattle.nm_model.specs.definitions.Effect.{map_new, attach}
 use Rattle.nm_model.specs.definitions.Touch.{Access, Read, Write, Bytes, Done, Held, Refused}
 use Rattle.nm_model.specs.examples.{A, B, C, D, E, three_pages, four_of_five, six_pages, shared_page, frame_shown_at}
-use Rattle.nm_steps.specs.Calls.{MovePages}
+use Rattle.nm_requests.specs.Calls.{MovePages}
 use Rattle.nm_calls.specs.definitions.Answers.{Statuses, Refusal}
 use Rattle.nm_calls.specs.definitions.Systems.{SystemState}
 use Rattle.nm_calls.specs.definitions.Outcome.{Outcome, outcome}
-use Rattle.nm_calls.specs.examples.MbindRows.{system_in, left_in}
+use Rattle.nm_calls.specs.examples.Calling.{system_in, outline_of}
 
 -- process 1 moves pages of its own, with accesses made meanwhile
 abbrev pub move_with_accesses : State → List ℕ → List ℕ → List (ℕ × Access) → Outcome
@@ -22,7 +22,7 @@ abbrev pub FramesAreReserved : Type 0
 FramesAreReserved =
     let o = move_with_accesses four_of_five (A ∷ []) (1 ∷ []) ((0, Read 1 A 1) ∷ (0, Read 1 B 1) ∷ (0, Write 1 E (0x65 ∷ [])) ∷ []) in
     (o.answer ≡ Statuses 0 (pos 1 ∷ []) (Held ∷ Bytes (0x62 ∷ []) ∷ Done ∷ []))
-    × (left_in o.system.state (A ∷ E ∷ [])
+    × (outline_of o.system.state (A ∷ E ∷ [])
     ≡ record { free = (0 ∷ []) ∷ (6 ∷ 7 ∷ []) ∷ []; moved = 1; failed = 0; frames = Some 4 ∷ Some 5 ∷ [] })
 
 -- four pages of process 1 fill node 0, and the run takes the two free frames of node 1: an access finds no frame
@@ -31,7 +31,7 @@ AccessFindsNoFrame =
     let accesses = (0, Read 1 C 1) ∷ (0, Read 1 A 1) ∷ (0, Write 1 E (0x65 ∷ [])) ∷ [] in
     let o = move_with_accesses (map_new six_pages 1 E 1 false) (A ∷ B ∷ C ∷ D ∷ []) (1 ∷ 1 ∷ 1 ∷ 1 ∷ []) accesses in
     (o.answer ≡ Statuses 2 (pos 1 ∷ pos 1 ∷ code Enomem ∷ code Enomem ∷ []) (Bytes (0x63 ∷ []) ∷ Held ∷ Refused Enomem ∷ []))
-    × (left_in o.system.state (A ∷ B ∷ E ∷ [])
+    × (outline_of o.system.state (A ∷ B ∷ E ∷ [])
     ≡ record { free = (0 ∷ 1 ∷ []) ∷ [] ∷ []; moved = 2; failed = 2; frames = Some 6 ∷ Some 7 ∷ None ∷ [] })
 
 -- an access through an address that was never touched is held too, and takes no frame
@@ -67,5 +67,5 @@ LimitMakesRuns =
     let y : SystemState = record { state = four_of_five; run_limit = 1 } in
     let o = outcome y (MovePages 1 0 (A ∷ B ∷ []) (1 ∷ 1 ∷ []) 2 ((1, Write 1 E (0x65 ∷ [])) ∷ [])) in
     (o.answer ≡ Statuses 0 (pos 1 ∷ pos 1 ∷ []) (Done ∷ []))
-    × (left_in o.system.state (A ∷ B ∷ E ∷ [])
+    × (outline_of o.system.state (A ∷ B ∷ E ∷ [])
     ≡ record { free = (1 ∷ []) ∷ (6 ∷ 7 ∷ []) ∷ []; moved = 2; failed = 0; frames = Some 4 ∷ Some 5 ∷ Some 0 ∷ [] })

@@ -8,8 +8,9 @@ use Rattle.nm_model.specs.definitions.Effect.{new_machine, spawn, map_new, attac
 use Rattle.nm_model.specs.definitions.Effect.{map_refusal}
 use Rattle.nm_model.specs.definitions.Touch.{read, write, Bytes, Refused}
 use Rattle.nm_model.specs.examples.{A, B, C, D, E, three_nodes, one_process, with_second, wrote, three_pages, seen_by_two, frame_shown_at}
-use Rattle.nm_steps.specs.Calls.{Call, Mbind, default_limit}
+use Rattle.nm_requests.specs.Calls.{Call, Mbind, default_limit}
 use Rattle.nm_calls.specs.definitions.Answers.{Answer, Refusal, Failed}
+use Rattle.nm_calls.specs.examples.Calling.{system_in, outline_of}
 use Rattle.nm_calls.specs.definitions.Outcome.{Outcome, outcome, runs_of, after_runs}
 use Rattle.nm_calls.specs.definitions.Systems.{SystemState}
 use Rattle.nm_calls.specs.definitions.Maps.{set_text, numa_maps}
@@ -38,11 +39,7 @@ pub record MbindOf : Type 0 where
 abbrev pub ask : ℕ → ℕ → ℕ → List ℕ → ℕ → MbindOf
 ask addr len mode nodes flags = record { addr = addr; len = len; mode = mode; nodes = nodes; flags = flags }
 
--- a system in this state, with the greatest limit on runs
-abbrev pub system_in : State → SystemState
-system_in s = record { state = s; run_limit = default_limit }
-
--- the same, as a call of a process
+-- this, as a call of a process
 abbrev pub call_by : ℕ → MbindOf → Call
 call_by pid a = Mbind pid a.addr a.len a.mode a.nodes a.flags
 
@@ -51,12 +48,12 @@ abbrev pub bound_by : ℕ → State → MbindOf → Outcome
 bound_by pid s a = outcome (system_in s) (call_by pid a)
 
 -- the answer to process 1
-abbrev pub answer : State → MbindOf → Answer
-answer s a = (bound_by 1 s a).answer
+abbrev pub mbind_answer : State → MbindOf → Answer
+mbind_answer s a = (bound_by 1 s a).answer
 
 -- the state after it
-abbrev pub after : State → MbindOf → State
-after s a = (bound_by 1 s a).system.state
+abbrev pub after_mbind : State → MbindOf → State
+after_mbind s a = (bound_by 1 s a).system.state
 
 -- its runs
 abbrev pub runs : State → MbindOf → List Stretch
@@ -65,17 +62,6 @@ runs s a = runs_of (system_in s) (call_by 1 a)
 -- the state after its first `n` runs
 abbrev pub state_after_runs : State → MbindOf → ℕ → State
 state_after_runs s a n = (after_runs (system_in s) (call_by 1 a) n).state
-
--- what a call leaves: the free lists, the totals, and the frames at some addresses of process 1
-pub record Left : Type 0 where
-  pub free : List (List ℕ)
-  pub moved : ℕ
-  pub failed : ℕ
-  pub frames : List (Option ℕ)
-
-abbrev pub left_in : State → List ℕ → Left
-left_in s addresses =
-    record { free = s.free; moved = s.moved; failed = s.failed; frames = map (frame_shown_at s 1) addresses }
 
 -- two pages, the second of which has a pin
 abbrev pub second_pinned : State
@@ -88,9 +74,9 @@ both_to_1 flags = ask A 8192 MPOL_BIND (1 ∷ []) flags
 -- a pinned page stays and is reported; the other has moved, and the policy is set
 abbrev pub PinnedPageIsTold : Type 0
 PinnedPageIsTold =
-    let s = after second_pinned (both_to_1 3) in
-    (answer second_pinned (both_to_1 3) ≡ Refusal Eio)
-    × (left_in s (A ∷ B ∷ [])
+    let s = after_mbind second_pinned (both_to_1 3) in
+    (mbind_answer second_pinned (both_to_1 3) ≡ Refusal Eio)
+    × (outline_of s (A ∷ B ∷ [])
     ≡ record {
       free = (2 ∷ 3 ∷ 0 ∷ []) ∷ (5 ∷ 6 ∷ 7 ∷ []) ∷ [];
       moved = 1;
@@ -102,20 +88,20 @@ PinnedPageIsTold =
 -- with MPOL_MF_STRICT alone nothing changes; without flags the policy is set
 abbrev pub StrictAloneRefuses : Type 0
 StrictAloneRefuses =
-    (answer second_pinned (both_to_1 1) ≡ Refusal Eio) × (after second_pinned (both_to_1 1) ≡ second_pinned)
+    (mbind_answer second_pinned (both_to_1 1) ≡ Refusal Eio) × (after_mbind second_pinned (both_to_1 1) ≡ second_pinned)
     × (numa_maps second_pinned 1 ≡ codes "00010000 default anon=2 N0=2 kernelpagesize_kB=4" ∷ [])
-    × (answer second_pinned (both_to_1 0) ≡ Failed 0)
-    × (numa_maps (after second_pinned (both_to_1 0)) 1 ≡ codes "00010000 bind:1 anon=2 N0=2 kernelpagesize_kB=4" ∷ [])
+    × (mbind_answer second_pinned (both_to_1 0) ≡ Failed 0)
+    × (numa_maps (after_mbind second_pinned (both_to_1 0)) 1 ≡ codes "00010000 bind:1 anon=2 N0=2 kernelpagesize_kB=4" ∷ [])
 
 -- without MPOL_MF_STRICT a page that stays is no error
 abbrev pub StayingIsNoError : Type 0
 StayingIsNoError =
-    (answer second_pinned (both_to_1 2) ≡ Failed 0) × ((after second_pinned (both_to_1 2)).failed ≡ 1)
+    (mbind_answer second_pinned (both_to_1 2) ≡ Failed 0) × ((after_mbind second_pinned (both_to_1 2)).failed ≡ 1)
 
 -- setting the policy of one byte splits an area into three
 abbrev pub LinesAreSplit : Type 0
 LinesAreSplit =
-    numa_maps (after three_pages (ask B 1 MPOL_PREFERRED (1 ∷ []) 0)) 1
+    numa_maps (after_mbind three_pages (ask B 1 MPOL_PREFERRED (1 ∷ []) 0)) 1
     ≡ codes "00010000 default anon=1 N0=1 kernelpagesize_kB=4"
     ∷ codes "00011000 prefer:1 anon=1 N0=1 kernelpagesize_kB=4"
     ∷ codes "00012000 default anon=1 N0=1 kernelpagesize_kB=4" ∷ []
@@ -123,7 +109,7 @@ LinesAreSplit =
 -- new pages take turns
 abbrev pub NewPagesTakeTurns : Type 0
 NewPagesTakeTurns =
-    let s = after (map_new one_process 1 A 4 false) (ask A 16384 MPOL_INTERLEAVE (0 ∷ 1 ∷ []) 2) in
+    let s = after_mbind (map_new one_process 1 A 4 false) (ask A 16384 MPOL_INTERLEAVE (0 ∷ 1 ∷ []) 2) in
     let t = wrote (wrote (wrote (wrote s 1 A 0x61) 1 B 0x62) 1 C 0x63) 1 D 0x64 in
     (map (frame_shown_at t 1) (A ∷ B ∷ C ∷ D ∷ []) ≡ Some 0 ∷ Some 4 ∷ Some 1 ∷ Some 5 ∷ [])
     × (numa_maps t 1 ≡ codes "00010000 interleave:0-1 anon=4 N0=2 N1=2 kernelpagesize_kB=4" ∷ [])
@@ -131,7 +117,7 @@ NewPagesTakeTurns =
 -- new pages go only to the nodes that they are bound to
 abbrev pub BoundPagesGoNowhereElse : Type 0
 BoundPagesGoNowhereElse =
-    let s = after (map_new one_process 1 A 5 false) (ask A 20480 MPOL_BIND (1 ∷ []) 2) in
+    let s = after_mbind (map_new one_process 1 A 5 false) (ask A 20480 MPOL_BIND (1 ∷ []) 2) in
     let t = wrote (wrote (wrote (wrote s 1 A 0x61) 1 B 0x62) 1 C 0x63) 1 D 0x64 in
     (map (frame_shown_at t 1) (A ∷ B ∷ C ∷ D ∷ []) ≡ Some 4 ∷ Some 5 ∷ Some 6 ∷ Some 7 ∷ [])
     × ((write t 1 E (0x65 ∷ [])).answer ≡ Refused Enomem) × (t.free ≡ (0 ∷ 1 ∷ 2 ∷ 3 ∷ []) ∷ [] ∷ [])
@@ -151,8 +137,8 @@ two_on_narrow =
 abbrev pub SecondPassTakesTheRest : Type 0
 SecondPassTakesTheRest =
     let call = ask A 8192 MPOL_BIND (1 ∷ 2 ∷ []) 2 in
-    (answer two_on_narrow call ≡ Failed 0)
-    × (left_in (after two_on_narrow call) (A ∷ B ∷ [])
+    (mbind_answer two_on_narrow call ≡ Failed 0)
+    × (outline_of (after_mbind two_on_narrow call) (A ∷ B ∷ [])
     ≡ record {
       free = (2 ∷ 3 ∷ 0 ∷ 1 ∷ []) ∷ [] ∷ (6 ∷ 7 ∷ 8 ∷ []) ∷ [];
       moved = 2;
@@ -160,7 +146,7 @@ SecondPassTakesTheRest =
       frames = Some 4 ∷ Some 5 ∷ [];
     })
     × (length (runs two_on_narrow call) ≡ 2)
-    × (left_in (state_after_runs two_on_narrow call 1) (A ∷ B ∷ [])
+    × (outline_of (state_after_runs two_on_narrow call 1) (A ∷ B ∷ [])
     ≡ record {
       free = (2 ∷ 3 ∷ 0 ∷ []) ∷ [] ∷ (5 ∷ 6 ∷ 7 ∷ 8 ∷ []) ∷ [];
       moved = 1;
@@ -178,17 +164,17 @@ FollowersStay =
     let preferred = ask A 12288 MPOL_PREFERRED (0 ∷ 1 ∷ []) 2 in
     let interleaved = ask A 12288 MPOL_INTERLEAVE (0 ∷ 1 ∷ []) 2 in
     let strict = ask A 4096 MPOL_DEFAULT [] 3 in
-    (answer three_pages preferred ≡ Failed 0) × ((after three_pages preferred).free ≡ where_they_are)
-    × (numa_maps (after three_pages preferred) 1 ≡ codes "00010000 prefer:0 anon=3 N0=3 kernelpagesize_kB=4" ∷ [])
-    × (answer three_pages interleaved ≡ Failed 0) × ((after three_pages interleaved).free ≡ where_they_are)
-    × (answer three_pages strict ≡ Failed 0) × ((after three_pages strict).free ≡ where_they_are)
+    (mbind_answer three_pages preferred ≡ Failed 0) × ((after_mbind three_pages preferred).free ≡ where_they_are)
+    × (numa_maps (after_mbind three_pages preferred) 1 ≡ codes "00010000 prefer:0 anon=3 N0=3 kernelpagesize_kB=4" ∷ [])
+    × (mbind_answer three_pages interleaved ≡ Failed 0) × ((after_mbind three_pages interleaved).free ≡ where_they_are)
+    × (mbind_answer three_pages strict ≡ Failed 0) × ((after_mbind three_pages strict).free ≡ where_they_are)
 
 -- pages that do not follow take turns; here all go to one node
 abbrev pub StrayPagesTakeTurns : Type 0
 StrayPagesTakeTurns =
     let call = ask A 12288 MPOL_INTERLEAVE (1 ∷ []) 2 in
-    (answer three_pages call ≡ Failed 0)
-    × (left_in (after three_pages call) (A ∷ B ∷ C ∷ [])
+    (mbind_answer three_pages call ≡ Failed 0)
+    × (outline_of (after_mbind three_pages call) (A ∷ B ∷ C ∷ [])
     ≡ record {
       free = (3 ∷ 0 ∷ 1 ∷ 2 ∷ []) ∷ (7 ∷ []) ∷ [];
       moved = 3;
@@ -199,22 +185,22 @@ StrayPagesTakeTurns =
 -- a length of 0 changes nothing; and calls that are refused
 abbrev pub BindingsAreRefused : Type 0
 BindingsAreRefused =
-    (answer three_pages (ask A 16384 MPOL_BIND (1 ∷ []) 0) ≡ Refusal Efault)
-    × (answer three_pages (ask 0x10001 4096 MPOL_BIND (1 ∷ []) 0) ≡ Refusal Einval)
-    × (answer three_pages (ask A 0 MPOL_BIND (1 ∷ []) 2) ≡ Failed 0)
-    × (after three_pages (ask A 0 MPOL_BIND (1 ∷ []) 2) ≡ three_pages)
-    × (answer three_pages (ask A 4096 MPOL_DEFAULT (0 ∷ []) 0) ≡ Refusal Einval)
-    × (answer three_pages (ask A 4096 MPOL_BIND [] 0) ≡ Refusal Einval)
-    × (answer three_pages (ask A 4096 5 [] 0) ≡ Refusal Einval)
-    × (answer three_pages (ask A 4096 5 [] 4) ≡ Refusal Einval)
-    × (answer three_pages (ask A 4096 MPOL_DEFAULT [] 8) ≡ Refusal Einval)
-    × (answer three_pages (ask 0x10001 4096 MPOL_BIND (1 ∷ []) 4) ≡ Refusal Eperm)
+    (mbind_answer three_pages (ask A 16384 MPOL_BIND (1 ∷ []) 0) ≡ Refusal Efault)
+    × (mbind_answer three_pages (ask 0x10001 4096 MPOL_BIND (1 ∷ []) 0) ≡ Refusal Einval)
+    × (mbind_answer three_pages (ask A 0 MPOL_BIND (1 ∷ []) 2) ≡ Failed 0)
+    × (after_mbind three_pages (ask A 0 MPOL_BIND (1 ∷ []) 2) ≡ three_pages)
+    × (mbind_answer three_pages (ask A 4096 MPOL_DEFAULT (0 ∷ []) 0) ≡ Refusal Einval)
+    × (mbind_answer three_pages (ask A 4096 MPOL_BIND [] 0) ≡ Refusal Einval)
+    × (mbind_answer three_pages (ask A 4096 5 [] 0) ≡ Refusal Einval)
+    × (mbind_answer three_pages (ask A 4096 5 [] 4) ≡ Refusal Einval)
+    × (mbind_answer three_pages (ask A 4096 MPOL_DEFAULT [] 8) ≡ Refusal Einval)
+    × (mbind_answer three_pages (ask 0x10001 4096 MPOL_BIND (1 ∷ []) 4) ≡ Refusal Eperm)
     × ((bound_by 77 three_pages (ask 0x10001 4096 MPOL_BIND (1 ∷ []) 8)).answer ≡ Refusal Esrch)
 
 -- one byte of a page counts as the page
 abbrev pub LastByteCounts : Type 0
 LastByteCounts =
-    map (frame_shown_at (after three_pages (ask A 4097 MPOL_PREFERRED (1 ∷ []) 2)) 1) (A ∷ B ∷ C ∷ [])
+    map (frame_shown_at (after_mbind three_pages (ask A 4097 MPOL_PREFERRED (1 ∷ []) 2)) 1) (A ∷ B ∷ C ∷ [])
     ≡ Some 4 ∷ Some 5 ∷ Some 2 ∷ []
 
 -- three pages from an odd page number on, on node 0 of three
@@ -226,7 +212,7 @@ from_b =
 -- turns go by the index in the segment, and all pages for one node come before those for the next
 abbrev pub TurnsGoByIndex : Type 0
 TurnsGoByIndex =
-    left_in (after from_b (ask B 12288 MPOL_INTERLEAVE (1 ∷ 2 ∷ []) 2)) (B ∷ C ∷ D ∷ [])
+    outline_of (after_mbind from_b (ask B 12288 MPOL_INTERLEAVE (1 ∷ 2 ∷ []) 2)) (B ∷ C ∷ D ∷ [])
     ≡ record {
       free = (3 ∷ 0 ∷ 2 ∷ 1 ∷ []) ∷ (6 ∷ 7 ∷ []) ∷ (9 ∷ 10 ∷ 11 ∷ []) ∷ [];
       moved = 3;
@@ -240,8 +226,8 @@ StrayIsListedOnce =
     let both = attach (map_new one_process 1 A 1 true) 1 B 0 0 1 in
     let twice = pin (read (wrote both 1 A 0x61) 1 B 1).state 1 A in
     let call = ask A 8192 MPOL_PREFERRED (1 ∷ []) 2 in
-    (answer twice call ≡ Failed 0) × ((after twice call).failed ≡ 1)
-    × (numa_maps (after twice call) 1
+    (mbind_answer twice call ≡ Failed 0) × ((after_mbind twice call).failed ≡ 1)
+    × (numa_maps (after_mbind twice call) 1
     ≡ codes "00010000 prefer:1 anon=1 N0=1 kernelpagesize_kB=4"
     ∷ codes "00011000 prefer:1 anon=1 N0=1 kernelpagesize_kB=4" ∷ [])
 
@@ -253,9 +239,9 @@ seen_by_three = (read (attach (spawn seen_by_two 3 300 0 (0 ∷ 1 ∷ []) true) 
 abbrev pub SharedPagesMoveWithAll : Type 0
 SharedPagesMoveWithAll =
     let all = (bound_by 3 seen_by_three (ask 0x20000 4096 MPOL_BIND (1 ∷ []) 4)).system.state in
-    (answer seen_by_two (ask 0x20000 4096 MPOL_BIND (1 ∷ []) 2) ≡ Failed 0)
-    × (answer seen_by_two (ask 0x20000 4096 MPOL_BIND (1 ∷ []) 3) ≡ Refusal Eio)
-    × (numa_maps (after seen_by_two (ask 0x20000 4096 MPOL_BIND (1 ∷ []) 3)) 1
+    (mbind_answer seen_by_two (ask 0x20000 4096 MPOL_BIND (1 ∷ []) 2) ≡ Failed 0)
+    × (mbind_answer seen_by_two (ask 0x20000 4096 MPOL_BIND (1 ∷ []) 3) ≡ Refusal Eio)
+    × (numa_maps (after_mbind seen_by_two (ask 0x20000 4096 MPOL_BIND (1 ∷ []) 3)) 1
     ≡ codes "00020000 bind:1 anon=1 mapmax=2 N0=1 kernelpagesize_kB=4" ∷ [])
     × (map (λ pid. frame_shown_at all pid 0x20000) (1 ∷ 2 ∷ 3 ∷ []) ≡ Some 4 ∷ Some 4 ∷ Some 4 ∷ [])
 

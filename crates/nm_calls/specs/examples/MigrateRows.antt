@@ -5,46 +5,19 @@ use Rattle.nm_types.specs.Layout.{Layout}
 use Rattle.nm_types.specs.State.{State}
 use Rattle.nm_model.specs.definitions.Effect.{new_machine, spawn, map_new, pin}
 use Rattle.nm_model.specs.examples.{A, B, C, one_process, with_second, wrote, three_pages, two_addresses, six_pages, seen_by_two, on_two_of_three, frame_shown_at}
-use Rattle.nm_steps.specs.Calls.{default_limit, Call, MigratePages}
+use Rattle.nm_requests.specs.Calls.{default_limit, Call, MigratePages}
 use Rattle.nm_calls.specs.definitions.Systems.{SystemState}
 use Rattle.nm_calls.specs.definitions.Answers.{Answer, Failed}
+use Rattle.nm_calls.specs.examples.Calling.{system_within, system_in, answer_to, after_call, outline_of}
 use Rattle.nm_calls.specs.definitions.Outcome.{refusal_of, outcome, trail}
-
--- a system in this state, with this limit on runs
-abbrev pub system_within : ℕ → State → SystemState
-system_within limit s = record { state = s; run_limit = limit }
-
--- ... and with the default limit
-abbrev pub system : State → SystemState
-system s = system_within default_limit s
-
--- the answer of a call
-abbrev pub answer : State → Call → Answer
-answer s call = (outcome (system s) call).answer
-
--- the state after it
-abbrev pub after : State → Call → State
-after s call = (outcome (system s) call).system.state
-
--- what a call leaves: the free lists, the totals, and the frames at some addresses of process 1
-pub record Left : Type 0 where
-  pub free : List (List ℕ)
-  pub moved : ℕ
-  pub failed : ℕ
-  pub frames : List (Option ℕ)
-
--- what a state shows of this
-abbrev pub left_in : State → List ℕ → Left
-left_in s addresses =
-    record { free = s.free; moved = s.moved; failed = s.failed; frames = map (frame_shown_at s 1) addresses }
 
 -- pages on nodes 0 and 1 go to nodes 1 and 2: the page on node 1 goes first, and no page goes on to node 2 through node
 -- 1
 abbrev pub EachPageGoesOnce : Type 0
 EachPageGoesOnce =
     let call = MigratePages 1 0 (0 ∷ 1 ∷ []) (1 ∷ 2 ∷ []) in
-    (answer on_two_of_three call ≡ Failed 0)
-    × (left_in (after on_two_of_three call) (A ∷ B ∷ [])
+    (answer_to on_two_of_three call ≡ Failed 0)
+    × (outline_of (after_call on_two_of_three call) (A ∷ B ∷ [])
     ≡ record {
       free = (2 ∷ 3 ∷ 1 ∷ 0 ∷ []) ∷ (6 ∷ 7 ∷ 4 ∷ []) ∷ (9 ∷ 10 ∷ 11 ∷ []) ∷ [];
       moved = 3;
@@ -55,9 +28,9 @@ EachPageGoesOnce =
 -- the state between its two runs
 abbrev pub HalfWay : Type 0
 HalfWay =
-    let states = trail (system on_two_of_three) (MigratePages 1 0 (0 ∷ 1 ∷ []) (1 ∷ 2 ∷ [])) in
+    let states = trail (system_in on_two_of_three) (MigratePages 1 0 (0 ∷ 1 ∷ []) (1 ∷ 2 ∷ [])) in
     (length states ≡ 3)
-    × (left_in (slice_index_or states 1 on_two_of_three) (A ∷ B ∷ [])
+    × (outline_of (slice_index_or states 1 on_two_of_three) (A ∷ B ∷ [])
     ≡ record {
       free = (2 ∷ 3 ∷ 1 ∷ []) ∷ (5 ∷ 6 ∷ 7 ∷ 4 ∷ []) ∷ (9 ∷ 10 ∷ 11 ∷ []) ∷ [];
       moved = 2;
@@ -69,8 +42,8 @@ HalfWay =
 abbrev pub TwoOfFourGo : Type 0
 TwoOfFourGo =
     let call = MigratePages 1 0 (0 ∷ []) (1 ∷ []) in
-    (answer six_pages call ≡ Failed 2)
-    × (left_in (after six_pages call) (A ∷ B ∷ [])
+    (answer_to six_pages call ≡ Failed 2)
+    × (outline_of (after_call six_pages call) (A ∷ B ∷ [])
     ≡ record { free = (0 ∷ 1 ∷ []) ∷ [] ∷ []; moved = 2; failed = 2; frames = Some 6 ∷ Some 7 ∷ [] })
 
 -- process 3 is privileged
@@ -82,9 +55,9 @@ abbrev pub SharedPageGoesByPrivilege : Type 0
 SharedPageGoesByPrivilege =
     let call = MigratePages 1 0 (0 ∷ []) (1 ∷ []) in
     let by_third = MigratePages 3 1 (0 ∷ []) (1 ∷ []) in
-    let there = after (with_third seen_by_two) by_third in
-    (answer seen_by_two call ≡ Failed 0) × (after seen_by_two call ≡ seen_by_two)
-    × (answer (with_third seen_by_two) by_third ≡ Failed 0)
+    let there = after_call (with_third seen_by_two) by_third in
+    (answer_to seen_by_two call ≡ Failed 0) × (after_call seen_by_two call ≡ seen_by_two)
+    × (answer_to (with_third seen_by_two) by_third ≡ Failed 0)
     × (map (λ pid. frame_shown_at there pid 0x20000) (1 ∷ 2 ∷ []) ≡ Some 4 ∷ Some 4 ∷ [])
 
 -- process 4 may use node 0 only
@@ -103,16 +76,16 @@ MigrationsAreRefused =
     × (why (MigratePages 4 0 (0 ∷ []) (1 ∷ [])) ≡ Some Eperm)
     × (why (MigratePages 4 0 (0 ∷ []) (0 ∷ 1 ∷ [])) ≡ Some Eperm)
     × (why (MigratePages 3 4 (0 ∷ []) (1 ∷ [])) ≡ Some Einval)
-    × (answer four_processes (MigratePages 3 4 (0 ∷ []) (0 ∷ 1 ∷ [])) ≡ Failed 0)
+    × (answer_to four_processes (MigratePages 3 4 (0 ∷ []) (0 ∷ 1 ∷ [])) ≡ Failed 0)
     × (why (MigratePages 1 0 (0 ∷ []) []) ≡ Some Einval)
 
 -- from an empty set, and from a set to itself
 abbrev pub NothingMigrates : Type 0
 NothingMigrates =
-    (answer three_pages (MigratePages 1 0 [] (1 ∷ [])) ≡ Failed 0)
-    × (after three_pages (MigratePages 1 0 [] (1 ∷ [])) ≡ three_pages)
-    × (answer three_pages (MigratePages 1 0 (0 ∷ 1 ∷ []) (0 ∷ 1 ∷ [])) ≡ Failed 0)
-    × (after three_pages (MigratePages 1 0 (0 ∷ 1 ∷ []) (0 ∷ 1 ∷ [])) ≡ three_pages)
+    (answer_to three_pages (MigratePages 1 0 [] (1 ∷ [])) ≡ Failed 0)
+    × (after_call three_pages (MigratePages 1 0 [] (1 ∷ [])) ≡ three_pages)
+    × (answer_to three_pages (MigratePages 1 0 (0 ∷ 1 ∷ []) (0 ∷ 1 ∷ [])) ≡ Failed 0)
+    × (after_call three_pages (MigratePages 1 0 (0 ∷ 1 ∷ []) (0 ∷ 1 ∷ [])) ≡ three_pages)
 
 -- four nodes of two frames each, all equally far apart
 abbrev pub four_nodes : Layout
@@ -132,22 +105,22 @@ without_last =
 abbrev pub SizesOfWhatIsKept : Type 0
 SizesOfWhatIsKept =
     let call = MigratePages 1 0 (0 ∷ 1 ∷ []) (1 ∷ 2 ∷ 3 ∷ []) in
-    (answer without_last call ≡ Failed 0)
-    × (map (frame_shown_at (after without_last call) 1) (A ∷ B ∷ C ∷ []) ≡ Some 3 ∷ Some 2 ∷ Some 4 ∷ [])
+    (answer_to without_last call ≡ Failed 0)
+    × (map (frame_shown_at (after_call without_last call) 1) (A ∷ B ∷ C ∷ []) ≡ Some 3 ∷ Some 2 ∷ Some 4 ∷ [])
 
 -- a page at two addresses is listed once: it moves once, and fails once if it has a pin
 abbrev pub PageIsListedOnce : Type 0
 PageIsListedOnce =
     let call = MigratePages 1 0 (0 ∷ []) (1 ∷ []) in
     let pinned = pin two_addresses 1 0x30000 in
-    (left_in (after two_addresses call) (0x20000 ∷ 0x30000 ∷ [])
+    (outline_of (after_call two_addresses call) (0x20000 ∷ 0x30000 ∷ [])
     ≡ record {
       free = (1 ∷ 2 ∷ 3 ∷ 0 ∷ []) ∷ (5 ∷ 6 ∷ 7 ∷ []) ∷ [];
       moved = 1;
       failed = 0;
       frames = Some 4 ∷ Some 4 ∷ [];
     })
-    × (answer pinned call ≡ Failed 1) × ((after pinned call).failed ≡ 1)
+    × (answer_to pinned call ≡ Failed 1) × ((after_call pinned call).failed ≡ 1)
 
 -- a limit of two cuts the run of three pages, and frees the frames of the first two before the third moves
 abbrev pub RunsHaveALimit : Type 0

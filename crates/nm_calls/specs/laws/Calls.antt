@@ -10,14 +10,14 @@ use Rattle.nm_model.specs.definitions.Touch.{Access, AccessAnswer}
 use Rattle.nm_model.specs.definitions.Run.{runs_from, batch, batch_answer}
 use Rattle.nm_model.specs.definitions.Sound.{IsSound}
 use Rattle.nm_laws.specs.Laws.{runs_written}
-use Rattle.nm_steps.specs.Calls.{Call, MapPages, Attach, Unmap, Exit, WriteBytes, MovePages, MigratePages, Mbind, Offline}
+use Rattle.nm_requests.specs.Calls.{Call, MapPages, Attach, Unmap, Exit, WriteBytes, MovePages, MigratePages, Mbind, Offline}
 use Rattle.nm_calls.specs.definitions.Answers.{Refusal, Statuses, Failed}
-use Rattle.nm_calls.specs.definitions.Batch.{answers_in_order, by_place}
+use Rattle.nm_passes.specs.definitions.Batch.{answers_in_order, by_place}
 use Rattle.nm_calls.specs.definitions.Systems.{SystemState}
 use Rattle.nm_calls.specs.definitions.Outcome.{refusal_of, leaves, start, state_before_runs, outcome, runs_of, accesses_asked, trail}
 use Rattle.nm_calls.specs.definitions.Mbind.{tells_late}
 use Rattle.nm_calls.specs.definitions.Migrate.{migration}
-use Rattle.nm_calls.specs.definitions.Permission.{owner_of, has_move_all}
+use Rattle.nm_passes.specs.definitions.Permission.{owner_of, has_move_all}
 use Rattle.nm_types.specs.declared.errno.Errno.TheVariants.{Eio, Ebusy}
 
 -- the refusal that may come after a call's runs

@@ -7,9 +7,9 @@ use Rattle.nm_types.specs.Nodes.{is_in, IsNodeSet}
 use Rattle.nm_types.specs.State.{State}
 use Rattle.nm_types.specs.declared.page.Page.{Page}
 use Rattle.nm_policy.specs.Pairs.{pairs}
-use Rattle.nm_calls.specs.definitions.Migrate.{pages_on}
+use Rattle.nm_passes.specs.definitions.Listing.{pages_on}
 use Rattle.nm_calls.specs.definitions.Systems.{SystemState}
-use Rattle.nm_steps.specs.Calls.{MigratePages}
+use Rattle.nm_requests.specs.Calls.{MigratePages}
 use Rattle.nm_calls.specs.definitions.Outcome.{runs_of}
 
 -- the pages of a process that go from some nodes to others, in the order of the list

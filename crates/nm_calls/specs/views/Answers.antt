@@ -2,7 +2,7 @@
 use Rattle.std.specs.Prelude.{map}
 use Rattle.nm_calls.specs.declared.answer.Answer as values
 use Rattle.nm_calls.specs.declared.answer.Answer.TheVariants as answer
-use Rattle.nm_calls.specs.declared.answer.Moved.{Moved}
+use Rattle.nm_passes.specs.declared.moved.Moved.{Moved}
 use Rattle.nm_calls.specs.definitions.Answers.{Answer, Done, NewSegment, TheBytes, Statuses, Failed, Frames, Entries, TheTotals, Lines}
 use Rattle.nm_pool.specs.views.Accesses.{answer_shown}
 use Rattle.nm_calls.specs.definitions.Entries.{entries_mapped}

@@ -1,8 +1,8 @@
 //! Calls on the system of a session, beside its steps: they have no lines, and are not counted.
 
 ghost use Rattle.std.specs.Prelude.{◌≡◌, ℕ, Bool};
-ghost use Rattle.nm_steps.specs.Calls.{ReadBytes, WriteBytes};
-ghost use Rattle.nm_steps.specs.Views.{call_of, map_call, migrate_call, move_call};
+ghost use Rattle.nm_requests.specs.Calls.{ReadBytes, WriteBytes};
+ghost use Rattle.nm_requests.specs.Views.{call_of, map_call, migrate_call, move_call};
 ghost use Rattle.nm_calls.specs.definitions.Answers.{Done, NewSegment, TheBytes, Failed};
 ghost use Rattle.nm_calls.specs.definitions.Does.{Does};
 ghost use Rattle.nm_calls.specs.views.Answers.{answer_of, moved_shown};

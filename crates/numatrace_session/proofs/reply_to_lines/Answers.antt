@@ -29,7 +29,7 @@ loop-preserved g c =
 pub returns-in_err-next_line-clause-talks : goal.returns-in_err-next_line-clause-talks
 returns-in_err-next_line-clause-talks g c =
     let is : c.from_residual.result ≡ Err c.in_err-next_line.field-0.0 = search rules in
-    if_err (λ e. EndsEarly e c.args.session.now (left_in g.R.Read.remaining c.args.input.now) (left_in g.R.Read.remaining c.next_line.new.input) (g.W.Write.contents c.args.out.now) (g.W.Write.contents c.loop.out) (has_read_failed c.next_line.new.input) (g.W.TellingWriter.has_failed c.args.out.now) (g.W.TellingWriter.has_failed c.loop.out))
+    if_err (λ e. EndsEarly e c.args.session.now (left_in g.R.Read.remaining c.args.input.now) (left_in g.R.Read.remaining c.next_line.new.input) (g.W.Write.contents c.args.out.now) (g.W.Write.contents c.loop.out) (has_read_failed c.next_line.new.input) (g.W.ReportingWriter.has_failed c.args.out.now) (g.W.ReportingWriter.has_failed c.loop.out))
     c.in_err-next_line.field-0.0 c.from_residual.result is
     (unread c.args.session.now c.loop.session _ (left_in g.R.Read.remaining c.loop.input) (left_in g.R.Read.remaining c.next_line.new.input) _ _ (has_read_failed c.next_line.new.input) _ _ c.next_line.new.line.items c.in_err-next_line.field-0.0
     c.loop.invariant.replied c.next_line.ensures.consumes c.next_line.ensures.stops c.loop.invariant.told c.in_err-next_line.ensures.fault c.in_err-next_line.ensures.cause)
@@ -39,11 +39,11 @@ returns-in_err-reply-clause-talks g c =
     let is : c.from_residual-in_err-reply.result ≡ Err c.in_err-reply.field-0.0 = search rules in
     let line = c.next_line.new.line.items in
     let t = c.loop.session in
-    let made = subst (λ (x : List ℕ). Replies t c.reply.new.session x (g.W.Write.contents c.loop.out) (g.W.Write.contents c.reply.new.out) (g.W.TellingWriter.has_failed c.loop.out) (g.W.TellingWriter.has_failed c.reply.new.out) (Err c.in_err-reply.field-0.0))
+    let made = subst (λ (x : List ℕ). Replies t c.reply.new.session x (g.W.Write.contents c.loop.out) (g.W.Write.contents c.reply.new.out) (g.W.ReportingWriter.has_failed c.loop.out) (g.W.ReportingWriter.has_failed c.reply.new.out) (Err c.in_err-reply.field-0.0))
     c.as_slice.ensures.value c.in_err-reply.ensures.replies in
-    if_err (λ e. EndsEarly e c.args.session.now (left_in g.R.Read.remaining c.args.input.now) (left_in g.R.Read.remaining c.next_line.new.input) (g.W.Write.contents c.args.out.now) (g.W.Write.contents c.reply.new.out) (has_read_failed c.next_line.new.input) (g.W.TellingWriter.has_failed c.args.out.now) (g.W.TellingWriter.has_failed c.reply.new.out))
+    if_err (λ e. EndsEarly e c.args.session.now (left_in g.R.Read.remaining c.args.input.now) (left_in g.R.Read.remaining c.next_line.new.input) (g.W.Write.contents c.args.out.now) (g.W.Write.contents c.reply.new.out) (has_read_failed c.next_line.new.input) (g.W.ReportingWriter.has_failed c.args.out.now) (g.W.ReportingWriter.has_failed c.reply.new.out))
     c.in_err-reply.field-0.0 c.from_residual-in_err-reply.result is
-    (unreplied c.args.session.now t c.reply.new.session _ (left_in g.R.Read.remaining c.loop.input) (left_in g.R.Read.remaining c.next_line.new.input) _ (g.W.Write.contents c.loop.out) _ (has_read_failed c.next_line.new.input) _ (g.W.TellingWriter.has_failed c.loop.out) _ line c.in_err-reply.field-0.0
+    (unreplied c.args.session.now t c.reply.new.session _ (left_in g.R.Read.remaining c.loop.input) (left_in g.R.Read.remaining c.next_line.new.input) _ (g.W.Write.contents c.loop.out) _ (has_read_failed c.next_line.new.input) _ (g.W.ReportingWriter.has_failed c.loop.out) _ line c.in_err-reply.field-0.0
     c.loop.invariant.replied c.in_ok-next_line.ensures.line c.in_ok-next_line.ensures.rest c.next_line.ensures.consumes c.next_line.ensures.stops (ltb-true 0 _ (sym c.in_ok-next_line.ensures.more ∙ c.if-not-branch.false)) c.loop.invariant.told made)
 
 pub returns-in_err-flush_unless_asked-clause-talks : goal.returns-in_err-flush_unless_asked-clause-talks
@@ -53,7 +53,7 @@ returns-in_err-flush_unless_asked-clause-talks g c =
     let s = c.loop.session in
     let written = subst (λ (x : List ℕ). Appends (g.W.Write.contents c.loop.out) (g.W.Write.contents c.reply.new.out) (reply_of s (next_call s x))) line c.in_ok-reply.ensures.replies.0.0 in
     let made = c.in_ok-reply.ensures.replies.1 ∙ ap (λ (x : List ℕ). session_after s (next_call s x)) line in
-    if_err (λ e. EndsEarly e c.args.session.now (left_in g.R.Read.remaining c.args.input.now) (left_in g.R.Read.remaining c.next_line.new.input) (g.W.Write.contents c.args.out.now) (g.W.Write.contents c.flush_unless_asked.new.out) (has_read_failed c.next_line.new.input) (g.W.TellingWriter.has_failed c.args.out.now) (g.W.TellingWriter.has_failed c.flush_unless_asked.new.out))
+    if_err (λ e. EndsEarly e c.args.session.now (left_in g.R.Read.remaining c.args.input.now) (left_in g.R.Read.remaining c.next_line.new.input) (g.W.Write.contents c.args.out.now) (g.W.Write.contents c.flush_unless_asked.new.out) (has_read_failed c.next_line.new.input) (g.W.ReportingWriter.has_failed c.args.out.now) (g.W.ReportingWriter.has_failed c.flush_unless_asked.new.out))
     c.in_err-flush_unless_asked.field-0.0 c.from_residual-in_err-flush_unless_asked.result is
     (unflushed c.args.session.now c.reply.new.session _ (left_in g.R.Read.remaining c.next_line.new.input) _ (g.W.Write.contents c.flush_unless_asked.new.out) (has_read_failed c.next_line.new.input) _ _ c.in_err-flush_unless_asked.field-0.0
     (one_more c.args.session.now s c.reply.new.session _ (left_in g.R.Read.remaining c.loop.input) (left_in g.R.Read.remaining c.next_line.new.input) _ _ _ (g.W.Write.contents c.flush_unless_asked.new.out)

@@ -27,7 +27,7 @@ pub returns-in_err-next_line-clause-talks : goal.returns-in_err-next_line-clause
 returns-in_err-next_line-clause-talks g c =
     let is : c.from_residual.result ≡ Err c.in_err-next_line.field-0.0 = search rules in
     let written = g.W.Write.contents c.args.out.now in
-    let failed = g.W.TellingWriter.has_failed c.args.out.now in
+    let failed = g.W.ReportingWriter.has_failed c.args.out.now in
     let read = has_read_failed c.next_line.new.input in
     if_err (λ e. EndsTalk e (left_in g.R.Read.remaining c.args.input.now) (left_in g.R.Read.remaining c.next_line.new.input) written written read failed failed)
     c.in_err-next_line.field-0.0 c.from_residual.result is
@@ -38,7 +38,7 @@ pub returns-in_err-session-clause-talks : goal.returns-in_err-session-clause-tal
 returns-in_err-session-clause-talks g c =
     let is : c.from_residual-in_err-session.result ≡ Err c.in_err-session.field-0.0 = search rules in
     let written = g.W.Write.contents c.args.out.now in
-    let failed = g.W.TellingWriter.has_failed c.args.out.now in
+    let failed = g.W.ReportingWriter.has_failed c.args.out.now in
     let read = has_read_failed c.next_line.new.input in
     if_err (λ e. EndsTalk e (left_in g.R.Read.remaining c.args.input.now) (left_in g.R.Read.remaining c.next_line.new.input) written written read failed failed)
     c.in_err-session.field-0.0 c.from_residual-in_err-session.result is

@@ -4,7 +4,7 @@ use Rattle.std.proofs.lemmas.Result.{IfOk-from_err}
 use Rattle.std.specs.Prelude.{string_bytes}
 use Rattle.nm_calls.specs.definitions.Maps.{lines_shown}
 use Rattle.nm_calls.specs.views.Tally.{line_text}
-use Rattle.nm_calls.proofs.Batches.Results.{on_err}
+use Rattle.nm_passes.proofs.Batches.Results.{on_err}
 use Rattle.nm_calls.proofs.maps.areas_text.Goals as goal
 
 pub loop-area-preserved : goal.loop-area-preserved

@@ -1,6 +1,6 @@
 use Rattle.std.proofs.Common.{◌++◌, ap, sym, ◌∙◌, append_assoc, string_bytes, slice_index_or}
 use Rattle.nm_calls.specs.views.Tally.{told_on, nodes_text}
-use Rattle.nm_calls.proofs.Batches.ConsecutiveNodes.{flat_map_up}
+use Rattle.nm_calls.proofs.Lines.ConsecutiveNodes.{flat_map_up}
 use Rattle.nm_calls.proofs.maps.push_nodes.Goals as goal
 
 pub loop-node-preserved : goal.loop-node-preserved

@@ -1,6 +1,6 @@
 use Rattle.std.proofs.Common.{◌++◌, map, ap, sym, string_bytes}
 use Rattle.nm_calls.specs.definitions.Maps.{stretches, stretch_text}
-use Rattle.nm_calls.proofs.Batches.ConsecutiveNodes.{joined_by_commas}
+use Rattle.nm_calls.proofs.Lines.ConsecutiveNodes.{joined_by_commas}
 use Rattle.nm_calls.proofs.maps.push_set.Goals as goal
 
 pub loop-first-init : goal.loop-first-init

@@ -1,7 +1,7 @@
 use Rattle.std.proofs.Common.{◌≡◌, ◌<◌, ◌++◌, map, length, string_bytes}
 use Rattle.nm_calls.specs.definitions.Maps.{stretches, stretch_text, set_text}
 use Rattle.nm_calls.specs.views.Tally.{comma}
-use Rattle.nm_calls.proofs.Batches.ConsecutiveNodes.{joined_after}
+use Rattle.nm_calls.proofs.Lines.ConsecutiveNodes.{joined_after}
 use Rattle.nm_calls.proofs.maps.push_set.Given as goal
 
 abbrev pub invariant-loop-first : goal.invariant-loop-first

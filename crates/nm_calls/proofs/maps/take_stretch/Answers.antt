@@ -1,6 +1,6 @@
 use Rattle.std.proofs.Common.{◌∷◌, ap, sym, ◌∙◌, drop, arith}
 use Rattle.nm_calls.specs.definitions.Maps.{stretches}
-use Rattle.nm_calls.proofs.Batches.ConsecutiveNodes.{extended, head_is, none_left, ends_here}
+use Rattle.nm_calls.proofs.Lines.ConsecutiveNodes.{extended, head_is, none_left, ends_here}
 use Rattle.nm_calls.proofs.maps.take_stretch.Goals as goal
 
 pub returns-then-from : goal.returns-then-from

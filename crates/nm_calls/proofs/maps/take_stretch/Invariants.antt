@@ -1,6 +1,6 @@
 use Rattle.std.proofs.Common.{◌≡◌, ◌∷◌, length}
 use Rattle.nm_calls.specs.definitions.Maps.{stretches}
-use Rattle.nm_calls.proofs.Batches.ConsecutiveNodes.{extended}
+use Rattle.nm_calls.proofs.Lines.ConsecutiveNodes.{extended}
 use Rattle.nm_calls.proofs.maps.take_stretch.Given as goal
 
 abbrev pub invariant-loop-next : goal.invariant-loop-next

@@ -9,9 +9,9 @@ use Rattle.nm_types.specs.Map.{get}
 use Rattle.nm_model.specs.definitions.Effect.{info_of}
 use Rattle.nm_spaces.specs.views.AddressSpaces.{AddressSpacesView}
 use Rattle.nm_calls.specs.definitions.Mbind.{policy_of}
-use Rattle.nm_calls.specs.definitions.Permission.{info_at, usable}
-use Rattle.nm_calls.specs.views.Runs.{nodes_named}
-use Rattle.nm_calls.proofs.Policies.NamedNodes.{usable_nodes}
+use Rattle.nm_passes.specs.definitions.Permission.{info_at, usable}
+use Rattle.nm_passes.specs.views.Runs.{nodes_named}
+use Rattle.nm_passes.proofs.Policies.NamedNodes.{usable_nodes}
 use Rattle.nm_calls.proofs.Policies.Nodes.{named_of, good_names}
 use Rattle.nm_calls.proofs.mbind.asked_of.Goals as goal
 

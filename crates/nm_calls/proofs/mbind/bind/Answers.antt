@@ -6,12 +6,14 @@ use Rattle.nm_model.specs.definitions.Areas.{with_policy}
 use Rattle.nm_model.specs.definitions.Cut.{Stretch}
 use Rattle.nm_model.specs.definitions.Effect.{areas_of, set_range_policy, with_areas_of}
 use Rattle.nm_model.specs.definitions.Run.{runs_from}
-use Rattle.nm_calls.specs.definitions.Mbind.{home_of, is_stray, is_strict, mbind_runs, runs_by}
-use Rattle.nm_calls.specs.definitions.Permission.{info_at, has_move_all}
-use Rattle.nm_calls.specs.declared.call_error.CallError.{CallError}
-use Rattle.nm_calls.specs.declared.mbind.Binding.{Binding}
-use Rattle.nm_calls.specs.views.Errors.{out_of_memory}
-use Rattle.nm_calls.specs.views.Runs.{runs_in, Binds, CanGo, FailsBinding, Stops}
+use Rattle.nm_calls.specs.definitions.Mbind.{home_of, is_strict, mbind_runs}
+use Rattle.nm_passes.specs.definitions.Placement.{is_stray, runs_by}
+use Rattle.nm_passes.specs.definitions.Permission.{info_at, has_move_all}
+use Rattle.nm_passes.specs.declared.call_error.CallError.{CallError}
+use Rattle.nm_passes.specs.declared.binding.Binding.{Binding}
+use Rattle.nm_passes.specs.views.Errors.{out_of_memory}
+use Rattle.nm_passes.specs.views.Runs.{runs_in, CanGo, Stops}
+use Rattle.nm_calls.specs.views.Ends.{Binds, FailsBinding}
 use Rattle.nm_calls.proofs.Policies.Late.{flag_is, late_is, stops_fail}
 use Rattle.nm_calls.proofs.Policies.NoBytes.{listed_moves, runs_some, stops_some}
 use Rattle.nm_calls.proofs.mbind.bind.Goals as goal
@@ -30,8 +32,8 @@ returns-in_err-pages-clause-bound g c = none_bound c.from_residual.result _ _ _ 
 pub returns-in_err-way-clause-bound : goal.returns-in_err-way-clause-bound
 returns-in_err-way-clause-bound g c = none_bound c.from_residual-in_err-way.result _ _ _ _ _ c.from_residual-in_err-way.ensures.1
 
-pub make-requires-clause-can_go : goal.make-requires-clause-can_go
-make-requires-clause-can_go g c κs within =
+pub make_moves-requires-clause-can_go : goal.make_moves-requires-clause-can_go
+make_moves-requires-clause-can_go g c κs within =
     subst (λ (t : State). CanGo (node_count t.layout) c.in_ok-way.way) (sym c.in_ok-set_range_policy.ensures.ok) c.in_ok-way.ensures.can_go
 
 pub returns-in-Err-clause-allocates : goal.returns-in-Err-clause-allocates
@@ -60,8 +62,8 @@ returns-in-Err-clause-bound g c =
     ∙ ap (λ h. runs_by limit set b.policy h b.pid c.moves_all-all.result c.as_slice.result.now) c.requires.home
     ∙ ap (λ all. runs_by limit set b.policy home b.pid all c.as_slice.result.now) (flag_is _ _ c.moves_all-all.ensures)
     ∙ ap (runs_by limit set b.policy home b.pid (has_move_all flags)) (c.as_slice.ensures.value ∙ c.in_ok-pages.ensures.list) in
-    let stopped = subst (λ (t : State). Stops true c.in-Err.error t c.make.new.machine (runs_in limit t way)) c.in_ok-set_range_policy.ensures.ok c.in-Err.ensures in
-    stops_fail c.in-Err.error s set c.make.new.machine b (mbind_runs limit set b flags) flags (subst (λ (rs : List Stretch). Stops true c.in-Err.error set c.make.new.machine rs) runs stopped)
+    let stopped = subst (λ (t : State). Stops true c.in-Err.error t c.make_moves.new.machine (runs_in limit t way)) c.in_ok-set_range_policy.ensures.ok c.in-Err.ensures in
+    stops_fail c.in-Err.error s set c.make_moves.new.machine b (mbind_runs limit set b flags) flags (subst (λ (rs : List Stretch). Stops true c.in-Err.error set c.make_moves.new.machine rs) runs stopped)
 
 pub returns-then-is_late-clause-bound : goal.returns-then-is_late-clause-bound
 returns-then-is_late-clause-bound g c =
@@ -109,8 +111,8 @@ way_of-requires-clause-nodes g c κs within = c.requires.nodes
 pub way_of-requires-clause-few : goal.way_of-requires-clause-few
 way_of-requires-clause-few g c κs within = few_of _ _ _ _ (ap length c.as_slice.ensures.value) c.in_ok-pages.ensures.few c.requires.few
 
-pub make-requires-clause-some : goal.make-requires-clause-some
-make-requires-clause-some g c κs within = c.requires.some
+pub make_moves-requires-clause-some : goal.make_moves-requires-clause-some
+make_moves-requires-clause-some g c κs within = c.requires.some
 
 pub returns-in_err-pages-clause-allocates : goal.returns-in_err-pages-clause-allocates
 returns-in_err-pages-clause-allocates g c = λ runs policy_set is. inl c.in_err-pages.ensures.allocates

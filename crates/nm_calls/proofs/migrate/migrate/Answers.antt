@@ -4,10 +4,10 @@ use Rattle.nm_types.specs.Layout.{node_count}
 use Rattle.nm_policy.specs.Pairs.{pairs}
 use Rattle.nm_runs.specs.Stretches.{stretches_of}
 use Rattle.nm_model.specs.definitions.Cut.{cut_within}
-use Rattle.nm_calls.specs.definitions.Migrate.{migrate_list}
-use Rattle.nm_steps.specs.Views.{shown_during}
-use Rattle.nm_calls.proofs.Batches.Results.{none_moved, batch_moved}
-use Rattle.nm_calls.proofs.Batches.Requests.{run_targets, run_entries, run_kinds}
+use Rattle.nm_passes.specs.definitions.Listing.{migrate_list}
+use Rattle.nm_requests.specs.Views.{shown_during}
+use Rattle.nm_passes.proofs.Batches.Results.{none_moved, batch_moved}
+use Rattle.nm_passes.proofs.Batches.Requests.{run_targets, run_entries, run_kinds}
 use Rattle.nm_calls.proofs.PageLists.Pairs.{asked_targets, asked_alike}
 use Rattle.nm_calls.proofs.migrate.migrate.Goals as goal
 

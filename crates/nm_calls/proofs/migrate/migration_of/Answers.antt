@@ -1,7 +1,7 @@
 use Rattle.std.proofs.Common.{◌<◌, sym, subst, ◌∙◌}
 use Rattle.std.specs.List.{AllByRecursion}
 use Rattle.nm_types.specs.Layout.{node_count}
-use Rattle.nm_calls.proofs.Policies.NamedNodes.{usable_nodes}
+use Rattle.nm_passes.proofs.Policies.NamedNodes.{usable_nodes}
 use Rattle.nm_calls.proofs.migrate.migration_of.Goals as goal
 
 pub returns-clause-nodes : goal.returns-clause-nodes

@@ -6,7 +6,7 @@ use Rattle.nm_types.specs.Nodes.{without_node}
 use Rattle.nm_model.specs.definitions.Order.{zonelist}
 use Rattle.nm_laws.proofs.Soundness.Online.{set_is_few}
 use Rattle.nm_calls.specs.definitions.Offline.{refuges}
-use Rattle.nm_calls.proofs.Policies.Nodes.{zonelist_length}
+use Rattle.nm_passes.proofs.Policies.Nodes.{zonelist_length}
 use Rattle.nm_calls.proofs.NodesOffline.Results.{by_distance_all}
 use Rattle.nm_calls.proofs.offline.refuges.Goals as goal
 

@@ -3,7 +3,7 @@ use Rattle.std.proofs.lemmas.Int.{to_z_pos}
 use Rattle.nm_types.specs.Layout.{Layout, frame_count, node_of}
 use Rattle.nm_runs.specs.Shown.{HasFrameBelow}
 use Rattle.nm_model.proofs.looks.{node_of_look, look_tells_node}
-use Rattle.nm_calls.proofs.Looks.{seen_is, lent_shows}
+use Rattle.nm_passes.proofs.Looks.{seen_is, lent_shows}
 use Rattle.nm_calls.proofs.status.node_status.Goals as goal
 
 pub node_of-requires : goal.node_of-requires

@@ -4,7 +4,7 @@ use Rattle.std.specs.Prelude.{◌/◌}
 use Rattle.std.proofs.lemmas.List.{map_more, take_all}
 use Rattle.std.proofs.lemmas.Result.{IfOk-from_err}
 use Rattle.nm_model.specs.definitions.Status.{node_status}
-use Rattle.nm_calls.proofs.Batches.Results.{on_err}
+use Rattle.nm_passes.proofs.Batches.Results.{on_err}
 use Rattle.nm_calls.proofs.status.statuses_of.Goals as goal
 
 pub loop-address-preserved : goal.loop-address-preserved

@@ -1,7 +1,7 @@
 use Rattle.std.proofs.Common.{arith}
 use Rattle.std.proofs.lemmas.List.{map-append}
 use Rattle.nm_model.specs.views.Asked.{access_shown}
-use Rattle.nm_steps.specs.Views.{shown_during}
+use Rattle.nm_requests.specs.Views.{shown_during}
 use Rattle.nm_steps.specs.Form.{during_of}
 use Rattle.nm_steps.specs.Memory.{flight_asks}
 use Rattle.nm_steps.proofs.Each.{goes_on, ends, is_done, begins_by}

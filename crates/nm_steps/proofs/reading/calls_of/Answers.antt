@@ -1,7 +1,7 @@
 use Rattle.std.proofs.Common.{ℕ, List, map, ap, subst, refl, arith, Result, Err, ◌≡◌, None, ◌∙◌}
 use Rattle.std.proofs.lemmas.List.{map-append}
 use Rattle.std.specs.Option.{ok_or}
-use Rattle.nm_steps.specs.Calls.{Call}
+use Rattle.nm_requests.specs.Calls.{Call}
 use Rattle.nm_steps.specs.declared.step_error.StepError.TheVariants.{Bad}
 use Rattle.nm_steps.specs.declared.trace_error.TraceError.{TraceError}
 use Rattle.nm_steps.specs.declared.trace_error.TraceError.TheVariants.{BadStep}
@@ -9,7 +9,7 @@ use Rattle.nm_steps.specs.Faults.{first_bad}
 use Rattle.nm_steps.specs.Form.{step_of}
 use Rattle.nm_steps.specs.Gives.{FailsStep}
 use Rattle.nm_steps.specs.Tree.{items_seen}
-use Rattle.nm_steps.specs.Views.{call_of}
+use Rattle.nm_requests.specs.Views.{call_of}
 use Rattle.nm_steps.specs.Memory.{step_asks}
 use Rattle.nm_steps.proofs.Each.{goes_on, ends, is_done, is_here, is_later, begins_by}
 use Rattle.nm_steps.proofs.Memory.{is_read, is_asked}

@@ -2,7 +2,7 @@ use Rattle.std.proofs.Common.{◌≡◌, ◌+◌, ◌<◌, true, drop, map}
 use Rattle.nm_steps.specs.Tree.{items_seen}
 use Rattle.nm_steps.specs.Form.{each, step_of}
 use Rattle.nm_steps.specs.Faults.{first_bad}
-use Rattle.nm_steps.specs.Views.{call_of}
+use Rattle.nm_requests.specs.Views.{call_of}
 use Rattle.nm_steps.specs.Memory.{begins, step_asks}
 use Rattle.nm_steps.proofs.Each.{with_front}
 use Rattle.nm_steps.proofs.reading.calls_of.Given as goal

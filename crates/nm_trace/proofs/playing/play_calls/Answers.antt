@@ -2,7 +2,7 @@ use Rattle.std.proofs.Common.{◌≡◌, ◌+◌, ◌-◌, ◌≤◌, length, ma
 use Rattle.std.proofs.lemmas.List.{take_all, length-map}
 use Rattle.std.proofs.lemmas.Option.{slice_get_read}
 use Rattle.std.specs.Io.KnownBytes.{Appends}
-use Rattle.nm_steps.specs.Views.{call_of}
+use Rattle.nm_requests.specs.Views.{call_of}
 use Rattle.nm_trace.specs.Report.{report_from, state_after}
 use Rattle.nm_streams.specs.Waiting.{Stands, block_waiting}
 use Rattle.nm_trace.proofs.InParts.{call_at, state_more, report_more, report_short}
@@ -43,7 +43,7 @@ returns-then-is_broken-clause-plays g c =
       c.loop-k.k + 1,
       omega (arith, at.0),
       inl (line.1 ∙ sym (state_more c.args.system.now calls c.loop-k.k _ at.0 at.1)),
-      rw next (puts_broken g.W.Write.contents g.W.TellingWriter.has_failed 65536 _ _ _ _ _ _ (report_from 0 c.args.system.now (take c.loop-k.k calls)) _ _ l.whole (sym c.is_broken.ensures ∙ c.if-is_broken.true) l.stands l.few (omega arith) (report_more c.args.system.now calls c.loop-k.k _ at.0 at.1) line.0),
+      rw next (puts_broken g.W.Write.contents g.W.ReportingWriter.has_failed 65536 _ _ _ _ _ _ (report_from 0 c.args.system.now (take c.loop-k.k calls)) _ _ l.whole (sym c.is_broken.ensures ∙ c.if-is_broken.true) l.stands l.few (omega arith) (report_more c.args.system.now calls c.loop-k.k _ at.0 at.1) line.0),
     )
 
 pub returns-then-is_broken-clause-failure : goal.returns-then-is_broken-clause-failure

@@ -1,5 +1,5 @@
 use Rattle.std.proofs.Common.{rules, ◌≡◌, Ok, Err, map, ap, sym, ◌∙◌}
-use Rattle.nm_steps.specs.Views.{call_of}
+use Rattle.nm_requests.specs.Views.{call_of}
 use Rattle.nm_steps.specs.Faults.{trace_of}
 use Rattle.nm_steps.specs.Plans.{contents_of}
 use Rattle.nm_steps.proofs.Utf8.{before_steps, text_of_trace}

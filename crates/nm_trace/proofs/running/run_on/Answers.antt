@@ -13,7 +13,7 @@ pub returns-clause-runs : goal.returns-clause-runs
 returns-clause-runs g c =
     let run = c.run_bytes.ensures.runs in (
       run.0,
-      gives_all (g.R.Read.remaining c.args.reader.now) _ _ (g.R.TellingReader.gave c.args.reader.now c.read_bytes.new.reader) c.in_ok-bytes.bytes.items c.as_slice.result.now run.0
+      gives_all (g.R.Read.remaining c.args.reader.now) _ _ (g.R.ReportingReader.gave c.args.reader.now c.read_bytes.new.reader) c.in_ok-bytes.bytes.items c.as_slice.result.now run.0
           c.in_ok-bytes.ensures.bytes c.in_ok-bytes.ensures.within c.in_ok-bytes.ensures.given c.in_ok-bytes.ensures.kept c.as_slice.ensures.value run.1,
       run.2,
       run.3,

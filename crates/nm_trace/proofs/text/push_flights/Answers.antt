@@ -1,9 +1,9 @@
 use Rattle.std.proofs.Common.{◌≡◌, [], refl, sym, ap, ◌∙◌, rules}
-use Rattle.nm_steps.specs.declared.call.Call.{Call}
-use Rattle.nm_steps.specs.declared.call.Call.TheVariants.{MovePages}
-use Rattle.nm_steps.specs.declared.call.MoveRequest.{MoveRequest}
+use Rattle.nm_requests.specs.declared.call.Call.{Call}
+use Rattle.nm_requests.specs.declared.call.Call.TheVariants.{MovePages}
+use Rattle.nm_requests.specs.declared.call.MoveRequest.{MoveRequest}
 use Rattle.nm_calls.specs.definitions.Outcome.{accesses_asked}
-use Rattle.nm_steps.specs.Views.{call_of}
+use Rattle.nm_requests.specs.Views.{call_of}
 use Rattle.nm_calls.specs.views.Answers.{answer_of}
 use Rattle.nm_trace.specs.Report.{answers_in}
 use Rattle.nm_trace.specs.Report.{access_lines}

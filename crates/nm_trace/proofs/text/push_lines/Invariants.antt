@@ -5,4 +5,4 @@ use Rattle.nm_streams.specs.Waiting.{Puts}
 use Rattle.nm_trace.proofs.text.push_lines.Given as goal
 
 abbrev pub invariant-loop-line : goal.invariant-loop-line
-invariant-loop-line g l = Puts g.W.Write.contents g.W.TellingWriter.has_failed l.fn.writer l.fn.block l.writer l.block (flat_map (λ line. 10 ∷ line) (lines_shown (take l.line-index l.lines)))
+invariant-loop-line g l = Puts g.W.Write.contents g.W.ReportingWriter.has_failed l.fn.writer l.fn.block l.writer l.block (flat_map (λ line. 10 ∷ line) (lines_shown (take l.line-index l.lines)))

@@ -5,4 +5,4 @@ use Rattle.nm_streams.specs.Waiting.{Puts}
 use Rattle.nm_trace.proofs.text.push_statuses.Given as goal
 
 abbrev pub invariant-loop-status : goal.invariant-loop-status
-invariant-loop-status g l = Puts g.W.Write.contents g.W.TellingWriter.has_failed l.fn.writer l.fn.block l.writer l.block (each_after_space signed_decimal (take l.status-index l.statuses))
+invariant-loop-status g l = Puts g.W.Write.contents g.W.ReportingWriter.has_failed l.fn.writer l.fn.block l.writer l.block (each_after_space signed_decimal (take l.status-index l.statuses))

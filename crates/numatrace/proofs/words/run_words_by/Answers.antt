@@ -18,5 +18,5 @@ returns-in-Err g c = inl (record {
 
 pub returns : goal.returns
 returns g c =
-    inr (run_after g.R.Read.remaining g.R.TellingReader.has_failed g.R.TellingReader.gave g.W.Write.contents g.W.TellingWriter.has_failed
+    inr (run_after g.R.Read.remaining g.R.ReportingReader.has_failed g.R.ReportingReader.gave g.W.Write.contents g.W.ReportingWriter.has_failed
     (refusals_of (map string_bytes c.args.words.now)) c.run_with.result c.args.reader.now _ c.args.out.now _ c.args.err.now _ c.in-Ok.ensures.refused c.run_with.ensures)

@@ -1,6 +1,6 @@
 use Rattle.std.proofs.Common.{ℕ, List, Err, ap, sym, subst, ◌∙◌}
-use Rattle.nm_steps.specs.Calls.{WriteBytes}
-use Rattle.nm_steps.specs.Views.{call_of}
+use Rattle.nm_requests.specs.Calls.{WriteBytes}
+use Rattle.nm_requests.specs.Views.{call_of}
 use Rattle.nm_calls.specs.definitions.Answers.{Done}
 use Rattle.nm_calls.specs.definitions.Does.{Does}
 use Rattle.nm_calls.specs.definitions.Memory.{MayAllocate}

@@ -1,15 +1,15 @@
 use Rattle.std.proofs.Common.{◌≡◌, ◌<◌, ◌+◌, ◌-◌, ◌*◌, ◌/◌, ◌⊎◌, ℕ, true, Some, refl, ap, subst, arith}
 use Rattle.nm_types.specs.State.{State}
 use Rattle.nm_model.specs.definitions.Effect.{set_range_policy}
-use Rattle.nm_calls.specs.declared.mbind.Binding.{Binding}
-use Rattle.nm_steps.specs.Calls.{Mbind}
+use Rattle.nm_passes.specs.declared.binding.Binding.{Binding}
+use Rattle.nm_requests.specs.Calls.{Mbind}
 use Rattle.nm_calls.specs.definitions.Answers.{Failed}
 use Rattle.nm_calls.specs.definitions.Systems.{SystemState, in_state}
 use Rattle.nm_areas.specs.Splits.{HasSplit}
 use Rattle.nm_calls.specs.definitions.Mbind.{mbind_runs, has_move}
 use Rattle.nm_calls.specs.definitions.Memory.{MayAllocate}
 use Rattle.nm_calls.specs.definitions.Does.{Does}
-use Rattle.nm_calls.specs.views.Runs.{Binds}
+use Rattle.nm_calls.specs.views.Ends.{Binds}
 use Rattle.nm_calls.specs.definitions.Mbind.{mbind_refusal}
 use Rattle.nm_calls.specs.definitions.Outcome.{outcome}
 use Rattle.nm_calls.proofs.Policies.Results.{binds_does, refuses_mbind}

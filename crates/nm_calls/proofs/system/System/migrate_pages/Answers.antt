@@ -1,8 +1,9 @@
 use Rattle.std.proofs.Common.{◌≡◌, List, [], Ok, Err, sym, subst}
 use Rattle.nm_model.specs.definitions.Cut.{Request}
-use Rattle.nm_steps.specs.Calls.{MigratePages}
+use Rattle.nm_requests.specs.Calls.{MigratePages}
 use Rattle.nm_calls.specs.definitions.Answers.{Failed}
-use Rattle.nm_calls.specs.definitions.Does.{Does, Moves}
+use Rattle.nm_calls.specs.definitions.Does.{Does}
+use Rattle.nm_passes.specs.definitions.Moves.{Moves}
 use Rattle.nm_calls.specs.definitions.Outcome.{outcome, refusal_of}
 use Rattle.nm_calls.specs.definitions.Systems.{SystemState, in_state}
 use Rattle.nm_calls.proofs.Outcomes.{refuses_by, error_does, migrates_does}

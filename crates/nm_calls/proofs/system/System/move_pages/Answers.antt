@@ -5,12 +5,13 @@ use Rattle.nm_types.specs.Layout.{node_count}
 use Rattle.nm_model.specs.definitions.Cut.{Request, requests_of}
 use Rattle.nm_runs.specs.Targets.{first_refusal}
 use Rattle.nm_pool.specs.views.Accesses.{answer_shown}
-use Rattle.nm_steps.specs.Calls.{MovePages}
-use Rattle.nm_steps.specs.Views.{shown_during}
+use Rattle.nm_requests.specs.Calls.{MovePages}
+use Rattle.nm_requests.specs.Views.{shown_during}
 use Rattle.nm_calls.specs.definitions.Answers.{Statuses}
-use Rattle.nm_calls.specs.definitions.Does.{Does, Moves}
+use Rattle.nm_calls.specs.definitions.Does.{Does}
+use Rattle.nm_passes.specs.definitions.Moves.{Moves}
 use Rattle.nm_calls.specs.definitions.Outcome.{refusal_of}
-use Rattle.nm_calls.specs.definitions.Permission.{owner_of}
+use Rattle.nm_passes.specs.definitions.Permission.{owner_of}
 use Rattle.nm_calls.specs.definitions.Systems.{SystemState, in_state}
 use Rattle.nm_calls.proofs.Outcomes.{refuses_by, no_lack, move_unasked, move_checked, moves_does}
 use Rattle.nm_calls.proofs.system.System.move_pages.Goals as goal

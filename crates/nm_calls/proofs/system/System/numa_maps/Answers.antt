@@ -8,7 +8,7 @@ use Rattle.nm_areas.specs.declared.lines.Area.{Area}
 use Rattle.nm_model.specs.definitions.Areas.{Mapping}
 use Rattle.nm_model.specs.definitions.Effect.{info_of}
 use Rattle.nm_spaces.specs.views.AddressSpaces.{AddressSpacesView}
-use Rattle.nm_steps.specs.Calls.{NumaMaps}
+use Rattle.nm_requests.specs.Calls.{NumaMaps}
 use Rattle.nm_calls.specs.definitions.Answers.{Refusal, Lines}
 use Rattle.nm_calls.specs.definitions.Does.{Does}
 use Rattle.nm_calls.specs.definitions.Maps.{lines_shown}

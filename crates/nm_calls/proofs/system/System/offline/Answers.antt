@@ -1,6 +1,6 @@
 use Rattle.std.proofs.Common.{◌≡◌, ap, sym, subst, ◌∙◌}
 use Rattle.nm_types.specs.Nodes.{is_in}
-use Rattle.nm_steps.specs.Calls.{Offline}
+use Rattle.nm_requests.specs.Calls.{Offline}
 use Rattle.nm_calls.specs.definitions.Answers.{Done}
 use Rattle.nm_calls.specs.definitions.Systems.{SystemState, in_state}
 use Rattle.nm_calls.specs.definitions.Outcome.{outcome}
@@ -17,5 +17,5 @@ returns-then-not-contains-clause-done g c =
 pub returns-clause-done : goal.returns-clause-done
 returns-clause-done g c =
     let y : SystemState = record { state = c.self.inside.machine; run_limit = c.self.inside.run_limit } in
-    subst (λ (z : SystemState). Does (λ done. Done) c.empty.result z (in_state y c.empty.new.machine) (Offline c.args.node)) c.self.view_is
-    (empties_does y c.args.node c.empty.result c.empty.new.machine c.in_ok-check_offline.ensures.exact c.empty.ensures)
+    subst (λ (z : SystemState). Does (λ done. Done) c.empty_node.result z (in_state y c.empty_node.new.machine) (Offline c.args.node)) c.self.view_is
+    (empties_does y c.args.node c.empty_node.result c.empty_node.new.machine c.in_ok-check_offline.ensures.exact c.empty_node.ensures)

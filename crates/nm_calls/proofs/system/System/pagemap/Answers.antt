@@ -1,6 +1,6 @@
 use Rattle.std.proofs.Common.{◌≡◌, ◌<◌, Err, length, refl, ap, sym, subst, ◌∙◌}
 use Rattle.nm_model.specs.definitions.PageTables.{entries_of}
-use Rattle.nm_steps.specs.Calls.{Pagemap}
+use Rattle.nm_requests.specs.Calls.{Pagemap}
 use Rattle.nm_calls.specs.definitions.Answers.{Entries}
 use Rattle.nm_calls.specs.definitions.Does.{Does}
 use Rattle.nm_calls.specs.definitions.Entries.{entries_mapped, entries_shown}

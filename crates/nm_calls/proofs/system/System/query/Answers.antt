@@ -1,9 +1,9 @@
 use Rattle.std.proofs.Common.{◌≡◌, ℤ, List, [], length, ◌<◌, ap, sym, subst, ◌∙◌}
-use Rattle.nm_steps.specs.Calls.{Query}
+use Rattle.nm_requests.specs.Calls.{Query}
 use Rattle.nm_calls.specs.definitions.Answers.{Statuses}
 use Rattle.nm_calls.specs.definitions.Does.{Does}
 use Rattle.nm_calls.specs.definitions.Outcome.{outcome, refusal_of, refused_at_once, end_of_call, statuses_of}
-use Rattle.nm_calls.specs.definitions.Permission.{owner_of}
+use Rattle.nm_passes.specs.definitions.Permission.{owner_of}
 use Rattle.nm_calls.specs.definitions.Systems.{SystemState}
 use Rattle.nm_calls.proofs.Outcomes.{answers, refuses_by, out_at_once, no_lack}
 use Rattle.nm_calls.proofs.system.System.query.Goals as goal

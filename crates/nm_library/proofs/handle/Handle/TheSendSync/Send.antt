@@ -10,7 +10,7 @@ use Rattle.std.specs.declared.option.Option.TheVariants.{None, Some}
 use Rattle.std.specs.declared.alloc.Global.{Global}
 use Rattle.std.proofs.alloc.Global.TheSendSync as heap
 use Rattle.std.proofs.Crossing.{Box-send}
-use Rattle.nm_library.specs.contracts.handle.Kept as contents
+use Rattle.nm_library.specs.contracts.handle.OpenSession as contents
 use Rattle.nm_library.proofs.handle.OpenSession.TheSendSync as contents_cross
 use Rattle.nm_library.specs.contracts.handle.Handle.{the_row, the_type}
 

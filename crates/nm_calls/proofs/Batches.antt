@@ -1,5 +1,0 @@
-pub mod ConsecutiveNodes
-pub mod Progress
-pub mod Requests
-pub mod Results
-pub mod StatusCounts

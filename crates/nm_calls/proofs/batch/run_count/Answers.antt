@@ -1,5 +1,0 @@
-use Rattle.std.proofs.Common.{rules}
-use Rattle.nm_calls.proofs.batch.run_count.Goals as goal
-
-pub returns : goal.returns
-returns c = search rules

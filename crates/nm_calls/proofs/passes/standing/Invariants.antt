@@ -1,9 +1,0 @@
-use Rattle.std.proofs.Common.{take}
-use Rattle.nm_calls.specs.laws.Full.{StandAmong, EachHasSome}
-use Rattle.nm_calls.proofs.passes.standing.Given as goal
-
-abbrev pub invariant-loop-page : goal.invariant-loop-page
-invariant-loop-page g l = record {
-  among : StandAmong l.machine l.nodes (take l.page-index l.wanted);
-  some : EachHasSome l.machine l.nodes l.wanted;
-}

@@ -1,0 +1,4 @@
+pub mod Progress
+pub mod Requests
+pub mod Results
+pub mod StatusCounts

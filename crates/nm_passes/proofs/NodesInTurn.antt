@@ -1,0 +1,3 @@
+pub mod FullNodes
+pub mod PagesLeft
+pub mod Passes

@@ -1,0 +1,3 @@
+pub mod Ascending
+pub mod FirstPages
+pub mod SeenPages

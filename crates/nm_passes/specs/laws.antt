@@ -1,0 +1,2 @@
+-- What holds of all passes.
+pub mod Full
