@@ -11,7 +11,7 @@ sys.path.insert(0, os.path.join(os.path.dirname(os.path.abspath(__file__)), "../
 import pages
 import proved
 
-GOOD_PATHS = "./build docs/MODEL.md nm_steps/specs/Calls.antt specs/Calls.antt crates/NAME/x crates/numatrace/out/x tests/*.none /proc/x docs/DEFINITIONS_ALL.md"
+GOOD_PATHS = "./build docs/MODEL.md nm_requests/specs/Calls.antt specs/Calls.antt crates/NAME/x crates/numatrace/out/x tests/*.none /proc/x docs/DEFINITIONS_ALL.md"
 BAD_PATHS = "./nothing docs/NOTHING.md nm_calls/specs/Nothing.antt specs/Nothing.antt crates/nothing/src tests/nothing.json"
 GOOD_NAMES = "System::call Vpn::offset(addr) nm_calls::System CallError::HostMemory laws::pages_migrate Vec::nothing"
 BAD_NAMES = "System::nothing Nothing::call nm_calls::nothing laws::nothing CallError::Nothing"
