@@ -40,7 +40,7 @@ def words_given():
     words.add_argument("crates", nargs="*", metavar="CRATE", help="only the edits of these crates")
     words.add_argument("--function", metavar="F", help="only edits of the functions whose names end so, as ReverseMap::pin")
     words.add_argument("--edit", metavar="NAME", action="append", help="only this edit (repeatable)")
-    words.add_argument("--chosen", action="store_true", help="the gate's choice: one for each public function, and more, but not those of must-fail/, "
+    words.add_argument("--chosen", action="store_true", help="the check's choice: one for each public function, and more, but not those of must-fail/, "
                        "which rt ci tries")
     words.add_argument("--proved", action="store_true", help="the crates are proved as they stand, and the libraries below them are built: "
                        "prove none without an edit")

@@ -1,11 +1,11 @@
-"""Which edits are tried: all, those of one function, or those that the gate chooses."""
+"""Which edits are tried: all, those of one function, or those that the check chooses."""
 import glob
 import os
 
 from rounds.functions import Sources
 from rounds.texts import Edit, reader
 
-# The fewest that the gate tries, those of must-fail/ among them.
+# The fewest that the check tries, those of must-fail/ among them.
 LEAST = 300
 # The seconds of an edit of which nothing is known.
 UNKNOWN = 5
@@ -29,7 +29,7 @@ def edits_of(root, crate):
 
 
 def always(root):
-    """The edits that the gate always tries, CRATE/NAME each: the mistakes that have a name."""
+    """The edits that the check always tries, CRATE/NAME each: the mistakes that have a name."""
     path = f"{root}/tests/edits/always"
     if not os.path.isfile(path):
         return set()
@@ -67,7 +67,7 @@ def changing(root, crate, edits, function):
 
 
 class Choice:
-    """The gate's choice among the edits of some crates, by crate: the cheapest, where several tell of one function."""
+    """The check's choice among the edits of some crates, by crate: the cheapest, where several tell of one function."""
 
     def __init__(self, root, edits):
         self.root, self.edits, self.named = root, edits, always(root)
