@@ -104,7 +104,7 @@ fn known_class(last: &Option<(Wanted, Class)>, wanted: &Wanted) -> Option<Class>
 
 /// A request and what to do with it. `last` is the same of the request before: what is asked again is not looked up
 /// again.
-fn classes_until<A: Allocator + Copy, V: PageView>(
+fn classify_next<A: Allocator + Copy, V: PageView>(
     geometry: &Geometry<A>,
     view: &V,
     target: NodeId,
@@ -148,7 +148,7 @@ pub fn classes_of<A: Allocator + Copy, V: PageView>(
     let mut classes = Vec::with_capacity(alloc, wanted.len())?;
     let mut last = None;
     for request in wanted {
-        let found = classes_until(geometry, view, target, request, &last);
+        let found = classify_next(geometry, view, target, request, &last);
         classes.push_reserved(found.1);
         last = Some(found);
     }

@@ -16,11 +16,11 @@ loop-request-init g c = record {
   room = omega (arith, c.in_ok-classes.ensures.len, c.in_ok-classes.ensures.capacity);
 }
 
-pub classes_until-found-requires-clause-frames : goal.classes_until-found-requires-clause-frames
-classes_until-found-requires-clause-frames g c = c.requires.frames
+pub classify_next-found-requires-clause-frames : goal.classify_next-found-requires-clause-frames
+classify_next-found-requires-clause-frames g c = c.requires.frames
 
-pub classes_until-found-requires-clause-last : goal.classes_until-found-requires-clause-last
-classes_until-found-requires-clause-last g c = c.loop-request.invariant.last
+pub classify_next-found-requires-clause-last : goal.classify_next-found-requires-clause-last
+classify_next-found-requires-clause-last g c = c.loop-request.invariant.last
 
 pub push_reserved-requires : goal.push_reserved-requires
 push_reserved-requires g c =
@@ -39,8 +39,8 @@ loop-request-preserved g c =
     record {
       classes =
           map_push (class_shown c.args.geometry.now (g.V.PageView.seen_at c.args.view.now) (g.V.PageView.placed_at c.args.view.now) c.args.target) items i c.request-item.result
-          c.loop-request.classes.items c.push_reserved.new.self.items c.classes_until-found.result.1 c.loop-request-test.true c.request-item.is c.classes_until-found.ensures.class c.loop-request.invariant.classes c.push_reserved.ensures.items;
-      last = c.classes_until-found.ensures.class ∙ ap (class_shown c.args.geometry.now (g.V.PageView.seen_at c.args.view.now) (g.V.PageView.placed_at c.args.view.now) c.args.target) (sym c.classes_until-found.ensures.wanted);
+          c.loop-request.classes.items c.push_reserved.new.self.items c.classify_next-found.result.1 c.loop-request-test.true c.request-item.is c.classify_next-found.ensures.class c.loop-request.invariant.classes c.push_reserved.ensures.items;
+      last = c.classify_next-found.ensures.class ∙ ap (class_shown c.args.geometry.now (g.V.PageView.seen_at c.args.view.now) (g.V.PageView.placed_at c.args.view.now) c.args.target) (sym c.classify_next-found.ensures.wanted);
       room = omega (arith, left, less, c.loop-request.invariant.room, c.loop-request-test.true, c.push_reserved.ensures.len, c.push_reserved.ensures.capacity);
     }
 
