@@ -12,7 +12,7 @@ use Rattle.nm_model.specs.definitions.Touch as state
 use Rattle.nm_model.specs.definitions.Touch.{AccessSite, site, Access, Read, Write, Bytes, Done, Held, Refused, AccessAnswer}
 use Rattle.nm_model.specs.definitions.Touch.{site_of_access, is_held, access_during}
 use Rattle.nm_model.specs.definitions.RunMachine.{RunMachine, state_of}
-use Rattle.nm_model.specs.definitions.Accesses.{is_held_at, touch_entry_at, bytes_at, written_at, with_answer, read_entry, write_entry, after_free_access, after_access}
+use Rattle.nm_model.specs.definitions.Accesses.{is_held_at, touch_entry_at, bytes_at, written_at, with_answer, read_entry, write_entry, after_unheld_access, after_access}
 use Rattle.nm_laws.proofs.InFlight.Midway.{IsInFlight}
 use Rattle.nm_laws.proofs.InFlight.Steps.{Made}
 use Rattle.nm_laws.proofs.InFlight.Meeting.{ComesTo, comes_to, Both, held_alike, touched_both}
@@ -79,7 +79,7 @@ module _ (m : RunMachine) (moved : List Page) (h : IsInFlight m moved) where
       write_both pid address new c.fits (touch_entry_at m true (Ok at)) (state.touch_site (state_of m) true (Ok at))
       (subst (λ (z : ℕ × ℕ). Both m moved z.0 z.1 (touch_entry_at m true (Ok at)) (state.touch_site (state_of m) true (Ok at))) (λ j. (c.pid_is j, c.vpn_is j)) (touched_both m moved h at c.spot true free))
 
-  made_is : (a : Access) → is_held_at m (site_of_access (state_of m) a) ≡ false → Made m (after_free_access m a) moved (state.access (state_of m) a)
+  made_is : (a : Access) → is_held_at m (site_of_access (state_of m) a) ≡ false → Made m (after_unheld_access m a) moved (state.access (state_of m) a)
   made_is (Read pid address len) free = read_made pid address len (site (state_of m) pid address len) (comes_to (state_of m) pid address len) free
   made_is (Write pid address new) free = write_made pid address new (site (state_of m) pid address (length new)) (comes_to (state_of m) pid address (length new)) free
 
@@ -93,7 +93,7 @@ module _ (m : RunMachine) (moved : List Page) (h : IsInFlight m moved) where
   held_is (Read pid address len) = spot_alike pid address len (site (state_of m) pid address len) (comes_to (state_of m) pid address len)
   held_is (Write pid address new) = spot_alike pid address (length new) (site (state_of m) pid address (length new)) (comes_to (state_of m) pid address (length new))
 
-  cases : (a : Access) (b : Bool) → is_held_at m (site_of_access (state_of m) a) ≡ b → Made m (cond b (with_answer m Held) (after_free_access m a)) moved (cond b (record { state = state_of m; answer = Held }) (state.access (state_of m) a))
+  cases : (a : Access) (b : Bool) → is_held_at m (site_of_access (state_of m) a) ≡ b → Made m (cond b (with_answer m Held) (after_unheld_access m a)) moved (cond b (record { state = state_of m; answer = Held }) (state.access (state_of m) a))
   cases a true e = only_answered Held Held refl
   cases a false e = made_is a e
 

@@ -123,12 +123,12 @@ write_entry m pid address new (Ok t) =
     with_answer (record t { buf = written_at t.buf (entry_at t.tasks pid (address / 4096)) (address % 4096) new }) Done
 
 -- a read or a write that is not held
-abbrev pub after_free_access : RunMachine → Access → RunMachine
-after_free_access m (Read pid address len) =
+abbrev pub after_unheld_access : RunMachine → Access → RunMachine
+after_unheld_access m (Read pid address len) =
     read_entry m pid address len (touch_entry_at m false (site (state_of m) pid address len))
-after_free_access m (Write pid address new) =
+after_unheld_access m (Write pid address new) =
     write_entry m pid address new (touch_entry_at m true (site (state_of m) pid address (length new)))
 
 -- a read or a write. Where it goes and whether that is refused depends on no entry and no buffer
 abbrev pub after_access : RunMachine → Access → RunMachine
-after_access m a = if is_held_at m (site_of_access (state_of m) a) then with_answer m Held else after_free_access m a
+after_access m a = if is_held_at m (site_of_access (state_of m) a) then with_answer m Held else after_unheld_access m a
