@@ -22,7 +22,7 @@ impl<A: Allocator + Copy + Send + Sync> Machine<A> {
         ensures { self.new ≡ set_online self.old node online }
     {
         prove!(self.frames.geometry().node_count() <= 64);
-        self.online = with_change(self.online, node, online);
+        self.online = with_or_without(self.online, node, online);
     }
 
     /// The pages on a node, by segment and index: at most 16,384. Empty if there is no such node. An error means that
@@ -41,7 +41,7 @@ impl<A: Allocator + Copy + Send + Sync> Machine<A> {
 }
 
 /// A set with this node, or without it.
-fn with_change(nodes: NodeMask, node: NodeId, is_in: bool) -> NodeMask
+fn with_or_without(nodes: NodeMask, node: NodeId, is_in: bool) -> NodeMask
     requires { node < 64 }
     ensures nodes { result
         ≡ (if is_in then insert_key nat_cmp nodes node else without_node nodes node) }

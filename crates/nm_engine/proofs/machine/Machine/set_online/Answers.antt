@@ -11,7 +11,7 @@ pub invariant_of-self : goal.invariant_of-self
 invariant_of-self g c =
     let i = c.self.inside in
     let s = shown_by i.spaces i.frames i.online i.totals.moved i.totals.failed in
-    let changed = c.with_change-self-inside in
+    let changed = c.with_or_without-self-inside in
     let node : c.args.node < node_count s.layout = subst (λ (x : State). c.args.node < node_count x.layout) (sym c.self.view_is) c.requires in
     let below = changed_below (λ n. n < node_count s.layout) i.online c.args.node c.args.online node c.self.invariant.kept.sound.online.below in
     record {

@@ -1,6 +1,6 @@
 use Rattle.std.proofs.Common.{arith}
 use Rattle.nm_laws.proofs.Soundness.Online.{set_is_few}
-use Rattle.nm_engine.proofs.machine.online.with_change.Goals as goal
+use Rattle.nm_engine.proofs.machine.online.with_or_without.Goals as goal
 
 pub prove-unreachable-requires : goal.prove-unreachable-requires
 prove-unreachable-requires c =
