@@ -78,7 +78,8 @@ with_pin_count m frame pins = record { mappings = m.mappings; pins = slice_set m
 
 -- the mappers and pins of one frame go to another, which had none
 abbrev pub carry : Mappers → ℕ → ℕ → Mappers
-carry m from to = with_pin_count (with_mappers (with_pin_count (with_mappers m to (mappers_of m from)) to (frame_pins m from)) from []) from 0
+carry m from to =
+    with_pin_count (with_mappers (with_pin_count (with_mappers m to (mappers_of m from)) to (frame_pins m from)) from []) from 0
 
 -- the frame has no mappers and no pins
 pub record IsUnused (m : Mappers) (frame : ℕ) : Type 0 where

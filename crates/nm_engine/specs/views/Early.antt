@@ -24,7 +24,8 @@ module _ {A : Type 0} where
     pub room : HasRoom left
 
   -- so are those of accesses, one after another
-  pub record TouchesEach (old : RunState) (moving : List Page) (accesses : List Access) (new : RunState) (left : Vec (Left A) A) : Type 0 where
+  pub record TouchesEach (old : RunState) (moving : List Page) (accesses : List Access) (new : RunState)
+      (left : Vec (Left A) A) : Type 0 where
     pub touched : new ≡ with_state old ((all_before_copy old.state moving accesses).state)
     pub all_due : map pending_shown left.items ≡ (all_before_copy old.state moving accesses).all_due
     pub room : AllByRecursion HasRoom left.items

@@ -142,7 +142,8 @@ is_on_its_node g f = is_frame g f.1 && (node_of g f.1 == f.0)
 abbrev pub is_audited : Layout → List (ℕ × ℕ) → List ℕ → Bool
 is_audited g free placed =
     let frames : List ℕ = map (λ (f : ℕ × ℕ). f.1) free ++ placed in
-    list_all (is_on_its_node g) free && list_all (is_frame g) placed && list_all (λ frame. times frame frames == 1) (up_from 0 (frame_count g))
+    list_all (is_on_its_node g) free && list_all (is_frame g) placed
+    && list_all (λ frame. times frame frames == 1) (up_from 0 (frame_count g))
 
 -- the frames of each list, paired with the list's number, counted from this one
 abbrev pub with_numbers : ℕ → List (List ℕ) → List (ℕ × ℕ)

@@ -58,7 +58,9 @@ second_page_pinned = pin three_pages 1 B
 -- an area cannot be unmapped while a page of it has a pin; a page without pins cannot be unpinned
 abbrev pub PinnedPageKeepsItsArea : Type 0
 PinnedPageKeepsItsArea =
-    (pin_refusal three_pages 1 B ≡ None) × (unmap_refusal second_page_pinned 1 A 3 ≡ Some Ebusy) × (unpin_refusal second_page_pinned 1 B ≡ None)
+    (pin_refusal three_pages 1 B ≡ None)
+    × (unmap_refusal second_page_pinned 1 A 3 ≡ Some Ebusy)
+    × (unpin_refusal second_page_pinned 1 B ≡ None)
     × (unpin second_page_pinned 1 B ≡ three_pages) × (unpin_refusal three_pages 1 B ≡ Some Einval)
 
 -- process 1 has unmapped its three pages
