@@ -3,7 +3,7 @@
 ghost use Rattle.std.specs.Prelude.{◌≡◌, ◌<◌, [], IfOk, IsSome, Some};
 ghost use Rattle.std.specs.List.{AllByRecursion};
 ghost use Rattle.nm_types.specs.Layout.{node_count};
-ghost use Rattle.nm_policy.specs.Pairs.{pairs};
+ghost use Rattle.nm_policy.specs.definitions.Pairs.{pairs};
 ghost use Rattle.nm_runs.specs.Targets.{Checks};
 ghost use Rattle.nm_passes.specs.definitions.Moves.{Moves};
 ghost use Rattle.nm_passes.specs.definitions.Permission.{info_at};

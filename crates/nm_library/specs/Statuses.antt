@@ -6,8 +6,8 @@ use Rattle.nm_requests.specs.Calls.{Call}
 use Rattle.nm_steps.specs.Faults.{TraceContents, trace_of}
 use Rattle.nm_steps.specs.declared.trace_error.TraceError.{TraceError}
 use Rattle.nm_steps.specs.declared.trace_error.TraceError.TheVariants.{NotJson, BadMachine, BadStep, ReadFault, WriteFault, HostMemory}
-use Rattle.nm_trace.specs.Played.{report_of}
-use Rattle.nm_trace.specs.Session.{next_call, next, next_lines, session_of, StopsShort}
+use Rattle.nm_trace.specs.definitions.Played.{report_of}
+use Rattle.nm_trace.specs.definitions.Session.{next_call, next, next_lines, session_of, StopsShort}
 
 -- the status of a fault. A writer to memory fails only where there is none, and a reader of memory only where a trace is too long
 abbrev pub fault_status : TraceError → ℤ

@@ -3,7 +3,7 @@
 ghost use Rattle.std.specs.Prelude.{◌≡◌, [], IfOk, IfErr, OnOk, Ok, Err};
 ghost use Rattle.nm_library.specs.Statuses.{IsBad, IsReport, IsStep, LeavesStep, MakesSteps};
 ghost use Rattle.nm_steps.specs.Faults.{trace_of};
-ghost use Rattle.nm_trace.specs.Session.{session_of as session_of};
+ghost use Rattle.nm_trace.specs.definitions.Session.{session_of as session_of};
 
 use crate::handle::OpenSession;
 use crate::rooms::tell;

@@ -11,7 +11,8 @@ use Rattle.std.proofs.lemmas.List.Sorted.{IsPermutation-refl, IsPermutation-cons
 use Rattle.std.proofs.lemmas.Map.Keys.{sorted_from_strictly_increasing, sorted_head, sorted_tail}
 use Rattle.nm_types.specs.Nodes.{is_in, without_node}
 use Rattle.nm_policy.specs.declared.pairing.Pair.{Pair}
-use Rattle.nm_policy.specs.Pairs.{pairs_from_turn, stays, pairs_that_move, next_pair, without_source, pairs_after, pairs, EmptiesFromTheEnd, EachSetIsPairedInOrder}
+use Rattle.nm_policy.specs.definitions.Pairs.{pairs_from_turn, stays, pairs_that_move, next_pair, without_source, pairs_after, pairs}
+use Rattle.nm_policy.specs.laws.Pairs.{EmptiesFromTheEnd, EachSetIsPairedInOrder}
 use Rattle.nm_policy.proofs.Sorted.{lower}
 use Rattle.nm_policy.proofs.Turned.{is_in_at}
 

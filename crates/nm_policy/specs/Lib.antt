@@ -1,6 +1,3 @@
-pub mod Zones
-pub mod Rows
-pub mod Pairs
-pub mod PairRows
-pub mod Turns
-pub mod TurnRows
+pub mod definitions
+pub mod laws
+pub mod examples

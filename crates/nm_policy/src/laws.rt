@@ -1,11 +1,11 @@
 //! Laws of the orders. Each function does nothing, and its contract is the law.
 
-ghost use Rattle.nm_policy.specs.Zones.{EachSetHasOneOrder};
-ghost use Rattle.nm_policy.specs.Rows.{ZonelistRows, FirstTouchRows};
-ghost use Rattle.nm_policy.specs.Pairs.{EachSetIsPairedInOrder};
-ghost use Rattle.nm_policy.specs.PairRows.{PairRows};
-ghost use Rattle.nm_policy.specs.Turns.{AllPagesTakeTurns, OneNodeTakesAll};
-ghost use Rattle.nm_policy.specs.TurnRows.{TurnRows};
+ghost use Rattle.nm_policy.specs.laws.Zones.{EachSetHasOneOrder};
+ghost use Rattle.nm_policy.specs.examples.Zones.{ZonelistRows, FirstTouchRows};
+ghost use Rattle.nm_policy.specs.laws.Pairs.{EachSetIsPairedInOrder};
+ghost use Rattle.nm_policy.specs.examples.Pairs.{PairRows};
+ghost use Rattle.nm_policy.specs.laws.Turns.{AllPagesTakeTurns, OneNodeTakesAll};
+ghost use Rattle.nm_policy.specs.examples.Turns.{TurnRows};
 
 /// Each set of nodes has exactly one order by distance, ties by number, and `zonelist` returns it.
 pub fn each_set_has_one_order()

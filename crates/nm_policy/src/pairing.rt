@@ -1,7 +1,8 @@
 //! Which nodes' pages go to which nodes.
 
 ghost use Rattle.std.specs.Prelude.{◌≡◌, ◌<◌, length, IfOk, OnOk, OnErr};
-ghost use Rattle.nm_policy.specs.Pairs.{stays, pairs_that_move, next_pair, pairs, PairsAreInOrder};
+ghost use Rattle.nm_policy.specs.definitions.Pairs.{stays, pairs_that_move, next_pair, pairs};
+ghost use Rattle.nm_policy.specs.laws.Pairs.{PairsAreInOrder};
 
 use crate::first_touch::turn;
 use nm_types::{NodeId, NodeMask};

@@ -1,7 +1,7 @@
 //! Where the pages of one pass of mbind(2) go.
 
 ghost use Rattle.std.specs.Prelude.{◌≡◌, ◌<◌, ◌==◌, ◌++◌, map, length, IfOk, OnOk, OnErr};
-ghost use Rattle.nm_policy.specs.Turns.{with_turn, sent_to, by_turns};
+ghost use Rattle.nm_policy.specs.definitions.Turns.{with_turn, sent_to, by_turns};
 
 use nm_types::{LocatedPage, NodeId, NodeMask, Vpn};
 use std::alloc::{AllocError, Allocator};

@@ -4,7 +4,7 @@ use Rattle.std.specs.Prelude.{◌==◌, if◌then◌else◌, slice_index_or, sli
 use Rattle.std.specs.Int.{bit_at}
 use Rattle.std.proofs.lemmas.Bool.{ne_eqb}
 use Rattle.std.proofs.lemmas.List.{get_or-set_same, get_or-set_other}
-use Rattle.nm_tables.specs.Marks.{is_marked}
+use Rattle.nm_tables.specs.views.Marks.{is_marked}
 use Rattle.nm_tables.proofs.Joined.{one_or_other}
 
 module _ (words : List ℕ) (place w : ℕ) (b : Bool) (fits : place / 64 < length words) (here : (bit_at w (place % 64) == 1) ≡ b)

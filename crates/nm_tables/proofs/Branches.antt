@@ -6,8 +6,8 @@ use Rattle.std.specs.List.Sorted.{IsStrictlySortedBy}
 use Rattle.std.specs.Ordering.{nat_cmp}
 use Rattle.nm_types.specs.Map.{Map, get, set}
 use Rattle.nm_types.proofs.Cases.{some_none}
-use Rattle.nm_tables.specs.Nodes.{IsNode}
-use Rattle.nm_tables.specs.Branches.{IsOne}
+use Rattle.nm_tables.specs.definitions.Nodes.{IsNode}
+use Rattle.nm_tables.specs.views.Branches.{IsOne}
 use Rattle.nm_tables.specs.declared.branch.Branch.{Branch}
 use Rattle.nm_tables.specs.declared.branch.Branch.TheVariants.{One, Many}
 use Rattle.nm_tables.proofs.Joined.{get-here, get-later}

@@ -12,8 +12,8 @@ use Rattle.nm_types.specs.Map.{Map, get, set, replace, without}
 use Rattle.nm_types.proofs.Cases.{none_some, some_is}
 use Rattle.nm_types.proofs.Maps.{get-set, get-replace, replace_is_set}
 use Rattle.nm_types.proofs.Keys.{sorted-set, sorted-without, keys-replace}
-use Rattle.nm_tables.specs.Tree.{flatten, IsPart, AreParts}
-use Rattle.nm_tables.specs.Orders.{sorted-joined}
+use Rattle.nm_tables.specs.definitions.Tree.{flatten, IsPart, AreParts}
+use Rattle.nm_tables.specs.laws.Orders.{sorted-joined}
 use Rattle.nm_tables.proofs.Joined.{less_equal, greater_equal, same_number, is_same, one_or_other, alike, get-without, at_once, at_other, get-joined, get-joined_none}
 
 module _ {V : Type 0} where

@@ -13,7 +13,7 @@ use Rattle.nm_types.proofs.Maps.{equal}
 use Rattle.std.proofs.lemmas.Map.{lookup-remove_entry}
 use Rattle.std.proofs.lemmas.Map.Keys.{IsDistinct-from_sorted}
 use Rattle.std.specs.BTreeMap.{is_at}
-use Rattle.nm_tables.specs.Tree.{flatten, IsPart, AreParts}
+use Rattle.nm_tables.specs.definitions.Tree.{flatten, IsPart, AreParts}
 
 pub less_equal : Less ≡ Equal → ⊥
 less_equal e = cc

@@ -10,8 +10,8 @@ use Rattle.std.proofs.Math.Decide.{dec_lt}
 use Rattle.nm_types.specs.Map.{Map, get, set, replace, without}
 use Rattle.nm_types.proofs.Cases.{none_some, some_is}
 use Rattle.nm_types.proofs.Maps.{get-replace}
-use Rattle.nm_tables.specs.Leaves.{leaf_entries}
-use Rattle.nm_tables.specs.Blocks.{entries_there, slot_entries, AreBlocks, EachLeafIsNamed, EachHasEntries}
+use Rattle.nm_tables.specs.views.Leaves.{leaf_entries}
+use Rattle.nm_tables.specs.views.Blocks.{entries_there, slot_entries, AreBlocks, EachLeafIsNamed, EachHasEntries}
 use Rattle.nm_types.specs.declared.entry.Entry.{Entry}
 use Rattle.nm_tables.specs.declared.places.Places.{Places}
 use Rattle.nm_tables.specs.declared.slot.Slot.{Slot}

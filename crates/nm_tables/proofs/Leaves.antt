@@ -7,9 +7,9 @@ use Rattle.std.specs.Cmp.{nat_cmp_total}
 use Rattle.nm_types.specs.Map.{get, set, without}
 use Rattle.nm_types.proofs.Maps.{get-set}
 use Rattle.nm_types.proofs.Keys.{sorted-set, sorted-without}
-use Rattle.nm_tables.specs.Tree.{entries_from, and_then}
+use Rattle.nm_tables.specs.definitions.Tree.{entries_from, and_then}
 use Rattle.nm_tables.proofs.Joined.{one_or_other, get-here, get-later, get-absent, alike, get-without, at_once, at_other}
-use Rattle.nm_tables.specs.Leaves.{leaf_entries, leaf_ordered, stands_at, keys_from}
+use Rattle.nm_tables.specs.views.Leaves.{leaf_entries, leaf_ordered, stands_at, keys_from}
 use Rattle.nm_tables.specs.declared.places.Places.{Places}
 use Rattle.nm_types.specs.declared.entry.Entry.{Entry}
 use Rattle.nm_tables.proofs.Changed.{get-put_other}

@@ -13,13 +13,13 @@ use Rattle.std.proofs.Math.Decide.{dec_lt}
 use Rattle.std.proofs.lemmas.List.{length-append, take-append-drop}
 use Rattle.std.proofs.lemmas.List.Elements.{filter-append}
 use Rattle.nm_types.specs.Map.{Map, get}
-use Rattle.nm_tables.specs.Tree.{flatten, IsPart}
-use Rattle.nm_tables.specs.Orders.{all-append}
-use Rattle.nm_tables.specs.Nodes.{slots_shown, IsNode}
-use Rattle.nm_tables.specs.Parts.{BeginsAt}
-use Rattle.nm_tables.specs.Leaves.{leaf_entries, leaf_ordered, stands_at}
-use Rattle.nm_tables.specs.Lists.{Extends, IsCutShort}
-use Rattle.nm_tables.specs.Blocks.{entries_there, slot_entries, IsOf, IsSlot, IsSlotOf, entries_by, AreBlocks}
+use Rattle.nm_tables.specs.definitions.Tree.{flatten, IsPart}
+use Rattle.nm_tables.specs.laws.Orders.{all-append}
+use Rattle.nm_tables.specs.definitions.Nodes.{slots_shown, IsNode}
+use Rattle.nm_tables.specs.definitions.Parts.{BeginsAt}
+use Rattle.nm_tables.specs.views.Leaves.{leaf_entries, leaf_ordered, stands_at}
+use Rattle.nm_tables.specs.definitions.Lists.{Extends, IsCutShort}
+use Rattle.nm_tables.specs.views.Blocks.{entries_there, slot_entries, IsOf, IsSlot, IsSlotOf, entries_by, AreBlocks}
 use Rattle.nm_types.specs.declared.entry.Entry.{Entry}
 use Rattle.nm_tables.specs.declared.places.Places.{Places}
 use Rattle.nm_tables.specs.declared.slot.Slot.{Slot}

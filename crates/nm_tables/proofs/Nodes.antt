@@ -9,9 +9,9 @@ use Rattle.std.proofs.lemmas.Map.Lookups.{exact_unsigned}
 use Rattle.nm_types.specs.Map.{Map, get, set, replace, without}
 use Rattle.nm_types.proofs.Maps.{get-values, with_values-set, with_values-replace, with_values-without, with_values-replace_alike}
 use Rattle.nm_types.proofs.Keys.{keys-replace, sorted-set, sorted-without}
-use Rattle.nm_tables.specs.Tree.{flatten, IsPart, AreParts}
+use Rattle.nm_tables.specs.definitions.Tree.{flatten, IsPart, AreParts}
 use Rattle.nm_tables.proofs.Joined.{get-joined, get-joined_none}
-use Rattle.nm_tables.specs.Nodes.{slots_shown, IsNode, are_parts}
+use Rattle.nm_tables.specs.definitions.Nodes.{slots_shown, IsNode, are_parts}
 use Rattle.nm_tables.proofs.Changed.{all-found, all-replaced, all-put, all-taken, joined-set, joined-replace, joined-without, joined-gone, joined-new, without-nothing}
 
 module _ {P V : Type 0} (entries : P → Map ℕ V) (number : ℕ → ℕ) (whole : P → Type 0) (is_in : P → ℕ → Type 0)

@@ -10,8 +10,8 @@ use Rattle.std.specs.declared.cmp.Ordering.TheVariants.{Less, Equal, Greater}
 use Rattle.std.specs.declared.ops.Bound.TheVariants.{Included, Unbounded}
 use Rattle.std.specs.BTreeMap.Range.{entries_between, range_contains}
 use Rattle.nm_types.specs.Map.{Map, get, set, replace, without}
-use Rattle.nm_tables.specs.Nodes.{IsNode}
-use Rattle.nm_tables.specs.Parts.{StandsAt, FitsAt, BeginsAt}
+use Rattle.nm_tables.specs.definitions.Nodes.{IsNode}
+use Rattle.nm_tables.specs.definitions.Parts.{StandsAt, FitsAt, BeginsAt}
 use Rattle.nm_tables.proofs.Walks.{passes}
 use Rattle.nm_tables.proofs.Joined.{all_above, itself, is_same, same_number, get-here, get-later, get-absent}
 

@@ -12,9 +12,9 @@ use Rattle.nm_types.specs.Map.{Map, get, replace, without}
 use Rattle.nm_types.proofs.Cases.{none_some, some_is}
 use Rattle.nm_types.proofs.Keys.{sorted-without, keys-replace}
 use Rattle.nm_types.proofs.Maps.{get-values, keys-values, all_from_get}
-use Rattle.nm_tables.specs.Tree.{flatten}
-use Rattle.nm_tables.specs.Nodes.{slots_shown}
-use Rattle.nm_tables.specs.Blocks.{entries_there, slot_entries, IsLeafOf, IsSlotOf, IsSlot, entries_by, AreBlocks, EachLeafIsNamed, EachHasEntries}
+use Rattle.nm_tables.specs.definitions.Tree.{flatten}
+use Rattle.nm_tables.specs.definitions.Nodes.{slots_shown}
+use Rattle.nm_tables.specs.views.Blocks.{entries_there, slot_entries, IsLeafOf, IsSlotOf, IsSlot, entries_by, AreBlocks, EachLeafIsNamed, EachHasEntries}
 use Rattle.nm_tables.specs.declared.places.Places.{Places}
 use Rattle.nm_tables.specs.declared.slot.Slot.{Slot}
 use Rattle.nm_tables.specs.declared.slot.Slot.TheVariants.{Lone, Leaf}

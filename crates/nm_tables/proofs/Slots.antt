@@ -11,10 +11,10 @@ use Rattle.nm_types.specs.Map.{Map, get, set, replace, without}
 use Rattle.nm_types.proofs.Cases.{none_some, some_none, some_is}
 use Rattle.nm_types.proofs.Maps.{get-values}
 use Rattle.std.specs.Option.{option_map}
-use Rattle.nm_tables.specs.Tree.{flatten, IsPart}
-use Rattle.nm_tables.specs.Nodes.{slots_shown, are_parts, node_ordered}
-use Rattle.nm_tables.specs.Leaves.{leaf_entries, leaf_part, blocks_upwards}
-use Rattle.nm_tables.specs.Blocks.{entries_there, slot_entries, IsLeafOf, IsOf, IsSlotOf, IsSlot, lacks, without_leaf, entries_by, AreBlocks, block_entries, IsBlocks}
+use Rattle.nm_tables.specs.definitions.Tree.{flatten, IsPart}
+use Rattle.nm_tables.specs.definitions.Nodes.{slots_shown, are_parts, node_ordered}
+use Rattle.nm_tables.specs.views.Leaves.{leaf_entries, leaf_part, blocks_upwards}
+use Rattle.nm_tables.specs.views.Blocks.{entries_there, slot_entries, IsLeafOf, IsOf, IsSlotOf, IsSlot, lacks, without_leaf, entries_by, AreBlocks, block_entries, IsBlocks}
 use Rattle.nm_types.specs.declared.entry.Entry.{Entry}
 use Rattle.nm_tables.specs.declared.places.Places.{Places}
 use Rattle.nm_tables.specs.declared.slot.Slot.{Slot}

@@ -5,14 +5,14 @@ use Rattle.std.specs.List.Sorted.{IsStrictlySortedBy}
 use Rattle.std.specs.Map.{keys_of}
 use Rattle.std.specs.Ordering.{nat_cmp}
 use Rattle.nm_types.specs.Map.{Map}
-use Rattle.nm_tables.specs.Tree.{IsPart}
-use Rattle.nm_tables.specs.Nodes.{node_ordered, node_part, upwards_again}
-use Rattle.nm_tables.specs.Cells.{cell_part}
-use Rattle.nm_tables.specs.Index.{slots_in_cell, IsCell, IsCellOf, slots_in, IsInner, IsInnerOf, tree_slots, IsTree, root_slots, IsRoot}
+use Rattle.nm_tables.specs.definitions.Tree.{IsPart}
+use Rattle.nm_tables.specs.definitions.Nodes.{node_ordered, node_part, upwards_again}
+use Rattle.nm_tables.specs.laws.Cells.{cell_part}
+use Rattle.nm_tables.specs.views.Index.{slots_in_cell, IsCell, IsCellOf, slots_in, IsInner, IsInnerOf, tree_slots, IsTree, root_slots, IsRoot}
 use Rattle.nm_tables.specs.declared.slot.Slot.{Slot}
 use Rattle.nm_tables.specs.declared.cell.Cell.{Cell}
 use Rattle.nm_tables.specs.declared.branch.Branch.{Branch}
-use Rattle.nm_tables.specs.Branches.{parts_of}
+use Rattle.nm_tables.specs.views.Branches.{parts_of}
 
 -- the numbers of blocks, and of the nodes one and two levels over them
 block_of : ℕ → ℕ

@@ -12,10 +12,10 @@ use Rattle.std.specs.BTreeMap.Range.{entries_between, range_contains}
 use Rattle.nm_types.specs.Map.{Map, get}
 use Rattle.nm_types.proofs.Maps.{keys-values}
 use Rattle.nm_types.proofs.Cases.{none_some}
-use Rattle.nm_tables.specs.Tree.{flatten, IsPart}
-use Rattle.nm_tables.specs.Orders.{keys_above}
+use Rattle.nm_tables.specs.definitions.Tree.{flatten, IsPart}
+use Rattle.nm_tables.specs.laws.Orders.{keys_above}
 use Rattle.nm_tables.proofs.Joined.{one_or_other, get-here, get-later, get-absent, get-append_some, get-append_none, none_elsewhere}
-use Rattle.nm_tables.specs.Nodes.{slots_shown, IsNode, are_parts}
+use Rattle.nm_tables.specs.definitions.Nodes.{slots_shown, IsNode, are_parts}
 use Rattle.nm_tables.proofs.Nodes.{node-get, node-get_none}
 
 pub from_it : (a k : ℕ) → a ≤ k → is_le (nat_cmp a k) ≡ true

@@ -4,8 +4,8 @@ use Rattle.std.specs.Prelude.{None, ◌==◌, slice_index_or, max}
 use Rattle.std.specs.Int.{bit_at}
 use Rattle.std.proofs.lemmas.Nat.{div-add-mod', mod_below}
 use Rattle.std.proofs.lemmas.Nat.Bits.{bit_at_cat_high, bit_at_or}
-use Rattle.nm_tables.specs.Marks.{is_marked}
-use Rattle.nm_tables.specs.Leaves.{stands_at, leaf_entry}
+use Rattle.nm_tables.specs.views.Marks.{is_marked}
+use Rattle.nm_tables.specs.views.Leaves.{stands_at, leaf_entry}
 use Rattle.nm_tables.specs.declared.places.Places.{Places}
 
 shifted : (w k j : ℕ) → 0 < 2 ^ k → bit_at (w / 2 ^ k) j ≡ bit_at w (k + j)

@@ -1,12 +1,4 @@
-pub mod Examples
-pub mod Tree
-pub mod Orders
-pub mod Nodes
-pub mod Branches
-pub mod Marks
-pub mod Leaves
-pub mod Cells
-pub mod Index
-pub mod Blocks
-pub mod Parts
-pub mod Lists
+pub mod definitions
+pub mod views
+pub mod laws
+pub mod examples

@@ -7,8 +7,8 @@ ghost use Rattle.std.specs.Ordering.{nat_cmp};
 ghost use Rattle.std.specs.declared.ops.Bound.TheVariants.{Included};
 ghost use Rattle.std.specs.BTreeMap.Range.{entries_between};
 ghost use Rattle.nm_types.specs.Map.{get, set, replace, without};
-ghost use Rattle.nm_tables.specs.Lists.{Extends, IsCutShort};
-ghost use Rattle.nm_tables.specs.Blocks.{slot_entries, IsSlotOf, block_entries, IsBlocks};
+ghost use Rattle.nm_tables.specs.definitions.Lists.{Extends, IsCutShort};
+ghost use Rattle.nm_tables.specs.views.Blocks.{slot_entries, IsSlotOf, block_entries, IsBlocks};
 ghost use Rattle.nm_tables.specs.declared.slot.Slot.TheVariants.{Lone, Leaf};
 
 use crate::Entry;

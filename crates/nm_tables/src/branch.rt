@@ -5,9 +5,9 @@ ghost use Rattle.std.specs.List.{AllByRecursion};
 ghost use Rattle.std.specs.Map.{keys_of};
 ghost use Rattle.std.specs.Ordering.{nat_cmp};
 ghost use Rattle.nm_types.specs.Map.{get, set};
-ghost use Rattle.nm_tables.specs.Tree.{flatten};
-ghost use Rattle.nm_tables.specs.Nodes.{slots_shown, IsFilledNode};
-ghost use Rattle.nm_tables.specs.Branches.{parts_of, IsOne};
+ghost use Rattle.nm_tables.specs.definitions.Tree.{flatten};
+ghost use Rattle.nm_tables.specs.definitions.Nodes.{slots_shown, IsFilledNode};
+ghost use Rattle.nm_tables.specs.views.Branches.{parts_of, IsOne};
 
 use crate::Entry;
 use crate::node::Node;
@@ -76,9 +76,9 @@ impl<T: Subtree<A>, A: Allocator + Copy> Subtree<A> for Branch<T, A> {
     ghost use Rattle.std.specs.Prelude.{◌≡◌, ◌/◌};
     ghost use Rattle.std.specs.List.{AllByRecursion};
     ghost use Rattle.std.specs.Map.{keys_of};
-    ghost use Rattle.nm_tables.specs.Tree.{flatten};
-    ghost use Rattle.nm_tables.specs.Nodes.{slots_shown, IsFilledNode, node_ordered, node_filled, node_part, upwards_again};
-    ghost use Rattle.nm_tables.specs.Branches.{parts_of};
+    ghost use Rattle.nm_tables.specs.definitions.Tree.{flatten};
+    ghost use Rattle.nm_tables.specs.definitions.Nodes.{slots_shown, IsFilledNode, node_ordered, node_filled, node_part, upwards_again};
+    ghost use Rattle.nm_tables.specs.views.Branches.{parts_of};
 
     ghost slots = { λ b. flatten (slots_shown T.slots (parts_of b)) };
 

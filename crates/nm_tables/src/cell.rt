@@ -19,7 +19,7 @@ pub(crate) struct Cell {
 
 impl<A: Allocator + Copy> Subtree<A> for Cell {
     ghost use Rattle.std.specs.Prelude.{◌≡◌, [], ◌∷◌};
-    ghost use Rattle.nm_tables.specs.Cells.{cell_ordered, cell_part, cell_filled};
+    ghost use Rattle.nm_tables.specs.laws.Cells.{cell_ordered, cell_part, cell_filled};
 
     ghost slots = { λ c. (c.block, c.slot) ∷ [] };
 

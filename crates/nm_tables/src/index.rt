@@ -7,8 +7,8 @@ ghost use Rattle.std.specs.Ordering.{nat_cmp};
 ghost use Rattle.std.specs.declared.ops.Bound.TheVariants.{Included};
 ghost use Rattle.std.specs.BTreeMap.Range.{entries_between};
 ghost use Rattle.nm_types.specs.Map.{get, set, replace, without};
-ghost use Rattle.nm_tables.specs.Lists.{Extends, IsCutShort};
-ghost use Rattle.nm_tables.specs.Blocks.{entries_by, AreBlocks};
+ghost use Rattle.nm_tables.specs.definitions.Lists.{Extends, IsCutShort};
+ghost use Rattle.nm_tables.specs.views.Blocks.{entries_by, AreBlocks};
 
 use crate::Entry;
 use crate::branch::Branch;
@@ -38,7 +38,7 @@ impl<A: Allocator + Copy> Model for Index<A> {
 
     ghost Value = { Map ℕ Slot };
 
-    ghost use Rattle.nm_tables.specs.Index.{root_slots, IsRoot};
+    ghost use Rattle.nm_tables.specs.views.Index.{root_slots, IsRoot};
 
     ghost view = { λ t. root_slots t.root };
 

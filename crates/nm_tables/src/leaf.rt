@@ -5,8 +5,8 @@ ghost use Rattle.std.specs.Ordering.{nat_cmp};
 ghost use Rattle.nm_types.specs.Map.{get, set, without};
 ghost use Rattle.std.specs.declared.ops.Bound.TheVariants.{Included};
 ghost use Rattle.std.specs.BTreeMap.Range.{entries_between};
-ghost use Rattle.nm_tables.specs.Leaves.{leaf_entries};
-ghost use Rattle.nm_tables.specs.Lists.{Extends, IsCutShort};
+ghost use Rattle.nm_tables.specs.views.Leaves.{leaf_entries};
+ghost use Rattle.nm_tables.specs.definitions.Lists.{Extends, IsCutShort};
 
 use crate::Entry;
 use crate::places::Places;

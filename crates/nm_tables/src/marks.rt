@@ -2,7 +2,7 @@
 
 ghost use Rattle.std.specs.Prelude.{◌≡◌, ◌<◌, ◌+◌, ◌%◌, ◌==◌, ℕ, false, if◌then◌else◌};
 ghost use Rattle.std.specs.Int.{bit_at};
-ghost use Rattle.nm_tables.specs.Marks.{is_marked};
+ghost use Rattle.nm_tables.specs.views.Marks.{is_marked};
 
 /// Which of a leaf's 512 places are marked: one bit each.
 #[derive(Drop)]

@@ -4,7 +4,7 @@ ghost use Rattle.std.specs.Prelude.{◌≡◌, [], IfOk, IfErr};
 ghost use Rattle.std.specs.List.Sorted.{IsStrictlySortedBy};
 ghost use Rattle.std.specs.Map.{keys_of};
 ghost use Rattle.std.specs.Ordering.{nat_cmp};
-ghost use Rattle.nm_tables.specs.Parts.{StandsAt, FitsAt, BeginsAt};
+ghost use Rattle.nm_tables.specs.definitions.Parts.{StandsAt, FitsAt, BeginsAt};
 
 use crate::Entry;
 use crate::leaf::block_of;
@@ -70,8 +70,8 @@ impl<T: Subtree<A>, A: Allocator + Copy> Subtree<A> for Node<T, A> {
     ghost use Rattle.std.specs.Prelude.{◌≡◌, ◌/◌};
     ghost use Rattle.std.specs.List.{AllByRecursion};
     ghost use Rattle.std.specs.Map.{keys_of};
-    ghost use Rattle.nm_tables.specs.Tree.{flatten};
-    ghost use Rattle.nm_tables.specs.Nodes.{slots_shown, IsFilledNode, node_ordered, node_filled, node_part, upwards_again};
+    ghost use Rattle.nm_tables.specs.definitions.Tree.{flatten};
+    ghost use Rattle.nm_tables.specs.definitions.Nodes.{slots_shown, IsFilledNode, node_ordered, node_filled, node_part, upwards_again};
 
     ghost slots = { λ n. flatten (slots_shown T.slots n.parts.items) };
 

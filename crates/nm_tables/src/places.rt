@@ -1,7 +1,7 @@
 //! The places of a leaf.
 
 ghost use Rattle.std.specs.Prelude.{◌≡◌, ◌≤◌, ◌<◌, ◌+◌, ℕ, true, false, None, Some, IfSome, IfNone};
-ghost use Rattle.nm_tables.specs.Leaves.{leaf_entry, stands_at};
+ghost use Rattle.nm_tables.specs.views.Leaves.{leaf_entry, stands_at};
 
 use crate::Entry;
 use crate::marks::Marks;

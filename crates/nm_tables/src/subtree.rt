@@ -7,9 +7,9 @@ ghost use Rattle.std.specs.Ordering.{nat_cmp};
 ghost use Rattle.std.specs.declared.ops.Bound.TheVariants.{Included};
 ghost use Rattle.std.specs.BTreeMap.Range.{entries_between};
 ghost use Rattle.nm_types.specs.Map.{Map, get, set, replace, without};
-ghost use Rattle.nm_tables.specs.Lists.{Extends, IsCutShort};
-ghost use Rattle.nm_tables.specs.Blocks.{entries_by, AreBlocks};
-ghost use Rattle.nm_tables.specs.Tree.{IsPart};
+ghost use Rattle.nm_tables.specs.definitions.Lists.{Extends, IsCutShort};
+ghost use Rattle.nm_tables.specs.views.Blocks.{entries_by, AreBlocks};
+ghost use Rattle.nm_tables.specs.definitions.Tree.{IsPart};
 ghost use Rattle.nm_tables.specs.declared.slot.Slot.{Slot};
 
 use crate::Entry;

@@ -7,7 +7,7 @@ ghost use Rattle.std.specs.Ordering.{nat_cmp};
 ghost use Rattle.std.specs.declared.ops.Bound.TheVariants.{Included, Excluded};
 ghost use Rattle.std.specs.BTreeMap.Range.{entries_between};
 ghost use Rattle.nm_types.specs.Map.{get, set, replace, without};
-ghost use Rattle.nm_tables.specs.Lists.{Extends, IsCutShort};
+ghost use Rattle.nm_tables.specs.definitions.Lists.{Extends, IsCutShort};
 
 use crate::Entry;
 use crate::blocks::Blocks;
@@ -30,7 +30,7 @@ impl<A: Allocator + Copy> Model for PageTable<A> {
 
     ghost Value = { Map ℕ Entry };
 
-    ghost use Rattle.nm_tables.specs.Blocks.{block_entries, IsBlocks};
+    ghost use Rattle.nm_tables.specs.views.Blocks.{block_entries, IsBlocks};
 
     ghost view = { λ t. block_entries t.blocks };
 

@@ -7,9 +7,9 @@ use Rattle.nm_trace.specs.declared.playing.Summary.{Summary}
 use Rattle.nm_steps.specs.declared.trace_error.TraceError.{TraceError}
 use Rattle.nm_steps.specs.declared.trace_error.TraceError.TheVariants.{NotJson, BadMachine, BadStep, ReadFault, WriteFault, HostMemory}
 use Rattle.nm_steps.specs.Faults.{Fails, Gives, TraceContents, trace_of, trace_limit}
-use Rattle.nm_trace.specs.Headline.{Runs}
-use Rattle.nm_trace.specs.Played.{ComesTo, Plays}
-use Rattle.nm_trace.specs.Reporting.{GivesTrace, IsTraceOf}
+use Rattle.nm_trace.specs.definitions.Headline.{Runs}
+use Rattle.nm_trace.specs.definitions.Played.{ComesTo, Plays}
+use Rattle.nm_trace.specs.definitions.Reporting.{GivesTrace, IsTraceOf}
 use Rattle.nm_streams.proofs.Known.{appends_none}
 use Rattle.nm_trace.proofs.InParts.{report_front}
 

@@ -13,9 +13,10 @@ use Rattle.nm_calls.specs.definitions.Systems.{SystemState, system_with}
 use Rattle.nm_calls.proofs.CallLaws.BytesStay.{calls_keep_memory}
 use Rattle.nm_calls.proofs.CallLaws.StaysSound.{calls_stay_sound}
 use Rattle.nm_steps.specs.Faults.{TraceContents}
-use Rattle.nm_trace.specs.Headline.{KeepMemory, IsPlayed, StatesAreSound}
-use Rattle.nm_trace.specs.Played.{Plays}
-use Rattle.nm_trace.specs.Report.{report_from, state_after}
+use Rattle.nm_trace.specs.definitions.Headline.{KeepMemory, IsPlayed}
+use Rattle.nm_trace.specs.laws.Soundness.{StatesAreSound}
+use Rattle.nm_trace.specs.definitions.Played.{Plays}
+use Rattle.nm_trace.specs.definitions.Report.{report_from, state_after}
 use Rattle.nm_trace.specs.declared.playing.Summary.{Summary}
 use Rattle.nm_steps.specs.declared.trace_error.TraceError.{TraceError}
 

@@ -5,7 +5,7 @@ use Rattle.std.proofs.Math.ListN.{get_or-map}
 use Rattle.nm_calls.specs.definitions.Systems.{SystemState}
 use Rattle.nm_requests.specs.Calls.{Call}
 use Rattle.nm_calls.specs.definitions.Outcome.{Outcome, outcome}
-use Rattle.nm_trace.specs.Report.{text_of, report_from, state_after}
+use Rattle.nm_trace.specs.definitions.Report.{text_of, report_from, state_after}
 
 pub report_append : (k : ℕ) (s : SystemState) (xs ys : List Call) → report_from k s (xs ++ ys) ≡ report_from k s xs ++ report_from (k + length xs) (state_after s xs) ys
 report_append k s [] ys = let e : k ≡ k + 0 = omega arith in ap (λ (j : ℕ). report_from j s ys) e

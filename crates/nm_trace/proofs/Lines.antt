@@ -13,7 +13,7 @@ use Rattle.nm_requests.specs.declared.call.InFlight.{InFlight}
 use Rattle.nm_requests.specs.Views.{shown_during}
 use Rattle.nm_calls.specs.definitions.Outcome.{access_answer}
 use Rattle.nm_steps.specs.Form.{access_step}
-use Rattle.nm_trace.specs.Report.{word_of, answer_text, line_of, access_line, access_lines}
+use Rattle.nm_trace.specs.definitions.Report.{word_of, answer_text, line_of, access_line, access_lines}
 
 -- the list up to a place, and the item there
 to_place : {X : Type 0} (xs : List X) (i : ℕ) (x : X) → i < length xs → x ≡ get_or xs i x → take (i + 1) xs ≡ take i xs ++ x ∷ []

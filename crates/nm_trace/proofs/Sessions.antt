@@ -17,8 +17,9 @@ use Rattle.std.specs.Str.{is_utf8}
 use Rattle.nm_steps.specs.Faults.{◌>>=◌, value_of}
 use Rattle.nm_steps.specs.Memory.{IsSomeText, NeedsMemory}
 use Rattle.nm_steps.proofs.Utf8.{needs_some}
-use Rattle.nm_trace.specs.Played.{StopsIn}
-use Rattle.nm_trace.specs.Session.{SessionState, next_call, next, next_lines, StopsShort, IsFed}
+use Rattle.nm_trace.specs.definitions.Played.{StopsIn}
+use Rattle.nm_trace.specs.definitions.Session.{SessionState, next_call, next, next_lines, StopsShort}
+use Rattle.nm_trace.specs.laws.Sessions.{IsFed}
 
 -- ---- no call changes the limit on runs
 

@@ -2,7 +2,7 @@
 use Rattle.std.proofs.Common.{◌≡◌, ◌||◌, ◌⊎◌, inl, inr, Result, Err, Bool, refl}
 use Rattle.nm_steps.specs.declared.trace_error.TraceError.{TraceError}
 use Rattle.nm_steps.specs.declared.trace_error.TraceError.TheVariants.{ReadFault, HostMemory}
-use Rattle.nm_trace.specs.Reporting.{is_write_fault}
+use Rattle.nm_trace.specs.definitions.Reporting.{is_write_fault}
 
 -- an error that is handed on is a write fault where it was one
 pub writes_of_err : {X Y : Type 0} (before now : Bool) (e : TraceError) (r : Result X TraceError) (s : Result Y TraceError) → r ≡ Err e → s ≡ Err e → now ≡ (is_write_fault r || before) → now ≡ (is_write_fault s || before)

@@ -1,7 +1,3 @@
-pub mod Report
-pub mod Played
-pub mod Headline
-pub mod Laws
-pub mod Flights
-pub mod Reporting
-pub mod Session
+pub mod definitions
+pub mod laws
+pub mod examples

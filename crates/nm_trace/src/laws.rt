@@ -1,9 +1,9 @@
 //! Laws of reports. Each function does nothing, and its contract is the law.
 
-ghost use Rattle.nm_trace.specs.Laws.{ThreePagesReport};
-ghost use Rattle.nm_trace.specs.Headline.{StatesAreSound};
-ghost use Rattle.nm_trace.specs.Session.{SessionsReport, SessionsAreTraces};
-ghost use Rattle.nm_trace.specs.Flights.{AccessLineRows, ReadWhileItMoves};
+ghost use Rattle.nm_trace.specs.examples.ThreePages.{ThreePagesReport};
+ghost use Rattle.nm_trace.specs.laws.Soundness.{StatesAreSound};
+ghost use Rattle.nm_trace.specs.laws.Sessions.{SessionsReport, SessionsAreTraces};
+ghost use Rattle.nm_trace.specs.examples.Flights.{AccessLineRows, ReadWhileItMoves};
 
 pub use nm_steps::laws::{first_bad_is_least, flight_rows};
 

@@ -3,8 +3,8 @@
 ghost use Rattle.std.specs.Prelude.{◌≡◌, ◌||◌, OnErr, map};
 ghost use Rattle.nm_calls.specs.definitions.Memory.{MayAllocate};
 ghost use Rattle.nm_requests.specs.Views.{call_of};
-ghost use Rattle.nm_trace.specs.Played.{Plays, PutsLines};
-ghost use Rattle.nm_trace.specs.Reporting.{is_write_fault};
+ghost use Rattle.nm_trace.specs.definitions.Played.{Plays, PutsLines};
+ghost use Rattle.nm_trace.specs.definitions.Reporting.{is_write_fault};
 
 use crate::text::{push_refusal, push_text};
 use nm_calls::{Call, CallError, RunCrew, System};

@@ -3,9 +3,9 @@
 ghost use Rattle.std.specs.Prelude.{◌≡◌, ◌⊎◌, ◌≤◌, ◌||◌, length, IfOk, OnOk, IfErr, IfSome, Err, Result};
 ghost use Rattle.std.specs.Io.KnownBytes.{IsAtEnd};
 ghost use Rattle.nm_steps.specs.Faults.{TraceContents, trace_limit};
-ghost use Rattle.nm_trace.specs.Headline.{IsPlayed, PlaysWhole, Runs};
-ghost use Rattle.nm_trace.specs.Played.{ComesTo};
-ghost use Rattle.nm_trace.specs.Reporting.{GivesTrace, IsTraceOf, is_write_fault};
+ghost use Rattle.nm_trace.specs.definitions.Headline.{IsPlayed, PlaysWhole, Runs};
+ghost use Rattle.nm_trace.specs.definitions.Played.{ComesTo};
+ghost use Rattle.nm_trace.specs.definitions.Reporting.{GivesTrace, IsTraceOf, is_write_fault};
 
 use crate::playing::{Summary, play_calls};
 use nm_calls::{RunCrew, System};

@@ -1,7 +1,7 @@
 //! Playing traces as their steps arrive.
 
 ghost use Rattle.std.specs.Prelude.{◌≡◌, ◌<◌, ◌≤◌, true, option_map, codes};
-ghost use Rattle.nm_trace.specs.Session.{session_of, IsCall, Steps};
+ghost use Rattle.nm_trace.specs.definitions.Session.{session_of, IsCall, Steps};
 ghost use Rattle.nm_steps.specs.Tree.{view};
 ghost use Rattle.nm_steps.specs.Form as form;
 ghost use Rattle.nm_steps.specs.Faults.{Gives};
@@ -30,7 +30,7 @@ pub struct Session<A: Allocator + Copy + Send + Sync> {
 
 impl<A: Allocator + Copy + Send + Sync> Model for Session<A> {
     ghost use Rattle.std.specs.Prelude.{◌≡◌, ◌<◌};
-    ghost use Rattle.nm_trace.specs.Session.{SessionState};
+    ghost use Rattle.nm_trace.specs.definitions.Session.{SessionState};
 
     ghost Value = { SessionState };
 
@@ -64,7 +64,7 @@ impl<A: Allocator + Copy + Send + Sync> Session<A> {
     /// Begins a session with the machine and the limit on runs at the top of a trace. Reads the
     /// top as `read_trace` does, except that `steps` is not looked at, and may be missing. Faults, in order: `NotJson`,
     /// `BadMachine`; `HostMemory(0)` if the host is out of memory: never for bytes that are not UTF-8.
-    #[tactic(auto, unfolding(crate::specs::Session::session_of, crate::specs::Session::new_session))]
+    #[tactic(auto, unfolding(crate::specs::definitions::Session::session_of, crate::specs::definitions::Session::new_session))]
     pub fn open(alloc: A, heap: Global, bytes: &[u8]) -> Result<Self, TraceError>
         ensures session { Gives (λ s. s) result (session_of bytes.now) }
         ensures allocates { result ≡ Err (HostMemory 0) → IsSomeText bytes.now }
@@ -88,7 +88,7 @@ impl<A: Allocator + Copy + Send + Sync> Session<A> {
     /// step with its line. `NotJson`, or `BadStep` with the step's number, if the bytes are no step: nothing has
     /// changed. `HostMemory` with the step's number if the host is out of memory: the step is not counted, but its call
     /// may have been made in part, as the call says, or whole and without its lines.
-    #[tactic(auto, unfolding(crate::specs::Session::next_call))]
+    #[tactic(auto, unfolding(crate::specs::definitions::Session::next_call))]
     pub fn step<C: RunCrew<A>>(
         &mut self,
         crew: &C,

@@ -11,7 +11,7 @@ ghost use Rattle.nm_calls.specs.definitions.Outcome.{accesses_asked, access_answ
 ghost use Rattle.nm_steps.specs.Form.{access_step};
 ghost use Rattle.nm_requests.specs.Views.{call_of, shown_during};
 ghost use Rattle.nm_calls.specs.views.Answers.{answer_of};
-ghost use Rattle.nm_trace.specs.Report.{word_of, each_after_space, entry_text, answer_text, line_of, text_of, access_lines, answers_in, access_line};
+ghost use Rattle.nm_trace.specs.definitions.Report.{word_of, each_after_space, entry_text, answer_text, line_of, text_of, access_lines, answers_in, access_line};
 ghost use Rattle.nm_streams.specs.Waiting.{Puts};
 ghost use Rattle.nm_model.specs.views.Asked.{access_shown};
 ghost use Rattle.nm_pool.specs.views.Accesses.{answer_shown};
@@ -210,7 +210,7 @@ fn push_bytes<W: ReportingWriter, A: Allocator>(block: &mut Block<A>, writer: &m
 }
 
 /// Puts an answer.
-#[tactic(auto, unfolding(crate::specs::Report::answer_text))]
+#[tactic(auto, unfolding(crate::specs::definitions::Report::answer_text))]
 fn push_answer<W: ReportingWriter, A: Allocator + Copy + Send + Sync>(
     block: &mut Block<A>,
     writer: &mut W,
@@ -265,7 +265,7 @@ fn push_front<W: ReportingWriter, A: Allocator + Copy + Send + Sync>(
 }
 
 /// Puts the line of step k, whose call was not refused, and then those of an answer of several lines.
-#[tactic(auto, unfolding(crate::specs::Report::line_of))]
+#[tactic(auto, unfolding(crate::specs::definitions::Report::line_of))]
 fn push_line<W: ReportingWriter, A: Allocator + Copy + Send + Sync>(
     block: &mut Block<A>,
     writer: &mut W,
@@ -292,7 +292,7 @@ fn access_word<A: Allocator + Copy>(access: &Access<A>) -> &'static str
 }
 
 /// Puts the answer to an access.
-#[tactic(auto, unfolding(crate::specs::Report::answer_text))]
+#[tactic(auto, unfolding(crate::specs::definitions::Report::answer_text))]
 fn push_access_answer<W: ReportingWriter, A: Allocator + Copy>(
     block: &mut Block<A>,
     writer: &mut W,
@@ -334,7 +334,7 @@ fn push_access_front<W: ReportingWriter, A: Allocator + Copy>(
 }
 
 /// Puts the line of access j of step k.
-#[tactic(auto, unfolding(crate::specs::Report::access_line))]
+#[tactic(auto, unfolding(crate::specs::definitions::Report::access_line))]
 fn push_access<W: ReportingWriter, A: Allocator + Copy>(
     block: &mut Block<A>,
     writer: &mut W,
@@ -396,7 +396,7 @@ fn push_flights<W: ReportingWriter, A: Allocator + Copy + Send + Sync>(
 
 /// Puts the lines of step k, whose call was not refused: its own, and those of the accesses that were made while pages
 /// moved.
-#[tactic(auto, unfolding(crate::specs::Report::text_of))]
+#[tactic(auto, unfolding(crate::specs::definitions::Report::text_of))]
 pub(crate) fn push_text<W: ReportingWriter, A: Allocator + Copy + Send + Sync>(
     block: &mut Block<A>,
     writer: &mut W,
@@ -412,7 +412,7 @@ pub(crate) fn push_text<W: ReportingWriter, A: Allocator + Copy + Send + Sync>(
 }
 
 /// Puts the line of step k, whose call was refused.
-#[tactic(auto, unfolding(crate::specs::Report::text_of, crate::specs::Report::line_of, crate::specs::Report::answer_text))]
+#[tactic(auto, unfolding(crate::specs::definitions::Report::text_of, crate::specs::definitions::Report::line_of, crate::specs::definitions::Report::answer_text))]
 pub(crate) fn push_refusal<W: ReportingWriter, A: Allocator + Copy + Send + Sync>(
     block: &mut Block<A>,
     writer: &mut W,

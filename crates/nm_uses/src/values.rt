@@ -6,7 +6,7 @@ ghost use Rattle.nm_steps.specs.Faults.{Gives, trace_of};
 ghost use Rattle.nm_steps.specs.Memory.{IsSomeText};
 ghost use Rattle.nm_steps.specs.declared.trace_error.TraceError.TheVariants.{HostMemory};
 ghost use Rattle.nm_steps.specs.Plans.{contents_of};
-ghost use Rattle.nm_trace.specs.Played.{PlaysNew};
+ghost use Rattle.nm_trace.specs.definitions.Played.{PlaysNew};
 
 use nm_calls::System;
 use nm_crew::Alone;

@@ -9,8 +9,8 @@ use Rattle.clap.specs.declared.error.kind.ErrorKind.TheVariants as parse
 use Rattle.nm_steps.specs.declared.trace_error.TraceError.{TraceError}
 use Rattle.nm_steps.specs.declared.trace_error.TraceError.TheVariants.{NotJson, BadMachine, BadStep, ReadFault, WriteFault, HostMemory}
 use Rattle.nm_steps.specs.Faults.{TraceContents}
-use Rattle.nm_trace.specs.Headline.{PlaysWhole, Runs}
-use Rattle.nm_trace.specs.Reporting.{GivesTrace, is_write_fault}
+use Rattle.nm_trace.specs.definitions.Headline.{PlaysWhole, Runs}
+use Rattle.nm_trace.specs.definitions.Reporting.{GivesTrace, is_write_fault}
 use Rattle.nm_trace.specs.declared.playing.Summary.{Summary}
 
 -- the exit status of a fault

@@ -5,7 +5,7 @@ use Rattle.std.specs.Prelude.{IfErr}
 use Rattle.std.specs.Io.BufRead.{take_through, DropsThrough}
 use Rattle.std.specs.Io.{StopsAt}
 use Rattle.std.specs.Io.KnownBytes.{Consumes}
-use Rattle.nm_trace.specs.Session.{SessionState, next_call, session_of}
+use Rattle.nm_trace.specs.definitions.Session.{SessionState, next_call, session_of}
 use Rattle.nm_streams.proofs.Known.{appends_more, appends_none, appends_nothing, consumes_none}
 use Rattle.numatrace_session.specs.declared.End.{End}
 use Rattle.numatrace_session.specs.declared.End.TheVariants.{BadTop, HostMemory, Stream}

@@ -5,7 +5,7 @@ use Rattle.std.specs.List.{AllByRecursion}
 use Rattle.std.specs.Io.BufRead.{take_through, drop_through, DropsThrough}
 use Rattle.std.specs.Io.KnownBytes.{Appends, Keeps}
 use Rattle.std.specs.Prelude.{OnOk}
-use Rattle.nm_trace.specs.Session.{SessionState, next_call, session_of}
+use Rattle.nm_trace.specs.definitions.Session.{SessionState, next_call, session_of}
 use Rattle.nm_streams.proofs.Known.{appends_kept, appends_more, appends_none}
 use Rattle.numatrace_session.specs.Replies.{HasByte, session_after, after_lines, but_last, reply_of, replies_to, AreLines, ReadsLines, RepliesToLines, Talks}
 

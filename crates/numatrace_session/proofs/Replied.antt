@@ -8,7 +8,7 @@ use Rattle.nm_steps.specs.declared.trace_error.TraceError.TheVariants.{BadMachin
 use Rattle.nm_steps.specs.declared.trace_error.TraceError.TheVariants as trace
 use Rattle.nm_streams.proofs.Known.{appends_more}
 use Rattle.nm_streams.proofs.Waits.{breaks_before, breaks_behind}
-use Rattle.nm_trace.specs.Session.{SessionState, Steps, next_call, next, next_lines}
+use Rattle.nm_trace.specs.definitions.Session.{SessionState, Steps, next_call, next, next_lines}
 use Rattle.numatrace_session.specs.declared.End.{End}
 use Rattle.numatrace_session.specs.declared.End.TheVariants.{BadTop, HostMemory, Stream}
 use Rattle.numatrace_session.specs.Replies.{session_after, bad_step_reply, not_json_reply, reply_of, Replies, TellsFault, Writes}

@@ -6,7 +6,7 @@ use Rattle.std.specs.declared.io.ErrorKind.TheVariants.{OutOfMemory}
 use Rattle.nm_steps.specs.declared.trace_error.TraceError.{TraceError}
 use Rattle.nm_steps.specs.declared.trace_error.TraceError.TheVariants as trace
 use Rattle.nm_steps.specs.Memory.{IsSomeText}
-use Rattle.nm_trace.specs.Session.{SessionState, session_of}
+use Rattle.nm_trace.specs.definitions.Session.{SessionState, session_of}
 use Rattle.numatrace_session.specs.declared.End.{End}
 use Rattle.numatrace_session.specs.declared.End.TheVariants.{BadTop, HostMemory, Stream}
 

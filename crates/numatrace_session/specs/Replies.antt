@@ -9,7 +9,7 @@ use Rattle.nm_steps.specs.declared.trace_error.TraceError.{TraceError}
 use Rattle.nm_steps.specs.declared.trace_error.TraceError.TheVariants.{BadStep}
 use Rattle.nm_steps.specs.declared.trace_error.TraceError.TheVariants as trace
 use Rattle.nm_streams.specs.Waiting.{BreaksOff}
-use Rattle.nm_trace.specs.Session.{SessionState, StopsShort, next_call, next, next_lines, session_of}
+use Rattle.nm_trace.specs.definitions.Session.{SessionState, StopsShort, next_call, next, next_lines, session_of}
 use Rattle.numatrace_session.specs.declared.End.{End}
 use Rattle.numatrace_session.specs.declared.End.TheVariants.{BadTop, HostMemory, Stream}
 

@@ -10,7 +10,7 @@ use Rattle.nm_policy.specs.declared.pairing.Pair.{Pair}
 use Rattle.nm_types.specs.declared.request.Wanted.TheVariants.{At}
 use Rattle.nm_model.specs.definitions.Cut.{Request, Stretch, cut_within}
 use Rattle.nm_types.specs.declared.errno.Errno.{Errno}
-use Rattle.nm_policy.specs.Pairs.{pairs}
+use Rattle.nm_policy.specs.definitions.Pairs.{pairs}
 use Rattle.nm_policy.proofs.Paired.{each_set_is_paired_in_order}
 use Rattle.nm_types.specs.declared.process.ProcessInfo.{ProcessInfo}
 use Rattle.nm_model.specs.definitions.Run.{moves_all}

@@ -6,7 +6,7 @@ use Rattle.nm_types.specs.Map.{same_page}
 use Rattle.nm_types.specs.Nodes.{is_in, IsNodeSet}
 use Rattle.nm_types.specs.State.{State}
 use Rattle.nm_types.specs.declared.page.Page.{Page}
-use Rattle.nm_policy.specs.Pairs.{pairs}
+use Rattle.nm_policy.specs.definitions.Pairs.{pairs}
 use Rattle.nm_passes.specs.definitions.Listing.{pages_on}
 use Rattle.nm_calls.specs.definitions.Systems.{SystemState}
 use Rattle.nm_requests.specs.Calls.{MigratePages}

@@ -10,7 +10,7 @@ use Rattle.nm_types.specs.State.{State}
 use Rattle.nm_model.specs.definitions.Areas.{Mapping}
 use Rattle.nm_policy.specs.declared.targets.Destination.{Destination}
 use Rattle.nm_model.specs.definitions.Order.{zonelist}
-use Rattle.nm_policy.specs.Turns.{with_turn, sent_to, by_turns}
+use Rattle.nm_policy.specs.definitions.Turns.{with_turn, sent_to, by_turns}
 use Rattle.nm_model.specs.definitions.Cut.{cut_within, wanted_of}
 use Rattle.nm_types.specs.declared.located_page.LocatedPage.{LocatedPage}
 use Rattle.nm_model.specs.definitions.Effect.{with_areas_of}

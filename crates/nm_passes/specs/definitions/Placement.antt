@@ -10,7 +10,7 @@ use Rattle.nm_types.specs.Nodes.{is_in}
 use Rattle.nm_types.specs.State.{State}
 use Rattle.nm_policy.specs.declared.targets.Destination.{Destination}
 use Rattle.nm_model.specs.definitions.Order.{zonelist, follows}
-use Rattle.nm_policy.specs.Turns.{by_turns}
+use Rattle.nm_policy.specs.definitions.Turns.{by_turns}
 use Rattle.nm_types.specs.declared.request.Wanted.{Wanted}
 use Rattle.nm_types.specs.declared.request.Wanted.TheVariants.{At}
 use Rattle.nm_model.specs.definitions.Cut.{Request, Stretch, cut_within}

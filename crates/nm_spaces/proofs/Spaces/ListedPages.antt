@@ -19,7 +19,7 @@ use Rattle.nm_types.proofs.Maps.{all_from_get}
 use Rattle.nm_types.specs.declared.entry.Entry.{Entry}
 use Rattle.nm_model.specs.definitions.Areas.{Mapping}
 use Rattle.nm_rmap.specs.Mappers.{Mappers}
-use Rattle.nm_tables.specs.Lists.{IsCutShort}
+use Rattle.nm_tables.specs.definitions.Lists.{IsCutShort}
 use Rattle.nm_types.specs.declared.located_page.LocatedPage.{LocatedPage}
 use Rattle.nm_spaces.specs.views.AddressSpaces.{AddressSpacesView, spaces_view}
 use Rattle.nm_model.specs.definitions.PageTables.{sight_of, page_here}

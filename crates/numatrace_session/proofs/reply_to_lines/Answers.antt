@@ -2,7 +2,7 @@ use Rattle.std.proofs.Common.{◌≡◌, ℕ, List, Err, ap, refl, subst, sym, �
 use Rattle.std.proofs.lemmas.Bool.{ltb-true}
 use Rattle.numatrace_session.specs.Input.{has_read_failed, left_in}
 use Rattle.std.specs.Io.KnownBytes.{Appends}
-use Rattle.nm_trace.specs.Session.{next_call}
+use Rattle.nm_trace.specs.definitions.Session.{next_call}
 use Rattle.numatrace_session.specs.Replies.{session_after, reply_of, EndsEarly, Replies}
 use Rattle.numatrace_session.proofs.Early.{if_err, unflushed, unread, unreplied}
 use Rattle.numatrace_session.proofs.Lines.{no_lines, one_more}

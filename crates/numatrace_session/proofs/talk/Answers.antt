@@ -1,6 +1,6 @@
 use Rattle.std.proofs.Common.{rules, ◌≡◌, ℕ, List, Ok, Err, subst}
 use Rattle.numatrace_session.specs.Input.{has_read_failed, left_in}
-use Rattle.nm_trace.specs.Session.{session_of}
+use Rattle.nm_trace.specs.definitions.Session.{session_of}
 use Rattle.numatrace_session.specs.Ends.{Begins}
 use Rattle.numatrace_session.specs.Replies.{EndsTalk}
 use Rattle.numatrace_session.proofs.Early.{ends_begun, first_unread, if_err, unbegun}

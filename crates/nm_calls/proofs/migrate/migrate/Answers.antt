@@ -1,7 +1,7 @@
 use Rattle.std.proofs.Common.{◌≡◌, arith, ◌<◌, ap, subst, ◌∙◌}
 use Rattle.std.specs.Result.{IsErrAnd}
 use Rattle.nm_types.specs.Layout.{node_count}
-use Rattle.nm_policy.specs.Pairs.{pairs}
+use Rattle.nm_policy.specs.definitions.Pairs.{pairs}
 use Rattle.nm_runs.specs.Stretches.{stretches_of}
 use Rattle.nm_model.specs.definitions.Cut.{cut_within}
 use Rattle.nm_passes.specs.definitions.Listing.{migrate_list}

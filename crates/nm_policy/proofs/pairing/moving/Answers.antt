@@ -6,7 +6,7 @@ use Rattle.std.proofs.lemmas.List.Elements.{filter-append}
 use Rattle.std.proofs.lemmas.Result.{IfOk-from_err}
 use Rattle.nm_policy.specs.declared.pairing.Pair.{Pair}
 use Rattle.nm_model.specs.definitions.Order.{turn}
-use Rattle.nm_policy.specs.Pairs.{pairs_from_turn, stays, pairs_that_move}
+use Rattle.nm_policy.specs.definitions.Pairs.{pairs_from_turn, stays, pairs_that_move}
 use Rattle.nm_policy.proofs.pairing.moving.Goals.{then-not-stays+in_ok-push, else-not-stays}
 use Rattle.nm_policy.proofs.pairing.moving.Goals as goal
 

@@ -1,6 +1,6 @@
 use Rattle.std.proofs.Common.{◌≡◌, ◌+◌, ◌++◌, not, length}
 use Rattle.std.specs.List.{filter}
-use Rattle.nm_policy.specs.Pairs.{pairs_from_turn, stays}
+use Rattle.nm_policy.specs.definitions.Pairs.{pairs_from_turn, stays}
 use Rattle.nm_policy.proofs.pairing.moving.Given as goal
 
 abbrev pub invariant-loop-from : goal.invariant-loop-from

@@ -4,7 +4,7 @@ use Rattle.std.proofs.lemmas.Fn.{filter_same}
 use Rattle.std.proofs.lemmas.List.{length-append}
 use Rattle.nm_types.specs.Nodes.{without_node}
 use Rattle.nm_policy.specs.declared.pairing.Pair.{Pair}
-use Rattle.nm_policy.specs.Pairs.{pairs_that_move, next_pair, without_source, pairs_after}
+use Rattle.nm_policy.specs.definitions.Pairs.{pairs_that_move, next_pair, without_source, pairs_after}
 use Rattle.nm_policy.proofs.Paired.{pairs_none, pairs_some, fewer_left, each_set_is_paired_in_order}
 use Rattle.nm_policy.proofs.pairing.pairs.Given as given
 use Rattle.nm_policy.proofs.pairing.pairs.Goals as goal

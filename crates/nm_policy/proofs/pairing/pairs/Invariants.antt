@@ -1,5 +1,5 @@
 use Rattle.std.proofs.Common.{◌≡◌, ◌+◌, ◌-◌, ◌≤◌, ◌++◌, length}
-use Rattle.nm_policy.specs.Pairs.{pairs_that_move, pairs_after, pairs}
+use Rattle.nm_policy.specs.definitions.Pairs.{pairs_that_move, pairs_after, pairs}
 use Rattle.nm_policy.proofs.pairing.pairs.Given as goal
 
 abbrev pub invariant-loop-pair : goal.invariant-loop-pair

@@ -4,7 +4,7 @@ use Rattle.std.proofs.lemmas.List.{append-nil, take_all}
 use Rattle.std.proofs.lemmas.List.Elements.{filter_more}
 use Rattle.std.proofs.lemmas.Result.{IfOk-from_err}
 use Rattle.nm_policy.specs.declared.targets.Destination.{Destination}
-use Rattle.nm_policy.specs.Turns.{sent_to}
+use Rattle.nm_policy.specs.definitions.Turns.{sent_to}
 use Rattle.nm_policy.proofs.targets.append_for.Goals.{then-eq+in_ok-push, else-eq}
 use Rattle.nm_policy.proofs.targets.append_for.Goals as goal
 

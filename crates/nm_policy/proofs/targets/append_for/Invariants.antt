@@ -1,5 +1,5 @@
 use Rattle.std.proofs.Common.{◌≡◌, ◌++◌, take}
-use Rattle.nm_policy.specs.Turns.{sent_to}
+use Rattle.nm_policy.specs.definitions.Turns.{sent_to}
 use Rattle.nm_policy.proofs.targets.append_for.Given as goal
 
 abbrev pub invariant-loop-sent : goal.invariant-loop-sent

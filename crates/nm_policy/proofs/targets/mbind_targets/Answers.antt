@@ -5,7 +5,7 @@ use Rattle.std.proofs.lemmas.List.{take_all, take_more, flat_map_more}
 use Rattle.std.proofs.lemmas.Result.{IfOk-from_err}
 use Rattle.nm_policy.specs.declared.targets.Destination.{Destination}
 use Rattle.nm_types.specs.declared.located_page.LocatedPage.{LocatedPage}
-use Rattle.nm_policy.specs.Turns.{with_turn, sent_to, by_turns}
+use Rattle.nm_policy.specs.definitions.Turns.{with_turn, sent_to, by_turns}
 use Rattle.nm_policy.proofs.targets.mbind_targets.Goals.{then-is_empty-via-then-is_empty, then-is_empty-via-else-is_empty+then-is_empty-2}
 use Rattle.nm_policy.proofs.targets.mbind_targets.Goals as goal
 

@@ -1,6 +1,6 @@
 use Rattle.std.proofs.Common.{◌≡◌, take}
 use Rattle.std.specs.List.{flat_map}
-use Rattle.nm_policy.specs.Turns.{sent_to}
+use Rattle.nm_policy.specs.definitions.Turns.{sent_to}
 use Rattle.nm_policy.proofs.targets.mbind_targets.Given as goal
 
 abbrev pub invariant-loop-node : goal.invariant-loop-node

@@ -4,7 +4,7 @@ use Rattle.std.proofs.lemmas.Result.{IfOk-from_err}
 use Rattle.nm_policy.specs.declared.targets.Destination.{Destination}
 use Rattle.nm_types.specs.declared.located_page.LocatedPage.{LocatedPage}
 use Rattle.nm_model.specs.definitions.Order.{turn}
-use Rattle.nm_policy.specs.Turns.{with_turn}
+use Rattle.nm_policy.specs.definitions.Turns.{with_turn}
 use Rattle.nm_policy.proofs.targets.pages_with_turns.Goals as goal
 
 one_more : (nodes : List ℕ) (pages : List LocatedPage) (i t : ℕ) (e : LocatedPage) (ds ns : List Destination) → i < length pages → e ≡ get_or pages i e → t ≡ turn nodes e.page.index → ds ≡ map (with_turn nodes) (take i pages)

@@ -1,5 +1,5 @@
 use Rattle.std.proofs.Common.{sym, ap, ◌∙◌}
-use Rattle.nm_tables.specs.Leaves.{stands_at}
+use Rattle.nm_tables.specs.views.Leaves.{stands_at}
 use Rattle.nm_tables.proofs.Leaves.{leaf-without}
 use Rattle.nm_tables.proofs.leaf.clear_in.Goals as goal
 

@@ -1,5 +1,5 @@
 use Rattle.std.proofs.Common.{sym, ap, ◌∙◌}
-use Rattle.nm_tables.specs.Leaves.{stands_at}
+use Rattle.nm_tables.specs.views.Leaves.{stands_at}
 use Rattle.nm_tables.proofs.Leaves.{leaf-get}
 use Rattle.nm_tables.proofs.leaf.entry_in.Goals as goal
 

@@ -2,7 +2,7 @@ use Rattle.std.proofs.Common.{◌≡◌, ◌+◌, ◌*◌, ◌≤◌, sym, ap, s
 use Rattle.std.specs.Ordering.{nat_cmp}
 use Rattle.nm_types.specs.Map.{get}
 use Rattle.nm_types.proofs.Cases.{none_always}
-use Rattle.nm_tables.specs.Leaves.{leaf_entries}
+use Rattle.nm_tables.specs.views.Leaves.{leaf_entries}
 use Rattle.nm_tables.proofs.Leaves.{leaf-at, leaf-none}
 use Rattle.nm_tables.proofs.leaf.first_in.Goals as goal
 

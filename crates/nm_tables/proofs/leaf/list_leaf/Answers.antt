@@ -1,5 +1,5 @@
 use Rattle.std.proofs.Common.{◌≡◌, ◌+◌, ◌*◌, ◌≤◌, ◌<◌, ◌++◌, [], ◌∷◌, sym, ap, subst, ◌∙◌, arith, append-nil, append_assoc}
-use Rattle.nm_tables.specs.Leaves.{leaf_entries}
+use Rattle.nm_tables.specs.views.Leaves.{leaf_entries}
 use Rattle.nm_tables.proofs.Numbers.{is_below, is_not_below}
 use Rattle.nm_tables.proofs.Results.{where_err}
 use Rattle.nm_tables.proofs.Within.{within}

@@ -1,6 +1,6 @@
 use Rattle.std.proofs.Common.{◌≡◌, ◌≤◌, ◌+◌, ◌-◌, ◌*◌, ◌++◌}
-use Rattle.nm_tables.specs.Leaves.{leaf_entries}
-use Rattle.nm_tables.specs.Lists.{Extends}
+use Rattle.nm_tables.specs.views.Leaves.{leaf_entries}
+use Rattle.nm_tables.specs.definitions.Lists.{Extends}
 use Rattle.nm_tables.proofs.Within.{within}
 use Rattle.nm_tables.proofs.leaf.list_leaf.Given as goal
 

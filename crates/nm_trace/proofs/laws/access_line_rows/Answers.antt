@@ -1,7 +1,7 @@
 use Rattle.std.proofs.Common.{refl}
 use Rattle.std.specs.Fmt.{digits}
 use Rattle.hex.specs.Hex.{encode_with}
-use Rattle.nm_trace.specs.Report.{access_line, answer_text, line_of}
+use Rattle.nm_trace.specs.definitions.Report.{access_line, answer_text, line_of}
 use Rattle.nm_trace.proofs.laws.access_line_rows.Goals as goal
 
 pub returns : goal.returns

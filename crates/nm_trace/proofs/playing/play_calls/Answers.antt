@@ -3,7 +3,7 @@ use Rattle.std.proofs.lemmas.List.{take_all, length-map}
 use Rattle.std.proofs.lemmas.Option.{slice_get_read}
 use Rattle.std.specs.Io.KnownBytes.{Appends}
 use Rattle.nm_requests.specs.Views.{call_of}
-use Rattle.nm_trace.specs.Report.{report_from, state_after}
+use Rattle.nm_trace.specs.definitions.Report.{report_from, state_after}
 use Rattle.nm_streams.specs.Waiting.{Stands, block_waiting}
 use Rattle.nm_trace.proofs.InParts.{call_at, state_more, report_more, report_short}
 use Rattle.nm_streams.proofs.Waits.{ends_whole, finish_breaks, puts_broken}

@@ -1,6 +1,6 @@
 use Rattle.std.proofs.Common.{◌≡◌, ◌≤◌, ◌||◌, false, length, map, take}
 use Rattle.nm_requests.specs.Views.{call_of}
-use Rattle.nm_trace.specs.Report.{report_from, state_after}
+use Rattle.nm_trace.specs.definitions.Report.{report_from, state_after}
 use Rattle.nm_streams.specs.Waiting.{Stands, block_broken, block_room, block_waiting}
 use Rattle.nm_trace.proofs.playing.play_calls.Given as goal
 

@@ -1,7 +1,7 @@
 use Rattle.std.proofs.Common.{sym, ap}
 use Rattle.nm_calls.specs.definitions.Outcome.{access_answer}
 use Rattle.nm_pool.specs.views.Accesses.{answer_shown}
-use Rattle.nm_trace.specs.Report.{answer_text}
+use Rattle.nm_trace.specs.definitions.Report.{answer_text}
 use Rattle.nm_streams.proofs.Waits.{put_is, put_more}
 use Rattle.nm_trace.proofs.text.push_access_answer.Goals as goal
 

@@ -1,7 +1,7 @@
 use Rattle.std.proofs.Common.{◌≡◌, ◌++◌, List, ℕ, drop, map}
 use Rattle.nm_pool.specs.views.Accesses.{answer_shown}
 use Rattle.nm_requests.specs.Views.{shown_during}
-use Rattle.nm_trace.specs.Report.{access_lines}
+use Rattle.nm_trace.specs.definitions.Report.{access_lines}
 use Rattle.nm_streams.specs.Waiting.{Puts}
 use Rattle.nm_trace.proofs.text.push_accesses.Given as goal
 

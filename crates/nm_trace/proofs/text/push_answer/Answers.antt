@@ -5,7 +5,7 @@ use Rattle.std.specs.List.{flat_map}
 use Rattle.std.specs.Prelude.{codes}
 use Rattle.nm_calls.specs.definitions.Maps.{lines_shown}
 use Rattle.nm_calls.specs.views.Answers.{answer_of}
-use Rattle.nm_trace.specs.Report.{answer_text, each_after_space, entry_text}
+use Rattle.nm_trace.specs.definitions.Report.{answer_text, each_after_space, entry_text}
 use Rattle.nm_streams.proofs.Waits.{put_is, put_more}
 use Rattle.nm_trace.proofs.text.push_answer.Goals as goal
 

@@ -1,5 +1,5 @@
 use Rattle.std.proofs.Common.{◌∷◌, refl}
-use Rattle.nm_trace.specs.Report.{entry_text}
+use Rattle.nm_trace.specs.definitions.Report.{entry_text}
 use Rattle.nm_streams.proofs.Waits.{put_is, put_more, put_none}
 use Rattle.nm_trace.proofs.Lines.{next_shown}
 use Rattle.nm_trace.proofs.text.push_entries.Goals as goal

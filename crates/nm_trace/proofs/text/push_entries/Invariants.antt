@@ -1,5 +1,5 @@
 use Rattle.std.proofs.Common.{map, take}
-use Rattle.nm_trace.specs.Report.{each_after_space, entry_text}
+use Rattle.nm_trace.specs.definitions.Report.{each_after_space, entry_text}
 use Rattle.nm_streams.specs.Waiting.{Puts}
 use Rattle.nm_trace.proofs.text.push_entries.Given as goal
 

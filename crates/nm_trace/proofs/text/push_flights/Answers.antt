@@ -5,8 +5,8 @@ use Rattle.nm_requests.specs.declared.call.MoveRequest.{MoveRequest}
 use Rattle.nm_calls.specs.definitions.Outcome.{accesses_asked}
 use Rattle.nm_requests.specs.Views.{call_of}
 use Rattle.nm_calls.specs.views.Answers.{answer_of}
-use Rattle.nm_trace.specs.Report.{answers_in}
-use Rattle.nm_trace.specs.Report.{access_lines}
+use Rattle.nm_trace.specs.definitions.Report.{answers_in}
+use Rattle.nm_trace.specs.definitions.Report.{access_lines}
 use Rattle.nm_trace.proofs.Lines.{no_access, no_answer}
 use Rattle.nm_streams.proofs.Waits.{put_is, put_none}
 use Rattle.nm_trace.proofs.text.push_flights.Goals as goal

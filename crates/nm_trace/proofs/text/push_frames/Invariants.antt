@@ -1,5 +1,5 @@
 use Rattle.std.proofs.Common.{take, decimal}
-use Rattle.nm_trace.specs.Report.{each_after_space}
+use Rattle.nm_trace.specs.definitions.Report.{each_after_space}
 use Rattle.nm_streams.specs.Waiting.{Puts}
 use Rattle.nm_trace.proofs.text.push_frames.Given as goal
 

@@ -1,4 +1,4 @@
-use Rattle.nm_trace.specs.Report.{line_of}
+use Rattle.nm_trace.specs.definitions.Report.{line_of}
 use Rattle.nm_streams.proofs.Waits.{put_more}
 use Rattle.nm_trace.proofs.text.push_line.Goals as goal
 

@@ -3,7 +3,7 @@ use Rattle.std.proofs.lemmas.List.{append-nil}
 use Rattle.nm_calls.specs.definitions.Answers.{Refusal}
 use Rattle.nm_calls.specs.definitions.Outcome.{accesses_asked}
 use Rattle.nm_requests.specs.Views.{call_of}
-use Rattle.nm_trace.specs.Report.{text_of, line_of, answer_text}
+use Rattle.nm_trace.specs.definitions.Report.{text_of, line_of, answer_text}
 use Rattle.nm_trace.proofs.Lines.{no_answer}
 use Rattle.nm_streams.proofs.Waits.{put_is, put_more}
 use Rattle.nm_trace.proofs.text.push_refusal.Goals as goal

@@ -1,6 +1,6 @@
 use Rattle.std.proofs.Common.{take}
 use Rattle.std.specs.Fmt.{signed_decimal}
-use Rattle.nm_trace.specs.Report.{each_after_space}
+use Rattle.nm_trace.specs.definitions.Report.{each_after_space}
 use Rattle.nm_streams.specs.Waiting.{Puts}
 use Rattle.nm_trace.proofs.text.push_statuses.Given as goal
 

@@ -1,7 +1,7 @@
 use Rattle.std.proofs.Common.{ap, inl, map, subst, ◌∙◌}
 use Rattle.nm_requests.specs.Views.{call_of}
 use Rattle.nm_calls.specs.definitions.Systems.{SystemState, system_with}
-use Rattle.nm_trace.specs.Played.{Plays}
+use Rattle.nm_trace.specs.definitions.Played.{Plays}
 use Rattle.nm_uses.proofs.values.play_new.Goals as goal
 
 pub returns : goal.returns

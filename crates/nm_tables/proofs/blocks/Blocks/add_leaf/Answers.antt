@@ -1,8 +1,8 @@
 use Rattle.std.proofs.Common.{◌≡◌, ◌/◌, [], ◌∷◌, ◌++◌, length, sym, ap, subst, ◌∙◌, arith}
 use Rattle.std.specs.Ordering.{nat_cmp}
 use Rattle.nm_types.specs.Map.{set, replace}
-use Rattle.nm_tables.specs.Leaves.{leaf_entries}
-use Rattle.nm_tables.specs.Blocks.{AreBlocks, entries_by, without_leaf, EachLeafIsNamed, EachHasEntries}
+use Rattle.nm_tables.specs.views.Leaves.{leaf_entries}
+use Rattle.nm_tables.specs.views.Blocks.{AreBlocks, entries_by, without_leaf, EachLeafIsNamed, EachHasEntries}
 use Rattle.nm_tables.specs.declared.slot.Slot.TheVariants.{Lone, Leaf}
 use Rattle.nm_tables.proofs.Leaves.{none_in}
 use Rattle.nm_tables.proofs.Slots.{blocks-found, second-kept, second-set, lacking-replace, one_lacks}

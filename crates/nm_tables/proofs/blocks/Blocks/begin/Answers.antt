@@ -1,7 +1,7 @@
 use Rattle.std.proofs.Common.{◌≡◌, ◌/◌, ◌<◌, ◌^◌, refl, sym, ap, subst, ◌∙◌, arith}
 use Rattle.std.specs.Ordering.{nat_cmp}
 use Rattle.nm_types.specs.Map.{set}
-use Rattle.nm_tables.specs.Blocks.{AreBlocks, entries_by, without_leaf, EachLeafIsNamed, EachHasEntries}
+use Rattle.nm_tables.specs.views.Blocks.{AreBlocks, entries_by, without_leaf, EachLeafIsNamed, EachHasEntries}
 use Rattle.nm_tables.specs.declared.slot.Slot.TheVariants.{Lone}
 use Rattle.nm_tables.proofs.Slots.{blocks-new, blocks-more, lacking-set}
 use Rattle.nm_tables.proofs.Kept.{new_named, new_has}

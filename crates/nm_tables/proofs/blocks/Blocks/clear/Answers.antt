@@ -3,8 +3,8 @@ use Rattle.std.specs.Prelude.{Some, None, IsSome}
 use Rattle.std.specs.Ordering.{nat_cmp}
 use Rattle.nm_types.specs.Map.{get, without}
 use Rattle.nm_types.proofs.Cases.{some_is}
-use Rattle.nm_tables.specs.Leaves.{leaf_entries}
-use Rattle.nm_tables.specs.Blocks.{AreBlocks, entries_by, entries_there, without_leaf, EachLeafIsNamed, EachHasEntries}
+use Rattle.nm_tables.specs.views.Leaves.{leaf_entries}
+use Rattle.nm_tables.specs.views.Blocks.{AreBlocks, entries_by, entries_there, without_leaf, EachLeafIsNamed, EachHasEntries}
 use Rattle.nm_tables.specs.declared.slot.Slot.TheVariants.{Lone, Leaf}
 use Rattle.nm_tables.proofs.Slots.{blocks-found, blocks-gone, blocks-less, blocks-without_nothing, blocks-absent, within, read_leaf, read_block, written-without, written-kept, lacking-without, one_lacks, lone_without, lone_other}
 use Rattle.nm_tables.proofs.Kept.{gone_named, gone_has, written_named, written_has}

@@ -2,7 +2,7 @@ use Rattle.std.proofs.Common.{◌≡◌, ℕ, ◌-◌, ◌/◌, ◌≤◌, ◌<�
 use Rattle.std.specs.Prelude.{None}
 use Rattle.std.specs.Ordering.{nat_cmp}
 use Rattle.nm_types.specs.Map.{get}
-use Rattle.nm_tables.specs.Blocks.{block_entries}
+use Rattle.nm_tables.specs.views.Blocks.{block_entries}
 use Rattle.nm_tables.proofs.blocks.Blocks.first_from.Given as goal
 
 -- the blocks before have no entry

@@ -8,8 +8,8 @@ use Rattle.nm_types.specs.declared.entry.Entry.{Entry}
 use Rattle.nm_tables.specs.declared.places.Places.{Places}
 use Rattle.nm_tables.specs.declared.slot.Slot.{Slot}
 use Rattle.nm_tables.specs.declared.slot.Slot.TheVariants.{Leaf}
-use Rattle.nm_tables.specs.Blocks.{entries_there, slot_entries, IsLeafOf, IsOf}
-use Rattle.nm_tables.specs.Leaves.{leaf_entries}
+use Rattle.nm_tables.specs.views.Blocks.{entries_there, slot_entries, IsLeafOf, IsOf}
+use Rattle.nm_tables.specs.views.Leaves.{leaf_entries}
 use Rattle.nm_tables.proofs.Numbers.{is_below, is_not_below}
 use Rattle.nm_tables.proofs.blocks.Blocks.first_of.Goals as goal
 

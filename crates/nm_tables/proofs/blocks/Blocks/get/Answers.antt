@@ -2,7 +2,7 @@ use Rattle.std.proofs.Common.{◌≡◌, ◌/◌, ◌<◌, [], sym, ap, subst, �
 use Rattle.std.specs.Prelude.{Some, None}
 use Rattle.std.specs.Ordering.{nat_cmp}
 use Rattle.nm_types.specs.Map.{get}
-use Rattle.nm_tables.specs.Blocks.{entries_there}
+use Rattle.nm_tables.specs.views.Blocks.{entries_there}
 use Rattle.nm_tables.specs.declared.slot.Slot.TheVariants.{Lone, Leaf}
 use Rattle.nm_tables.proofs.Joined.{get-here, get-later}
 use Rattle.nm_tables.proofs.Slots.{blocks-get, blocks-none, blocks-found, within, read_leaf, read_block}

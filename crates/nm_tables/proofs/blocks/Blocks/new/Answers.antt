@@ -3,7 +3,7 @@ use Rattle.std.specs.Prelude.{slice_get}
 use Rattle.std.specs.Ordering.{nat_cmp}
 use Rattle.nm_types.specs.Map.{get}
 use Rattle.nm_types.proofs.Cases.{none_some}
-use Rattle.nm_tables.specs.Blocks.{IsSlot, IsSlotOf, AreBlocks, without_leaf}
+use Rattle.nm_tables.specs.views.Blocks.{IsSlot, IsSlotOf, AreBlocks, without_leaf}
 use Rattle.nm_tables.proofs.Parts.{no_parts}
 use Rattle.nm_tables.proofs.blocks.Blocks.new.Goals as goal
 

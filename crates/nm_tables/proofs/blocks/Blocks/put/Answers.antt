@@ -2,10 +2,10 @@ use Rattle.std.proofs.Common.{◌≡◌, ◌+◌, ◌/◌, ◌<◌, ◌≤◌, r
 use Rattle.std.specs.Prelude.{Some}
 use Rattle.std.specs.Ordering.{nat_cmp}
 use Rattle.nm_types.specs.Map.{get, replace}
-use Rattle.nm_tables.specs.Blocks.{AreBlocks, entries_by, without_leaf, EachLeafIsNamed, EachHasEntries}
+use Rattle.nm_tables.specs.views.Blocks.{AreBlocks, entries_by, without_leaf, EachLeafIsNamed, EachHasEntries}
 use Rattle.nm_tables.specs.declared.slot.Slot.TheVariants.{Lone, Leaf}
 use Rattle.nm_tables.proofs.Slots.{blocks-found, blocks-kept, blocks-set, within, read_leaf, read_block, written-set, written-kept, lacking-replace, lone_set}
-use Rattle.nm_tables.specs.Leaves.{leaf_entries}
+use Rattle.nm_tables.specs.views.Leaves.{leaf_entries}
 use Rattle.nm_tables.proofs.Changed.{set_some}
 use Rattle.nm_tables.proofs.Kept.{lone_named, lone_has, written_named, written_has}
 use Rattle.nm_tables.proofs.blocks.Blocks.put.Goals as goal

@@ -3,7 +3,7 @@ use Rattle.std.specs.Prelude.{Some, IsSome, slice_get, swap_remove, vec_len}
 use Rattle.std.specs.Ordering.{nat_cmp}
 use Rattle.std.proofs.lemmas.Option.{slice_get_read}
 use Rattle.nm_types.specs.Map.{get, replace, without}
-use Rattle.nm_tables.specs.Blocks.{AreBlocks, entries_by, without_leaf, EachLeafIsNamed, EachHasEntries}
+use Rattle.nm_tables.specs.views.Blocks.{AreBlocks, entries_by, without_leaf, EachLeafIsNamed, EachHasEntries}
 use Rattle.nm_tables.specs.declared.slot.Slot.TheVariants.{Leaf}
 use Rattle.nm_tables.proofs.Slots.{blocks-found, blocks-gone, within, lacking-without, lacking-replace}
 use Rattle.nm_tables.proofs.Removed.{last-entries, last-kept, last-named, last-has, moved-slot, moved-there, moved-entries, moved-kept, moved-named, moved-has}

@@ -6,7 +6,7 @@ use Rattle.std.proofs.lemmas.Map.Lookups.{exact_unsigned}
 use Rattle.nm_types.specs.Map.{get}
 use Rattle.nm_types.proofs.Cases.{none_is_not}
 use Rattle.nm_types.proofs.Maps.{replace_is_set}
-use Rattle.nm_tables.specs.Blocks.{block_entries}
+use Rattle.nm_tables.specs.views.Blocks.{block_entries}
 use Rattle.nm_types.specs.declared.entry.Entry.{Entry}
 use Rattle.nm_tables.proofs.Slots.{blocks-none, blocks-ordered}
 use Rattle.nm_tables.proofs.blocks.Blocks.replace.Goals as goal

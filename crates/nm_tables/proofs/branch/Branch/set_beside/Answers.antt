@@ -1,9 +1,9 @@
 use Rattle.std.proofs.Common.{◌≡◌, ◌++◌, [], ◌∷◌, sym, ap, subst, ◌∙◌}
 use Rattle.std.specs.Ordering.{nat_cmp}
 use Rattle.nm_types.specs.Map.{set}
-use Rattle.nm_tables.specs.Tree.{flatten}
-use Rattle.nm_tables.specs.Nodes.{slots_shown, IsNode}
-use Rattle.nm_tables.specs.Branches.{parts_of}
+use Rattle.nm_tables.specs.definitions.Tree.{flatten}
+use Rattle.nm_tables.specs.definitions.Nodes.{slots_shown, IsNode}
+use Rattle.nm_tables.specs.views.Branches.{parts_of}
 use Rattle.nm_tables.proofs.Changed.{set_some}
 use Rattle.nm_tables.proofs.Nodes as node
 use Rattle.nm_tables.proofs.Branches.{is_no_other, another, set_behind, set_before, above_it}

@@ -1,5 +1,5 @@
 use Rattle.std.proofs.Common.{sym, ap, ◌∙◌}
-use Rattle.nm_tables.specs.Branches.{parts_of}
+use Rattle.nm_tables.specs.views.Branches.{parts_of}
 use Rattle.nm_tables.proofs.Nodes as node
 use Rattle.nm_tables.proofs.Branches.{absent_beside}
 use Rattle.nm_tables.proofs.branch.BranchSubtree.get.Goals as goal

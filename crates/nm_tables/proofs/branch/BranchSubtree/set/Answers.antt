@@ -1,5 +1,5 @@
-use Rattle.nm_tables.specs.Branches.{parts_of}
-use Rattle.nm_tables.specs.Nodes.{IsFilledNode}
+use Rattle.nm_tables.specs.views.Branches.{parts_of}
+use Rattle.nm_tables.specs.definitions.Nodes.{IsFilledNode}
 use Rattle.std.proofs.Common.{subst}
 use Rattle.nm_tables.proofs.branch.BranchSubtree.set.Goals as goal
 

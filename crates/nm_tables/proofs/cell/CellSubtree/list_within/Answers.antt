@@ -1,6 +1,6 @@
 use Rattle.std.proofs.Common.{◌≡◌, ◌++◌, subst}
 use Rattle.std.specs.Prelude.{OnOk, OnErr}
-use Rattle.nm_tables.specs.Lists.{IsCutShort}
+use Rattle.nm_tables.specs.definitions.Lists.{IsCutShort}
 use Rattle.nm_tables.proofs.Within.{within}
 use Rattle.nm_tables.proofs.Listed.{of_cell}
 use Rattle.nm_tables.proofs.cell.CellSubtree.list_within.Goals as goal

@@ -2,7 +2,7 @@ use Rattle.std.proofs.Common.{◌≡◌, ◌≤◌, ◌<◌, ℕ, sym, ap, subst
 use Rattle.std.specs.Prelude.{Some, None, IfSome, IfNone}
 use Rattle.std.specs.Ordering.{nat_cmp}
 use Rattle.nm_types.specs.Map.{get}
-use Rattle.nm_tables.specs.Index.{root_slots}
+use Rattle.nm_tables.specs.views.Index.{root_slots}
 use Rattle.nm_tables.proofs.Trees.{ordered_by}
 use Rattle.nm_tables.proofs.index.Index.first_from.Goals as goal
 

@@ -1,7 +1,7 @@
 use Rattle.std.proofs.Common.{◌/◌, ◌%◌, ◌*◌, ◌-◌, ◌^◌, ◌==◌, true, false, bit_or, bit_and, w64, ap, sym, ◌∙◌, arith}
 use Rattle.std.specs.Prelude.{slice_index_or, if◌then◌else◌}
 use Rattle.std.proofs.lemmas.Nat.Bits.{bit_at_set_same, bit_at_set_other, bit_at_clear_same, bit_at_clear_other}
-use Rattle.nm_tables.specs.Marks.{is_marked}
+use Rattle.nm_tables.specs.views.Marks.{is_marked}
 use Rattle.nm_tables.proofs.Bits.{word-changed}
 use Rattle.nm_tables.proofs.marks.Marks.put.Goals as goal
 

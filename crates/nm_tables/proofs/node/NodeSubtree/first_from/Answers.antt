@@ -4,9 +4,9 @@ use Rattle.std.specs.Ordering.{nat_cmp}
 use Rattle.std.specs.declared.ops.Bound.TheVariants.{Included, Unbounded}
 use Rattle.std.specs.BTreeMap.Range.{entries_between}
 use Rattle.nm_types.specs.Map.{get}
-use Rattle.nm_tables.specs.Tree.{flatten}
-use Rattle.nm_tables.specs.Nodes.{slots_shown, IsNode}
-use Rattle.nm_tables.specs.Parts.{BeginsAt}
+use Rattle.nm_tables.specs.definitions.Tree.{flatten}
+use Rattle.nm_tables.specs.definitions.Nodes.{slots_shown, IsNode}
+use Rattle.nm_tables.specs.definitions.Parts.{BeginsAt}
 use Rattle.nm_tables.proofs.Parts.{between_is}
 use Rattle.nm_tables.proofs.Walks as walk
 use Rattle.nm_tables.proofs.node.NodeSubtree.first_from.Goals as goal

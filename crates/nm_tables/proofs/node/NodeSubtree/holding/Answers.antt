@@ -1,6 +1,6 @@
 use Rattle.std.proofs.Common.{◌≡◌, ◌++◌, ◌∷◌, [], sym, ap, subst, ◌∙◌}
 use Rattle.std.specs.List.Sorted.{IsStrictlySortedBy}
-use Rattle.nm_tables.specs.Nodes.{IsNode}
+use Rattle.nm_tables.specs.definitions.Nodes.{IsNode}
 use Rattle.nm_tables.proofs.Branches.{one_some}
 use Rattle.nm_tables.proofs.node.NodeSubtree.holding.Goals as goal
 

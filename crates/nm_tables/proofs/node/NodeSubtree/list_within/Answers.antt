@@ -1,9 +1,9 @@
 use Rattle.std.proofs.Common.{◌≡◌, ◌-◌, ◌+◌, ◌/◌, ◌<◌, ◌∷◌, ◌++◌, drop, take, length, sym, ap, subst, ◌∙◌, arith, take_all, length-drop}
 use Rattle.std.proofs.lemmas.List.{drop_more}
-use Rattle.nm_tables.specs.Tree.{flatten}
-use Rattle.nm_tables.specs.Nodes.{slots_shown, IsNode}
-use Rattle.nm_tables.specs.Parts.{BeginsAt}
-use Rattle.nm_tables.specs.Blocks.{entries_by, AreBlocks}
+use Rattle.nm_tables.specs.definitions.Tree.{flatten}
+use Rattle.nm_tables.specs.definitions.Nodes.{slots_shown, IsNode}
+use Rattle.nm_tables.specs.definitions.Parts.{BeginsAt}
+use Rattle.nm_tables.specs.views.Blocks.{entries_by, AreBlocks}
 use Rattle.nm_tables.proofs.Results.{where_err}
 use Rattle.nm_tables.proofs.Within.{within}
 use Rattle.nm_tables.proofs.Listed as listed

@@ -1,8 +1,8 @@
 use Rattle.std.proofs.Common.{◌≡◌, ◌++◌, drop}
-use Rattle.nm_tables.specs.Tree.{flatten}
-use Rattle.nm_tables.specs.Nodes.{slots_shown, IsNode}
-use Rattle.nm_tables.specs.Blocks.{entries_by, AreBlocks}
-use Rattle.nm_tables.specs.Lists.{Extends}
+use Rattle.nm_tables.specs.definitions.Tree.{flatten}
+use Rattle.nm_tables.specs.definitions.Nodes.{slots_shown, IsNode}
+use Rattle.nm_tables.specs.views.Blocks.{entries_by, AreBlocks}
+use Rattle.nm_tables.specs.definitions.Lists.{Extends}
 use Rattle.nm_tables.proofs.Within.{within}
 use Rattle.nm_tables.proofs.node.NodeSubtree.list_within.Given as goal
 

@@ -5,8 +5,8 @@ use Rattle.std.specs.Map.{keys_of}
 use Rattle.std.specs.Ordering.{nat_cmp}
 use Rattle.nm_types.proofs.Cases.{none_is_not, true_false}
 use Rattle.nm_types.proofs.Keys.{keys-replace}
-use Rattle.nm_tables.specs.Tree.{flatten}
-use Rattle.nm_tables.specs.Nodes.{slots_shown, IsNode}
+use Rattle.nm_tables.specs.definitions.Tree.{flatten}
+use Rattle.nm_tables.specs.definitions.Nodes.{slots_shown, IsNode}
 use Rattle.nm_tables.specs.declared.slot.Slot.{Slot}
 use Rattle.nm_tables.proofs.Changed.{all-without, replace_some}
 use Rattle.nm_tables.proofs.Nodes as node

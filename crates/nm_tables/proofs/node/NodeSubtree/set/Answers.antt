@@ -6,8 +6,8 @@ use Rattle.std.specs.Map.{keys_of}
 use Rattle.std.specs.Ordering.{nat_cmp}
 use Rattle.std.proofs.lemmas.Result.{IfOk-from_err}
 use Rattle.nm_types.proofs.Keys.{keys-replace}
-use Rattle.nm_tables.specs.Tree.{flatten}
-use Rattle.nm_tables.specs.Nodes.{slots_shown, IsNode}
+use Rattle.nm_tables.specs.definitions.Tree.{flatten}
+use Rattle.nm_tables.specs.definitions.Nodes.{slots_shown, IsNode}
 use Rattle.nm_tables.proofs.Results.{on_ok, on_err}
 use Rattle.nm_tables.proofs.Changed.{all-set, set_some, replace_some}
 use Rattle.nm_tables.proofs.Nodes as node

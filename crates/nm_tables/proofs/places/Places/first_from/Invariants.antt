@@ -1,5 +1,5 @@
 use Rattle.std.proofs.Common.{◌-◌, ◌≡◌, ◌≤◌, ◌<◌, ℕ, None}
-use Rattle.nm_tables.specs.Leaves.{stands_at}
+use Rattle.nm_tables.specs.views.Leaves.{stands_at}
 use Rattle.nm_tables.proofs.places.Places.first_from.Given as goal
 
 abbrev pub invariant-loop-place : goal.invariant-loop-place

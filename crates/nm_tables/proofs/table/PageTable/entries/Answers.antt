@@ -1,5 +1,5 @@
 use Rattle.std.proofs.Common.{◌<◌, ◌++◌, length, ap, subst, ◌∙◌, arith}
-use Rattle.nm_tables.specs.Blocks.{block_entries}
+use Rattle.nm_tables.specs.views.Blocks.{block_entries}
 use Rattle.nm_tables.proofs.Within.{within}
 use Rattle.nm_tables.proofs.Listed.{list-all, some_left_out}
 use Rattle.nm_tables.proofs.Results.{where_err}

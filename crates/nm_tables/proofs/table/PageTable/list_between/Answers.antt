@@ -2,7 +2,7 @@ use Rattle.std.proofs.Common.{◌≡◌, ◌+◌, ◌++◌, sym, ap, subst, ◌�
 use Rattle.std.specs.Ordering.{nat_cmp}
 use Rattle.std.specs.declared.ops.Bound.TheVariants.{Included, Excluded}
 use Rattle.std.specs.BTreeMap.Range.{entries_between}
-use Rattle.nm_tables.specs.Lists.{IsCutShort}
+use Rattle.nm_tables.specs.definitions.Lists.{IsCutShort}
 use Rattle.nm_tables.proofs.Results.{on_ok, on_err}
 use Rattle.nm_tables.proofs.Slots.{ordered_by}
 use Rattle.nm_tables.proofs.Within.{within, within_end, none_below}

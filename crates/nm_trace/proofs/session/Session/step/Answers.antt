@@ -1,7 +1,7 @@
 use Rattle.std.proofs.Common.{◌∙◌, Err, ap, refl, sym, inl, inr}
 use Rattle.json.specs.Scratch.{room}
 use Rattle.nm_steps.specs.Tree.{view}
-use Rattle.nm_trace.specs.Session.{SessionState}
+use Rattle.nm_trace.specs.definitions.Session.{SessionState}
 use Rattle.nm_requests.specs.Views.{call_of}
 use Rattle.nm_calls.specs.definitions.Systems.{SystemState}
 use Rattle.nm_streams.proofs.Waits.{all_waits}

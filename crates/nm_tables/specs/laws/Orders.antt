@@ -8,7 +8,7 @@ use Rattle.std.specs.Cmp.{nat_cmp_is, ranked}
 use Rattle.std.specs.declared.cmp.Ordering.TheVariants.{Less}
 use Rattle.std.proofs.Math.Decide.{dec_lt}
 use Rattle.nm_types.specs.Map.{Map}
-use Rattle.nm_tables.specs.Tree.{flatten, IsPart, AreParts}
+use Rattle.nm_tables.specs.definitions.Tree.{flatten, IsPart, AreParts}
 
 -- what holds of the keys of two maps holds of the keys of both together
 pub all-append : {V : Type 0} (P : ℕ → Type 0) (a b : Map ℕ V)

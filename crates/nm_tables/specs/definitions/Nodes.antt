@@ -6,8 +6,8 @@ use Rattle.std.specs.Map.{keys_of}
 use Rattle.std.specs.Ordering.{nat_cmp}
 use Rattle.nm_types.specs.Map.{Map, with_values}
 use Rattle.nm_types.proofs.Maps.{keys-values}
-use Rattle.nm_tables.specs.Tree.{flatten, IsPart, AreParts}
-use Rattle.nm_tables.specs.Orders.{sorted-joined, all-append}
+use Rattle.nm_tables.specs.definitions.Tree.{flatten, IsPart, AreParts}
+use Rattle.nm_tables.specs.laws.Orders.{sorted-joined, all-append}
 
 module _ {P : Type 0} where
   -- the parts are in order, each valid and with its own number

@@ -1,17 +1,16 @@
 -- The headline: what a run from a trace does.
 use Rattle.std.specs.Prelude.{◌≡◌, ℕ, ◌+◌, ◌<◌, true, false, List, [], ◌++◌, length, take, slice_get, Option, Some, Result, Ok, Err}
 use Rattle.std.specs.Io.KnownBytes.{Appends}
-use Rattle.nm_types.specs.Layout.{Layout}
 use Rattle.nm_model.specs.definitions.Memory.{mem}
-use Rattle.nm_model.specs.definitions.Sound.{IsSound, each_frame_is_once}
+use Rattle.nm_model.specs.definitions.Sound.{each_frame_is_once}
 use Rattle.nm_requests.specs.Calls.{Call}
 use Rattle.nm_calls.specs.laws.Calls.{writes_or_maps, byte_after}
 use Rattle.nm_calls.specs.definitions.Outcome.{runs_of}
 use Rattle.nm_calls.specs.definitions.Systems.{SystemState, system_with}
 use Rattle.nm_steps.specs.Faults.{TraceContents}
 use Rattle.nm_trace.specs.declared.playing.Summary.{Summary}
-use Rattle.nm_trace.specs.Played.{report_of}
-use Rattle.nm_trace.specs.Report.{state_after}
+use Rattle.nm_trace.specs.definitions.Played.{report_of}
+use Rattle.nm_trace.specs.definitions.Report.{state_after}
 use Rattle.nm_steps.specs.declared.trace_error.TraceError.{TraceError}
 use Rattle.nm_steps.specs.declared.trace_error.TraceError.TheVariants.{WriteFault, HostMemory}
 
@@ -22,10 +21,6 @@ KeepMemory s calls =
     (k : ℕ) (call : Call) (q at : ℕ) → slice_get calls k ≡ Some call → writes_or_maps call ≡ false →
     let before = state_after s (take k calls) in
     mem (state_after s (take (k + 1) calls)).state q at ≡ byte_after before call (runs_of before call) q at
-
--- every state that calls lead to from a new machine is sound
-abbrev pub StatesAreSound : Type 0
-StatesAreSound = (layout : Layout) (limit : ℕ) (calls : List Call) → IsSound (state_after (system_with layout limit) calls).state
 
 -- a trace was played to its end on a new machine
 pub record IsPlayed (plan : TraceContents) (steps : ℕ) (system : SystemState) (old new : Option (List ℕ)) : Type 0 where

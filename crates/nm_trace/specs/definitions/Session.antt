@@ -10,9 +10,9 @@ use Rattle.nm_calls.specs.definitions.Systems.{SystemState, system_with}
 use Rattle.nm_steps.specs.declared.trace_error.TraceError.{TraceError}
 use Rattle.nm_steps.specs.declared.trace_error.TraceError.TheVariants.{NotJson, BadMachine, BadStep, ReadFault, WriteFault, HostMemory}
 use Rattle.nm_steps.specs.Form as form
-use Rattle.nm_steps.specs.Faults.{TraceContents, ◌>>=◌, value_of}
-use Rattle.nm_trace.specs.Played.{StopsIn, report_of}
-use Rattle.nm_trace.specs.Report.{text_of, report_from, state_after}
+use Rattle.nm_steps.specs.Faults.{◌>>=◌, value_of}
+use Rattle.nm_trace.specs.definitions.Played.{StopsIn}
+use Rattle.nm_trace.specs.definitions.Report.{text_of}
 
 -- the system, and how many steps were made
 pub record SessionState : Type 0 where
@@ -86,17 +86,3 @@ all_lines s (call ∷ calls) = next_lines s call ++ all_lines (next s call) call
 abbrev pub after_all : SessionState → List Call → SessionState
 after_all s [] = s
 after_all s (call ∷ calls) = after_all (next s call) calls
-
--- a session that is given calls one by one returns the report on them, and its system is in the state after them
-pub record IsFed (s : SessionState) (calls : List Call) : Type 0 where
-  pub lines : all_lines s calls ≡ report_from s.steps s.system calls
-  pub system : (after_all s calls).system ≡ state_after s.system calls
-
-abbrev pub SessionsReport : Type 0
-SessionsReport = (s : SessionState) (calls : List Call) → IsFed s calls
-
--- a session that is given the steps of a trace returns the report on it
-abbrev pub SessionsAreTraces : Type 0
-SessionsAreTraces =
-    (plan : TraceContents) → let s : SessionState = record { system = system_with plan.layout plan.run_limit; steps = 0 } in
-    all_lines s plan.calls ≡ report_of plan

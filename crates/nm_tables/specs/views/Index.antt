@@ -3,11 +3,11 @@ use Rattle.std.specs.Prelude.{◌≡◌, ℕ, ◌/◌, [], ◌∷◌, Option, So
 use Rattle.std.specs.List.{AllByRecursion}
 use Rattle.std.specs.Map.{keys_of}
 use Rattle.nm_types.specs.Map.{Map}
-use Rattle.nm_tables.specs.Tree.{flatten}
-use Rattle.nm_tables.specs.Nodes.{slots_shown, IsFilledNode}
+use Rattle.nm_tables.specs.definitions.Tree.{flatten}
+use Rattle.nm_tables.specs.definitions.Nodes.{slots_shown, IsFilledNode}
 use Rattle.nm_tables.specs.declared.slot.Slot.{Slot}
 use Rattle.nm_tables.specs.declared.cell.Cell.{Cell}
-use Rattle.nm_tables.specs.Branches.{parts_of}
+use Rattle.nm_tables.specs.views.Branches.{parts_of}
 use Rattle.nm_tables.specs.declared.branch.Branch.{Branch}
 
 -- the slot of one block

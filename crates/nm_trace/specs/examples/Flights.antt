@@ -4,8 +4,8 @@ use Rattle.nm_types.specs.declared.errno.Errno.TheVariants.{Enomem}
 use Rattle.nm_model.specs.definitions.Touch.{Read, Write, Bytes, Done, Held, Refused}
 use Rattle.nm_requests.specs.Calls.{Spawn, MapPages, WriteBytes, MovePages, FreeList, Pagemap}
 use Rattle.nm_steps.specs.Faults.{TraceContents}
-use Rattle.nm_trace.specs.Report.{access_line, access_lines}
-use Rattle.nm_trace.specs.Played.{report_of}
+use Rattle.nm_trace.specs.definitions.Report.{access_line, access_lines}
+use Rattle.nm_trace.specs.definitions.Played.{report_of}
 
 -- lines of step 6
 pub record AccessLineRows : Type 0 where

@@ -2,7 +2,7 @@
 use Rattle.std.specs.Prelude.{◌≡◌, [], ◌∷◌, ◌++◌, codes, false}
 use Rattle.nm_requests.specs.Calls.{Spawn, MapPages, ReadBytes, WriteBytes, MovePages, FreeList, Pagemap}
 use Rattle.nm_steps.specs.Faults.{TraceContents}
-use Rattle.nm_trace.specs.Played.{report_of}
+use Rattle.nm_trace.specs.definitions.Played.{report_of}
 
 -- three pages of a process, written on node 0, moved to node 1 and read there
 abbrev pub three_pages_trace : TraceContents

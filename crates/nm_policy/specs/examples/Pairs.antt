@@ -1,6 +1,6 @@
 -- Worked examples of pairs of nodes.
 use Rattle.std.specs.Prelude.{◌≡◌, ℕ, List, [], ◌∷◌, map}
-use Rattle.nm_policy.specs.Pairs.{pairs}
+use Rattle.nm_policy.specs.definitions.Pairs.{pairs}
 
 -- the pairs as tuples of node numbers
 abbrev pub pair_tuples : List ℕ → List ℕ → List (ℕ × ℕ)

@@ -4,7 +4,7 @@ use Rattle.std.specs.List.Sorted.{IsStrictlySortedBy}
 use Rattle.std.specs.Map.{keys_of}
 use Rattle.std.specs.Ordering.{nat_cmp}
 use Rattle.nm_types.specs.Map.{Map}
-use Rattle.nm_tables.specs.Tree.{IsPart}
+use Rattle.nm_tables.specs.definitions.Tree.{IsPart}
 
 module _ {V : Type 0} where
   -- one number is in ascending order

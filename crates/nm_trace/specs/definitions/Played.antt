@@ -12,7 +12,7 @@ use Rattle.nm_steps.specs.Faults.{TraceContents}
 use Rattle.nm_calls.specs.definitions.Outcome.{outcome}
 use Rattle.nm_streams.specs.declared.block.Block.{Block}
 use Rattle.nm_streams.specs.Waiting.{BreaksOffSoon, Puts}
-use Rattle.nm_trace.specs.Report.{text_of, report_from, state_after}
+use Rattle.nm_trace.specs.definitions.Report.{text_of, report_from, state_after}
 
 -- a call that runs out of host memory has made some of its first runs
 abbrev pub StopsIn : SystemState → Call → SystemState → Type 0

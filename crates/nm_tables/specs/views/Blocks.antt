@@ -3,9 +3,9 @@ use Rattle.std.specs.Prelude.{◌≡◌, ℕ, ◌+◌, ◌/◌, ◌<◌, ◌≤�
 use Rattle.std.specs.Vec.{vec_capacity}
 use Rattle.std.specs.Ordering.{nat_cmp}
 use Rattle.nm_types.specs.Map.{Map, get}
-use Rattle.nm_tables.specs.Tree.{flatten}
-use Rattle.nm_tables.specs.Nodes.{slots_shown, IsNode}
-use Rattle.nm_tables.specs.Leaves.{leaf_entries}
+use Rattle.nm_tables.specs.definitions.Tree.{flatten}
+use Rattle.nm_tables.specs.definitions.Nodes.{slots_shown, IsNode}
+use Rattle.nm_tables.specs.views.Leaves.{leaf_entries}
 use Rattle.nm_types.specs.declared.entry.Entry.{Entry}
 use Rattle.nm_tables.specs.declared.places.Places.{Places}
 use Rattle.nm_tables.specs.declared.slot.Slot.{Slot}

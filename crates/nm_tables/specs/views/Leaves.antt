@@ -8,8 +8,8 @@ use Rattle.std.specs.Ordering.{nat_cmp}
 use Rattle.std.specs.Cmp.{nat_cmp_is}
 use Rattle.std.specs.declared.cmp.Ordering.TheVariants.{Less}
 use Rattle.nm_types.specs.Map.{Map}
-use Rattle.nm_tables.specs.Tree.{and_then, entries_from, IsPart}
-use Rattle.nm_tables.specs.Marks.{is_marked}
+use Rattle.nm_tables.specs.definitions.Tree.{and_then, entries_from, IsPart}
+use Rattle.nm_tables.specs.views.Marks.{is_marked}
 use Rattle.nm_tables.specs.declared.places.Places.{Places}
 use Rattle.nm_types.specs.declared.entry.Entry.{Entry}
 use Rattle.nm_types.specs.declared.entry.Entry.TheVariants.{Zero, Frame, Held}

@@ -1,0 +1,4 @@
+-- Which nodes pages come from and go to, and in which order.
+pub mod Zones
+pub mod Pairs
+pub mod Turns

@@ -1,0 +1,4 @@
+-- Worked examples.
+pub mod Zones
+pub mod Pairs
+pub mod Turns

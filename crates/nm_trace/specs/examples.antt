@@ -1,0 +1,3 @@
+-- Worked examples.
+pub mod ThreePages
+pub mod Flights

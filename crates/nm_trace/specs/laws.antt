@@ -1,0 +1,3 @@
+-- What holds of all traces and sessions.
+pub mod Soundness
+pub mod Sessions
