@@ -1,6 +1,7 @@
 pub mod Allocated
 pub mod Audits
 pub mod Called
+pub mod Contents
 pub mod Counted
 pub mod Dropped
 pub mod Frames

@@ -28,6 +28,7 @@ use Rattle.nm_model.specs.definitions.Sound.{times, IsSoundInFlight, IsSound}
 use Rattle.nm_model.specs.definitions.BeforeCopy.{PendingAccess, Known, ToRead, ToWrite, at_page, with_written, after_copy, all_after_copy, frames_taken, with_fronts, IsInside, IsPending}
 use Rattle.nm_pool.specs.definitions.AfterCopy.{StoreAfterCopy, all_stored_after_copy, IsIn, CanDo}
 use Rattle.nm_laws.proofs.Soundness.Frames.{here, times_cons}
+use Rattle.nm_laws.proofs.Soundness.Contents.{bytes_sound}
 use Rattle.nm_laws.proofs.Soundness.Once.{counted_place}
 use Rattle.nm_engine.proofs.Shown.Moves.{by_parts, all_carried, all_taken, tos_are, IsCarried, is_carried, carried_copy}
 use Rattle.nm_pool.proofs.Copies.Copied.{stays_home, stays_populated, copies_home}
@@ -53,23 +54,9 @@ all_whole (e ∷ bytes) p at new fits whole = (
 
 written_sound : (s : State) (l : List ℕ) (p : Page) (at : ℕ) (new : List ℕ) → at + length new ≤ 4096 → IsSoundInFlight s l → IsSoundInFlight (with_written s p at new) l
 written_sound s l p at new fits h =
-    record {
-      order = record { processes = h.order.processes; sees = h.order.sees; areas = h.order.areas; segments = h.order.segments; place = h.order.place };
-      apart = h.apart;
-      frames = h.frames;
-      shown = h.shown;
-      zeros = h.zeros;
-      covered = h.covered;
-      bytes = record { same_pages = keys-values (at_page p (λ old. overwrite old at new)) s.bytes ∙ h.bytes.same_pages; whole = all_whole s.bytes p at new fits h.bytes.whole };
-      pins = h.pins;
-      seen = h.seen;
-      once = h.once;
-      areas = h.areas;
-      numbers = h.numbers;
-      disjoint = h.disjoint;
-      online = h.online;
-      few = h.few;
-    }
+    bytes_sound s l (with_values (at_page p (λ old. overwrite old at new)) s.bytes)
+    (record { same_pages = keys-values (at_page p (λ old. overwrite old at new)) s.bytes ∙ h.bytes.same_pages; whole = all_whole s.bytes p at new fits h.bytes.whole })
+    h
 
 made_sound : (s : State) (l : List ℕ) (d : PendingAccess) → IsInside d → IsSoundInFlight s l → IsSoundInFlight (after_copy s d) l
 made_sound s l (Known answer) inside h = h

@@ -17,7 +17,8 @@ use Rattle.nm_engine.specs.views.Shown.{state_of_parts}
 use Rattle.nm_model.specs.definitions.Sound.{IsSoundInFlight}
 use Rattle.nm_engine.specs.views.RunState.{IsSoundMachine}
 use Rattle.nm_laws.proofs.Soundness.Frames.{left-append}
-use Rattle.nm_laws.proofs.Soundness.Moved.{decided_sound, freed_sound, counted_sound}
+use Rattle.nm_laws.proofs.Soundness.Moved.{decided_sound, freed_sound}
+use Rattle.nm_laws.proofs.Soundness.Contents.{counted_sound}
 use Rattle.nm_engine.proofs.Shown.FrameChanges.{restocked_shows, freed_shows}
 
 front_there : (xs : List ℕ) → 0 < length xs → xs ≡ slice_index xs 0 ∷ drop 1 xs

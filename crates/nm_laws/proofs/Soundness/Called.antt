@@ -28,6 +28,7 @@ use Rattle.nm_model.specs.definitions.AreaRefusal.{is_room}
 use Rattle.nm_model.specs.definitions.Effect.{first_error, is_unknown, pins_refusal, pin_refusal, spawn_refusal, is_range, overlaps, map_refusal, is_stretch, attach_refusal}
 use Rattle.nm_model.specs.definitions.Sound.{HasPages, IsWhole, IsSoundInFlight, IsSound}
 use Rattle.nm_types.proofs.Maps.{equal, get-set, spot_cmp_total}
+use Rattle.nm_laws.proofs.Soundness.Contents.{pins_sound}
 use Rattle.nm_types.proofs.Keys.{keys-replace, All-set, All-replace, All-get, sorted-set, few-set}
 use Rattle.nm_model.proofs.looks.{sees_page}
 use Rattle.nm_model.proofs.areas.Apart.{NoneOverlaps, all_from_none, all_then, apart-set, apart_from_new, area_over-set, covers_parts, each_set, is_covered-set, one_more, same_key}
@@ -111,23 +112,9 @@ spawn_sound s pid uid home allowed privileged h fine =
 -- another number of pins of a page
 pub repinned_sound : (s : State) (l : List ℕ) (p : Page) (n : ℕ) → IsSoundInFlight s l → n ≤ 65535 → IsSoundInFlight (record s { pins = replace page_cmp s.pins p n }) l
 repinned_sound s l p n h most =
-    record {
-      order = record { processes = h.order.processes; sees = h.order.sees; areas = h.order.areas; segments = h.order.segments; place = h.order.place };
-      apart = h.apart;
-      frames = h.frames;
-      shown = h.shown;
-      zeros = h.zeros;
-      covered = h.covered;
-      bytes = h.bytes;
-      pins = record { same_pages = keys-replace page_cmp s.pins p n ∙ h.pins.same_pages; few = All-replace page_cmp (λ k. k ≤ 65535) s.pins p n h.pins.few most };
-      seen = h.seen;
-      once = h.once;
-      areas = h.areas;
-      numbers = h.numbers;
-      disjoint = h.disjoint;
-      online = h.online;
-      few = h.few;
-    }
+    pins_sound s l (replace page_cmp s.pins p n)
+    (record { same_pages = keys-replace page_cmp s.pins p n ∙ h.pins.same_pages; few = All-replace page_cmp (λ k. k ≤ 65535) s.pins p n h.pins.few most })
+    h
 
 -- a page has at most 65,535 pins
 pub few_pins : (s : State) (l : List ℕ) (p : Page) → IsSoundInFlight s l → pins_of s p ≤ 65535

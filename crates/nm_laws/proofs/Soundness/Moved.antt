@@ -10,8 +10,8 @@ use Rattle.nm_types.specs.declared.request.Class.{Class}
 use Rattle.nm_types.specs.declared.request.Class.TheVariants.{Status, Move}
 use Rattle.nm_types.specs.declared.request.Wanted.{Wanted}
 use Rattle.nm_model.specs.definitions.Status.{status_or_move}
-use Rattle.nm_model.specs.definitions.Run.{moved_page, decision, one_request, each_request, with_free, with_all_free, frames_left, with_counts}
-use Rattle.nm_model.specs.definitions.Sound.{AreNodes, FramesAreOnce, IsSoundInFlight}
+use Rattle.nm_model.specs.definitions.Run.{moved_page, decision, one_request, each_request, with_free, with_all_free, frames_left}
+use Rattle.nm_model.specs.definitions.Sound.{FramesAreOnce, IsSoundInFlight}
 use Rattle.nm_types.proofs.Maps.{page_cmp_total, exact_page, keys-set}
 use Rattle.nm_types.proofs.Keys.{some_from_keys}
 use Rattle.nm_laws.proofs.Soundness.Frames.{moved_frames, frame_freed, left-append, append-nil}
@@ -73,27 +73,3 @@ frame_freed_sound s frame l h = other_places s (frame ∷ l) l s.place (with_fre
 pub freed_sound : (frames : List ℕ) (s : State) → IsSoundInFlight s frames → IsSoundInFlight (with_all_free s frames) []
 freed_sound [] s h = h
 freed_sound (frame ∷ frames) s h = freed_sound frames (with_free s frame) (frame_freed_sound s frame frames h)
-
--- the totals and the set of nodes that are online are free
-pub freely_sound : (s : State) (l nodes : List ℕ) (moved failed : ℕ) → AreNodes s.layout nodes → IsSoundInFlight s l → IsSoundInFlight (record s { online = nodes; moved = moved; failed = failed }) l
-freely_sound s l nodes moved failed are h =
-    record {
-      order = record { processes = h.order.processes; sees = h.order.sees; areas = h.order.areas; segments = h.order.segments; place = h.order.place };
-      apart = h.apart;
-      frames = h.frames;
-      shown = h.shown;
-      zeros = h.zeros;
-      covered = h.covered;
-      bytes = h.bytes;
-      pins = h.pins;
-      seen = h.seen;
-      once = h.once;
-      areas = h.areas;
-      numbers = h.numbers;
-      disjoint = h.disjoint;
-      online = are;
-      few = h.few;
-    }
-
-pub counted_sound : (s : State) (l : List ℕ) (moved failed : ℕ) → IsSoundInFlight s l → IsSoundInFlight (with_counts s moved failed) l
-counted_sound s l moved failed h = freely_sound s l s.online (with_counts s moved failed).moved (with_counts s moved failed).failed h.online h

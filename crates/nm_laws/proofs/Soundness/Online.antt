@@ -10,10 +10,10 @@ use Rattle.std.proofs.lemmas.Map.Views.{All-insert_key}
 use Rattle.nm_types.specs.Nodes.{IsNodeSet, without_node}
 use Rattle.nm_types.specs.State.{State}
 use Rattle.nm_model.specs.definitions.Sound.{AreNodes, IsSoundInFlight}
-use Rattle.nm_laws.proofs.Soundness.Moved.{freely_sound}
+use Rattle.nm_laws.proofs.Soundness.Contents.{contents_sound}
 
 pub online_sound : (s : State) (l nodes : List ℕ) → AreNodes s.layout nodes → IsSoundInFlight s l → IsSoundInFlight (record s { online = nodes }) l
-online_sound s l nodes are h = freely_sound s l nodes s.moved s.failed are h
+online_sound s l nodes are h = contents_sound s l s.bytes s.pins nodes s.moved s.failed h.bytes h.pins are h
 
 -- the node at a place of a set is no lower than the place
 at_least : (ns : List ℕ) → IsNodeSet ns → (k : ℕ) → k < length ns → k ≤ slice_index ns k

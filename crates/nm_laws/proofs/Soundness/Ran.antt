@@ -8,7 +8,8 @@ use Rattle.nm_model.specs.definitions.Cut.{Request, Stretch, cut_within}
 use Rattle.nm_model.specs.definitions.Touch.{Access, Held, access, site_of_access, is_held, access_during, all_in_flight}
 use Rattle.nm_model.specs.definitions.Run.{each_request, with_all_free, frames_left, failures, run, accesses_of, runs_from, batch}
 use Rattle.nm_model.specs.definitions.Sound.{IsSoundInFlight, IsSound}
-use Rattle.nm_laws.proofs.Soundness.Moved.{each_sound, freed_sound, counted_sound}
+use Rattle.nm_laws.proofs.Soundness.Moved.{each_sound, freed_sound}
+use Rattle.nm_laws.proofs.Soundness.Contents.{counted_sound}
 use Rattle.nm_laws.proofs.Soundness.Touched.{access_sound}
 
 pub in_flight_sound : (s : State) (l : List ℕ) (moved : List Page) (a : Access) → IsSoundInFlight s l → IsSoundInFlight (access_during s moved a).state l

@@ -22,6 +22,7 @@ use Rattle.nm_model.specs.definitions.Touch.{AccessSite, shown_at, site_over, si
 use Rattle.nm_model.specs.definitions.Sound.{IsSoundInFlight}
 use Rattle.nm_types.proofs.Keys.{keys-replace, All-replace, All-get, some_from_keys}
 use Rattle.nm_laws.proofs.Seen.Sights.{IsSpot, page_at_spot, with_sight_sound}
+use Rattle.nm_laws.proofs.Soundness.Contents as contents
 use Rattle.nm_laws.proofs.Soundness.Allocated.{placed_sound, placed_front}
 
 -- a page of zeros shows what was shown before
@@ -168,26 +169,11 @@ seen_bytes s l p (Some b) h e some = All-get page_cmp (λ b. length b ≡ 4096) 
 -- other bytes of a page
 rewritten_sound : (s : State) (l : List ℕ) (p : Page) (new : List ℕ) → IsSoundInFlight s l → length new ≡ 4096 → IsSoundInFlight (record s { bytes = replace page_cmp s.bytes p new }) l
 rewritten_sound s l p new h whole =
-    record {
-      order = record { processes = h.order.processes; sees = h.order.sees; areas = h.order.areas; segments = h.order.segments; place = h.order.place };
-      apart = h.apart;
-      frames = h.frames;
-      shown = h.shown;
-      zeros = h.zeros;
-      covered = h.covered;
-      bytes = record {
-        same_pages = keys-replace page_cmp s.bytes p new ∙ h.bytes.same_pages;
-        whole = All-replace page_cmp (λ b. length b ≡ 4096) s.bytes p new h.bytes.whole whole;
-      };
-      pins = h.pins;
-      seen = h.seen;
-      once = h.once;
-      areas = h.areas;
-      numbers = h.numbers;
-      disjoint = h.disjoint;
-      online = h.online;
-      few = h.few;
-    }
+    contents.bytes_sound s l (replace page_cmp s.bytes p new)
+    (record {
+      same_pages = keys-replace page_cmp s.bytes p new ∙ h.bytes.same_pages;
+      whole = All-replace page_cmp (λ b. length b ≡ 4096) s.bytes p new h.bytes.whole whole;
+    }) h
 
 pub bytes_sound : (s : State) (l : List ℕ) (pid v i : ℕ) (new : List ℕ) (o : Option Sight) → IsSoundInFlight s l → sight_at s pid v ≡ o → i + length new ≤ 4096 → IsSoundInFlight (with_bytes s o i new) l
 bytes_sound s l pid v i new None h e fits = h

@@ -3,7 +3,7 @@ use Rattle.nm_types.specs.State.{State}
 use Rattle.nm_model.specs.definitions.Run.{with_counts, total_after}
 use Rattle.nm_model.specs.definitions.Sound.{IsSoundInFlight}
 use Rattle.nm_engine.specs.views.Shown.{shown_by}
-use Rattle.nm_laws.proofs.Soundness.Moved.{counted_sound}
+use Rattle.nm_laws.proofs.Soundness.Contents.{counted_sound}
 use Rattle.nm_engine.proofs.machine.Machine.count_failures.Goals as goal
 
 pub invariant_of-self : goal.invariant_of-self
