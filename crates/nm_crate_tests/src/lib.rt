@@ -2,11 +2,7 @@
 #![tactic(auto)]
 
 #[cfg(test)]
-mod areas;
-#[cfg(test)]
 mod board;
-#[cfg(test)]
-mod counts;
 #[cfg(test)]
 mod frames;
 #[cfg(test)]

@@ -4,8 +4,6 @@
 //! the call was broken off, a line before it has what it reported, the answers of the calls that then look at the
 //! system, and whether it is sound.
 
-ghost use Rattle.std.specs.Prelude.{◌≡◌, IfOk};
-
 use crate::answers::put_answer;
 use crate::traces::Heap;
 use nm_calls::{Call, System};
@@ -21,12 +19,7 @@ pub(crate) struct Asked {
 }
 
 /// A system as a trace asks for it, on which no call has been made.
-pub(crate) fn new_system<'a>(
-    heap: Heap<'a>,
-    trace: &Trace<Heap<'a>>,
-) -> Result<System<Heap<'a>>, AllocError>
-    ensures { IfOk result (λ system. system.run_limit ≡ trace.now.run_limit) }
-{
+fn new_system<'a>(heap: Heap<'a>, trace: &Trace<Heap<'a>>) -> Result<System<Heap<'a>>, AllocError> {
     let geometry = trace.geometry.clone()?;
     System::with_run_limit(heap, geometry, trace.run_limit)
 }

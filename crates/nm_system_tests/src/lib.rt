@@ -6,17 +6,11 @@ mod again;
 #[cfg(test)]
 mod answers;
 #[cfg(test)]
-mod areas;
-#[cfg(test)]
 mod attempts;
 #[cfg(test)]
 mod crews;
 #[cfg(test)]
 mod gates;
-#[cfg(test)]
-mod rmap;
-#[cfg(test)]
-mod tables;
 #[cfg(test)]
 mod traces;
 #[cfg(test)]

@@ -1,18 +1,13 @@
 //! Traces whose memory is refused.
 
-ghost use Rattle.std.specs.Prelude.{◌≡◌};
-
-use crate::attempts::new_system;
-use nm_calls::System;
 use nm_frames::CopyJob;
 use nm_refusing_alloc::Refusing;
 use nm_spaces::AddressSpaces;
 use nm_threads::Hired;
-use nm_trace::{RunCrew, Summary, Trace, TraceError, WatchedStream, play, read_trace, run_trace};
-use std::alloc::{AllocError, Global};
+use nm_trace::{RunCrew, Summary, TraceError, WatchedStream, run_trace};
+use std::alloc::Global;
 use std::marker::PhantomData;
 use std::sync::Wait;
-use std::test::Fail;
 use std::thread::Threads;
 
 pub(crate) type Heap<'a> = &'a Refusing<Global>;
@@ -100,79 +95,4 @@ fn refuse_four(rt: &(impl Threads + Wait + Sync), global: Global) -> (u64, bool)
 fn refused_runs_write_a_front(rt: HostRuntime) {
     let (refused, fine) = refuse_four(&rt, rt.alloc());
     assert!(rt; fine && refused > 30, "{refused} refusals");
-}
-
-/// Plays a trace on a new system while the allocation with this number is refused. Returns whether it reached that
-/// allocation, and whether its answer and output are right and the system is sound.
-fn play_refused<'a, C: RunCrew<Heap<'a>>>(
-    crew: &C,
-    heap: Heap<'a>,
-    global: Global,
-    system: &mut System<Heap<'a>>,
-    trace: &Trace<Heap<'a>>,
-    number: u64,
-) -> Result<(bool, bool), AllocError>
-    requires { system.old.run_limit ≡ trace.now.run_limit }
-{
-    let mut written = WatchedStream::new(Vec::new(global));
-    heap.refuse(number);
-    let played = play(crew, heap, system, trace, &mut written);
-    let met = heap.asked_since(number) >= number;
-    heap.refuse(0);
-    let fine = is_fine(played, written.get_ref().as_slice());
-    let sound = system.audit()?;
-    Ok((met, sound && fine))
-}
-
-/// Does so with a trace, on a system of its own.
-fn play_anew<'a, C: RunCrew<Heap<'a>>>(
-    crew: &C,
-    heap: Heap<'a>,
-    global: Global,
-    trace: &Trace<Heap<'a>>,
-    number: u64,
-) -> Result<(bool, bool), AllocError> {
-    let mut system = new_system(heap, trace)?;
-    play_refused(crew, heap, global, &mut system, trace, number)
-}
-
-/// Refuses each allocation of a play in turn, until none is left or a play is not right. Returns how many were refused,
-/// and whether all plays were right.
-fn refuse_plays<'a, C: RunCrew<Heap<'a>>>(
-    crew: &C,
-    heap: Heap<'a>,
-    global: Global,
-    trace: &Trace<Heap<'a>>,
-) -> Result<(u64, bool), AllocError> {
-    for number in 1..10_000u64 {
-        let (met, fine) = play_anew(crew, heap, global, trace, number)?;
-        if !met || !fine {
-            return Ok((number - 1, fine));
-        }
-    }
-    Ok((10_000, false))
-}
-
-/// Does so with two workers.
-fn refuse_two<'a>(
-    rt: &(impl Threads + Wait + Sync),
-    heap: Heap<'a>,
-    global: Global,
-    trace: &Trace<Heap<'a>>,
-) -> Result<(u64, bool), AllocError> {
-    let _work: PhantomData<(CopyJob<Heap<'a>>, AddressSpaces<Heap<'a>>)> = PhantomData;
-    let crew = Hired::new(rt, 2);
-    refuse_plays(&crew, heap, global, trace)
-}
-
-/// Each allocation of a play is refused in turn.
-#[test]
-fn refused_plays_write_a_front(rt: HostRuntime) -> Result<(), Fail> {
-    let heap = Refusing::new(rt.alloc());
-    let Ok(trace) = read_trace(&heap, rt.alloc(), TRACE.as_bytes()) else {
-        panic!(rt; "the trace is not read")
-    };
-    let (refused, fine) = refuse_two(&rt, &heap, rt.alloc(), &trace)?;
-    assert!(rt; fine && refused > 20, "{refused} refusals");
-    Ok(())
 }
