@@ -46,7 +46,37 @@ impl<A: Allocator + Copy> Blocks<A> {
     }
 
     /// The entry at a page number.
+    #[inline]
     pub(crate) fn get(&self, vpn: Vpn) -> Option<Entry>
+        requires { IsBlocks self.now }
+        ensures { result ≡ get nat_cmp (block_entries self.now) vpn }
+    {
+        match self.leaf_near(block_of(vpn)) {
+            Some(number) => entry_in(&self.leaves[number], vpn),
+            None => self.get_by_index(vpn),
+        }
+    }
+
+    /// The leaf of a block, if the leaves from the first one to it are those of the blocks between, in order, as they
+    /// mostly are.
+    #[inline]
+    fn leaf_near(&self, block: u64) -> Option<usize>
+        requires { IsBlocks self.now }
+        ensures { IfSome result (λ i. get nat_cmp self.now.index block ≡ Some (Leaf i)) }
+    {
+        let first = self.leaves.first()?;
+        let near = block.wrapping_sub(first.block) as usize;
+        let leaf = self.leaves.get(near)?;
+        if leaf.block == block {
+            Some(near)
+        } else {
+            None
+        }
+    }
+
+    /// The entry at a page number, found by the index.
+    #[inline(never)]
+    fn get_by_index(&self, vpn: Vpn) -> Option<Entry>
         requires { IsBlocks self.now }
         ensures { result ≡ get nat_cmp (block_entries self.now) vpn }
     {
@@ -183,8 +213,19 @@ impl<A: Allocator + Copy> Blocks<A> {
                     self.add_leaf(own, first, vpn, entry);
                 }
             }
-            Slot::Leaf(number) => set_in(&mut self.leaves[number], vpn, entry),
+            Slot::Leaf(number) => self.put_in_leaf(number, vpn, entry),
         }
+    }
+
+    /// Sets an entry of a block that has this leaf. Does not allocate.
+    #[inline]
+    fn put_in_leaf(&mut self, number: usize, vpn: Vpn, entry: Entry)
+        requires kept { IsBlocks self.old }
+        requires there { get nat_cmp self.old.index (vpn / 512) ≡ Some (Leaf number) }
+        ensures entries { block_entries self.new ≡ set nat_cmp (block_entries self.old) vpn entry }
+        ensures kept { IsBlocks self.new }
+    {
+        set_in(&mut self.leaves[number], vpn, entry);
     }
 
     /// Sets the second entry of a block, which gets its leaf. Does not allocate. Kept apart from `put`, so that `put`
@@ -207,7 +248,23 @@ impl<A: Allocator + Copy> Blocks<A> {
     }
 
     /// Replaces the entry at a page number that has one. Does not allocate.
+    #[inline]
     pub(crate) fn replace(&mut self, vpn: Vpn, entry: Entry)
+        requires kept { IsBlocks self.old }
+        requires there { IsSome (get nat_cmp (block_entries self.old) vpn) }
+        ensures entries { block_entries self.new
+            ≡ replace nat_cmp (block_entries self.old) vpn entry }
+        ensures kept { IsBlocks self.new }
+    {
+        match self.leaf_near(block_of(vpn)) {
+            Some(number) => self.put_in_leaf(number, vpn, entry),
+            None => self.replace_by_index(vpn, entry),
+        }
+    }
+
+    /// Replaces the entry at a page number that has one, found by the index. Does not allocate.
+    #[inline(never)]
+    fn replace_by_index(&mut self, vpn: Vpn, entry: Entry)
         requires kept { IsBlocks self.old }
         requires there { IsSome (get nat_cmp (block_entries self.old) vpn) }
         ensures entries { block_entries self.new
