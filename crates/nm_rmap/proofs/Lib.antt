@@ -2,3 +2,4 @@ pub mod Carried
 pub mod Counting
 pub mod Pinned
 pub mod Places
+pub mod Lone

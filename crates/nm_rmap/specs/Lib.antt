@@ -1,2 +1,3 @@
 pub mod Mappers
+pub mod Borrowed
 pub mod Examples

@@ -1,5 +1,5 @@
 -- The page numbers that map each frame, and each frame's pins.
-use Rattle.std.specs.Prelude.{◌≡◌, ℕ, nat_eq, nat_lt, Bool, List, [], map, replicate, slice_index_or, slice_set}
+use Rattle.std.specs.Prelude.{◌≡◌, ℕ, nat_eq, nat_lt, Bool, List, [], ◌∷◌, Option, Some, None, map, replicate, slice_index_or, slice_set}
 use Rattle.std.specs.List.{list_any, count_by}
 use Rattle.std.specs.BTreeMap.{is_at}
 use Rattle.std.specs.BTreeSet.{insert_key}
@@ -33,6 +33,16 @@ has_process mappings pid = is_member nat_eq (pids mappings) pid
 -- how many processes have one of the mappers
 abbrev pub process_count : List Mapper → ℕ
 process_count mappings = distinct_count nat_eq (pids mappings)
+
+-- the mappers of a frame: a single one, or else those of a set
+abbrev pub spots_in : Option Mapper → List Mapper → List Mapper
+spots_in None set = set
+spots_in (Some lone) set = lone ∷ []
+
+-- the set beside a single one is empty
+abbrev pub IsAlone : Option Mapper → List Mapper → Type 0
+IsAlone None set = Unit {0}
+IsAlone (Some lone) set = set ≡ []
 
 pub record Mappers : Type 0 where
   -- the page numbers that map each frame, by pid, then by page number

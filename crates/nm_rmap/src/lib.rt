@@ -6,4 +6,5 @@ pub mod laws;
 mod mappings;
 mod reverse_map;
 
+pub use mappings::FrameMappers;
 pub use reverse_map::ReverseMap;

@@ -4,16 +4,27 @@ ghost use Rattle.std.specs.Prelude.{◌≡◌, ◌<◌, [], false, length, IfOk,
 ghost use Rattle.std.specs.List.Sorted.{IsStrictlySortedBy};
 ghost use Rattle.nm_types.specs.Map.{spot_cmp};
 ghost use Rattle.nm_rmap.specs.Mappers.{with_spot, without_spot, is_mapper, has_process, process_count};
+ghost use Rattle.nm_rmap.specs.Borrowed.{mappers_shown};
 
 use nm_types::{Pid, Vpn};
 use std::alloc::{AllocError, Allocator};
 use std::collections::BTreeSet;
 use std::marker::Model;
 
+/// The mappers of a frame, borrowed, in order of pid and then page number.
+pub enum FrameMappers<'a, A: Allocator + Copy> {
+    /// A single one.
+    Lone(Pid, Vpn),
+    /// Those of a set.
+    Set(&'a BTreeSet<(Pid, Vpn), A>),
+}
+
 /// Page numbers of processes, with the number of these processes. Contracts see their list, by pid and then by page
-/// number.
+/// number. Most frames have one mapper, which stands here and not in a node of a tree.
 #[derive(Drop)]
 pub(crate) struct Mappings<A: Allocator + Copy> {
+    /// A single page number. There is none in the tree then.
+    lone: Option<(Pid, Vpn)>,
     processes: usize,
     tree: BTreeSet<(Pid, Vpn), A>,
 }
@@ -22,13 +33,13 @@ impl<A: Allocator + Copy> Model for Mappings<A> {
     ghost use Rattle.std.specs.Prelude.{◌≡◌, ℕ, List};
     ghost use Rattle.std.specs.List.Sorted.{IsStrictlySortedBy};
     ghost use Rattle.nm_types.specs.Map.{spot_cmp};
-    ghost use Rattle.nm_rmap.specs.Mappers.{process_count};
+    ghost use Rattle.nm_rmap.specs.Mappers.{process_count, spots_in, IsAlone};
 
     ghost Value = { List (ℕ × ℕ) };
 
-    ghost view = { λ s. s.tree.keys };
+    ghost view = { λ s. spots_in s.lone s.tree.keys };
 
-    ghost invariant = { λ s. (s.processes ≡ process_count s.tree.keys) × IsStrictlySortedBy spot_cmp s.tree.keys };
+    ghost invariant = { λ s. (s.processes ≡ process_count (spots_in s.lone s.tree.keys)) × IsStrictlySortedBy spot_cmp s.tree.keys × IsAlone s.lone s.tree.keys };
 }
 
 impl<A: Allocator + Copy> Mappings<A> {
@@ -37,6 +48,7 @@ impl<A: Allocator + Copy> Mappings<A> {
         ensures { result ≡ [] }
     {
         Mappings {
+            lone: None,
             processes: 0,
             tree: BTreeSet::new(alloc),
         }
@@ -49,14 +61,20 @@ impl<A: Allocator + Copy> Mappings<A> {
         ensures err { OnErr result (self.new ≡ self.old) }
         ensures absent { OnErr result (is_mapper self.old (pid, vpn) ≡ false) }
     {
-        let len = self.tree.len();
-        prove!(self.processes <= len);
-        let known = has_process(&self.tree, pid);
-        self.tree.insert((pid, vpn))?;
-        if !known {
-            self.processes += 1;
+        let Some(lone) = self.lone else {
+            if self.tree.is_empty() {
+                self.lone = Some((pid, vpn));
+                self.processes = 1;
+                return Ok(());
+            }
+            return insert_in(&mut self.tree, &mut self.processes, pid, vpn);
+        };
+        if lone == (pid, vpn) {
+            return Ok(());
         }
-        Ok(())
+        self.tree.insert(lone)?;
+        self.lone = None;
+        insert_in(&mut self.tree, &mut self.processes, pid, vpn)
     }
 
     /// Removes a page number of a process, if it is there.
@@ -64,10 +82,13 @@ impl<A: Allocator + Copy> Mappings<A> {
         ensures mapper { self.new ≡ without_spot self.old (pid, vpn) }
         ensures ordered { IsStrictlySortedBy spot_cmp self.old }
     {
-        let there = self.tree.remove(&(pid, vpn));
-        let known = has_process(&self.tree, pid);
-        if there && !known {
-            self.processes -= 1;
+        let Some(lone) = self.lone else {
+            remove_from(&mut self.tree, &mut self.processes, pid, vpn);
+            return;
+        };
+        if lone == (pid, vpn) {
+            self.lone = None;
+            self.processes = 0;
         }
     }
 
@@ -77,15 +98,26 @@ impl<A: Allocator + Copy> Mappings<A> {
         ensures allocates { OnErr result (0 < length self.now) }
         ensures ordered { IsStrictlySortedBy spot_cmp self.now }
     {
-        list_all(alloc, &self.tree)
+        match self.lone {
+            Some(lone) => {
+                let mut list = Vec::with_capacity(alloc, 1)?;
+                list.push_reserved(lone);
+                Ok(list)
+            }
+            None => list_all(alloc, &self.tree),
+        }
     }
 
-    /// The set of them, in order. Does not allocate.
-    pub(crate) fn tree(&self) -> &BTreeSet<(Pid, Vpn), A>
-        ensures all { result.now.keys ≡ self.now }
+    /// All of them, borrowed. Does not allocate.
+    #[inline]
+    pub(crate) fn borrow_all(&self) -> FrameMappers<'_, A>
+        ensures all { mappers_shown result ≡ self.now }
         ensures ordered { IsStrictlySortedBy spot_cmp self.now }
     {
-        &self.tree
+        match self.lone {
+            Some((pid, vpn)) => FrameMappers::Lone(pid, vpn),
+            None => FrameMappers::Set(&self.tree),
+        }
     }
 
     /// How many processes have a page number in the set.
@@ -93,6 +125,50 @@ impl<A: Allocator + Copy> Mappings<A> {
         ensures { result ≡ process_count self.now }
     {
         self.processes
+    }
+}
+
+/// Adds a page number of a process to a set, unless it is there, and counts the process if it is new. An error means that
+/// it was not there, and that nothing has changed.
+fn insert_in<A: Allocator + Copy>(
+    tree: &mut BTreeSet<(Pid, Vpn), A>,
+    processes: &mut usize,
+    pid: Pid,
+    vpn: Vpn,
+) -> Result<(), AllocError>
+    requires { processes.old ≡ process_count tree.old.keys }
+    ensures ok { OnOk result (tree.new.keys ≡ with_spot tree.old.keys (pid, vpn)) }
+    ensures err { OnErr result (tree.new.keys ≡ tree.old.keys) }
+    ensures absent { OnErr result (is_mapper tree.old.keys (pid, vpn) ≡ false) }
+    ensures count { processes.new ≡ process_count tree.new.keys }
+    ensures ordered { IsStrictlySortedBy spot_cmp tree.new.keys }
+{
+    let len = tree.len();
+    prove!(*processes <= len);
+    let known = has_process(tree, pid);
+    tree.insert((pid, vpn))?;
+    if !known {
+        *processes += 1;
+    }
+    Ok(())
+}
+
+/// Removes a page number of a process from a set, if it is there, and counts the process no more if it has no other one.
+fn remove_from<A: Allocator + Copy>(
+    tree: &mut BTreeSet<(Pid, Vpn), A>,
+    processes: &mut usize,
+    pid: Pid,
+    vpn: Vpn,
+)
+    requires { processes.old ≡ process_count tree.old.keys }
+    ensures keys { tree.new.keys ≡ without_spot tree.old.keys (pid, vpn) }
+    ensures count { processes.new ≡ process_count tree.new.keys }
+    ensures ordered { IsStrictlySortedBy spot_cmp tree.new.keys }
+{
+    let there = tree.remove(&(pid, vpn));
+    let known = has_process(tree, pid);
+    if there && !known {
+        *processes -= 1;
     }
 }
 

@@ -5,12 +5,12 @@ ghost use Rattle.std.specs.List.Sorted.{IsStrictlySortedBy};
 ghost use Rattle.nm_types.specs.declared.errno.Errno.TheVariants.{Ebusy, Einval};
 ghost use Rattle.nm_types.specs.Map.{spot_cmp};
 ghost use Rattle.nm_rmap.specs.Mappers.{IsUnused, new_map, mappers_of, frame_pins, with_pin_count, is_mapper, with_mapper, without_mapper, carry, process_count, is_any_pinned};
+ghost use Rattle.nm_rmap.specs.Borrowed.{mappers_shown};
 
-use crate::mappings::Mappings;
+use crate::mappings::{FrameMappers, Mappings};
 use nm_types::limits::MAX_PINS;
 use nm_types::{Errno, FrameId, Pid, Vpn};
 use std::alloc::{AllocError, Allocator};
-use std::collections::BTreeSet;
 use std::marker::Model;
 
 /// For each frame the page numbers of processes that map it, its mappers, and its number of pins. Contracts see the
@@ -88,12 +88,13 @@ impl<A: Allocator + Copy> ReverseMap<A> {
     }
 
     /// The mappers of a frame, by pid and then by page number, borrowed. Does not allocate.
-    pub fn mappings(&self, frame: FrameId) -> &BTreeSet<(Pid, Vpn), A>
+    #[inline]
+    pub fn mappings(&self, frame: FrameId) -> FrameMappers<'_, A>
         requires { frame < length self.now.mappings }
-        ensures all { result.now.keys ≡ mappers_of self.now frame }
+        ensures all { mappers_shown result ≡ mappers_of self.now frame }
         ensures ordered { IsStrictlySortedBy spot_cmp (mappers_of self.now frame) }
     {
-        self.mappings[frame.index()].tree()
+        self.mappings[frame.index()].borrow_all()
     }
 
     /// How many processes map a frame. Two page numbers of one process count once. Does not allocate.

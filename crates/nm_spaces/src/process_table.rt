@@ -160,6 +160,7 @@ impl<A: Allocator + Copy> ProcessTable<A> {
     }
 
     /// Replaces the entry at a page number of a process that has one. Does not allocate.
+    #[inline]
     pub(crate) fn replace(&mut self, pid: Pid, vpn: Vpn, entry: Entry)
         requires { IsThere self.old (pid, vpn) }
         ensures { self.new ≡ put_entry self.old entry (pid, vpn) }
@@ -210,6 +211,7 @@ fn task_of<A: Allocator + Copy>(
 /// and processes stand in the order in which they came: so this looks there first, then one place further, where it
 /// stands if one other came out of turn. Whoever goes through the processes that see a page mostly asks for one after
 /// another: so this looks at the next one as well, and only then hashes the pid.
+#[inline]
 fn place_of<A: Allocator + Copy>(tasks: &Tasks<A>, next: usize, pid: Pid) -> Option<usize>
     ensures within { IfSome result (λ i. i < length tasks.now.entries) }
     ensures key { IfSome result (λ i. slice_get (keys_of tasks.now.entries) i ≡ Some pid) }

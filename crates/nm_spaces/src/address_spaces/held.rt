@@ -9,6 +9,7 @@ ghost use Rattle.nm_types.specs.Map.{get, page_cmp};
 ghost use Rattle.nm_model.specs.definitions.Events.{arrival_of, with_entries};
 ghost use Rattle.nm_model.specs.definitions.PageTables.{entry_at};
 ghost use Rattle.nm_rmap.specs.Mappers.{mappers_of};
+ghost use Rattle.nm_rmap.specs.Borrowed.{mappers_shown};
 ghost use Rattle.nm_spaces.specs.views.AddressSpaces.{with_moved};
 ghost use Rattle.nm_spaces.specs.views.Held.{HoldsPages, is_taken};
 ghost use Rattle.nm_spaces.specs.definitions.Moves.{CanRemap, all_moved};
@@ -17,7 +18,7 @@ ghost use Rattle.nm_spaces.specs.definitions.Tied.{has_spot, AreInOrder};
 
 use crate::address_spaces::{AddressSpaces, SpaceParts};
 use crate::process_table::ProcessTable;
-use nm_rmap::ReverseMap;
+use nm_rmap::{FrameMappers, ReverseMap};
 use nm_tables::Entry;
 use nm_types::{FrameId, Page, PageMove, Pid, Vpn};
 use std::alloc::Allocator;
@@ -136,8 +137,23 @@ fn arrive<A: Allocator + Copy>(
     }
 }
 
-/// Replaces each of these entries by another one.
+/// Replaces the entry at each of these page numbers by another one.
 fn replace_each<A: Allocator + Copy>(
+    tasks: &mut ProcessTable<A>,
+    mappers: FrameMappers<'_, A>,
+    entry: &Entry,
+)
+    requires { AllByRecursion (IsThere tasks.old) (mappers_shown mappers) }
+    ensures { tasks.new ≡ all_replaced tasks.old (mappers_shown mappers.entry) entry.now }
+{
+    match mappers {
+        FrameMappers::Lone(pid, vpn) => tasks.replace(pid, vpn, *entry),
+        FrameMappers::Set(set) => replace_set(tasks, set, entry),
+    }
+}
+
+/// The same for those of a set.
+fn replace_set<A: Allocator + Copy>(
     tasks: &mut ProcessTable<A>,
     mappings: &BTreeSet<(Pid, Vpn), A>,
     entry: &Entry,

@@ -2,7 +2,7 @@ use Rattle.std.proofs.Common.{ap, subst, sym, ◌∙◌}
 use Rattle.std.specs.List.{AllByRecursion}
 use Rattle.nm_spaces.specs.views.ProcessTable.{IsThere, all_replaced}
 use Rattle.nm_spaces.proofs.Held.ReplacedEntries.{all_there_stay}
-use Rattle.nm_spaces.proofs.address_spaces.held.replace_each.Goals as goal
+use Rattle.nm_spaces.proofs.address_spaces.held.replace_set.Goals as goal
 
 pub loop-pid-init : goal.loop-pid-init
 loop-pid-init g c =
