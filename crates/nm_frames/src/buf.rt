@@ -13,8 +13,8 @@ use std::marker::Model;
 /// bytes.
 #[derive(Debug, Drop)]
 pub struct FrameBuf<A: Allocator + Copy> {
-    pub(crate) frame: FrameId,
     pub(crate) bytes: Bytes<A>,
+    pub(crate) frame: FrameId,
 }
 
 impl<A: Allocator + Copy> Model for FrameBuf<A> {
