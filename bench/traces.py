@@ -88,13 +88,30 @@ def to_and_fro(size):
     return trace([8192, 8192], steps)
 
 
+def to_and_fro_by_nodes(count, times, ats):
+    """A process writes these bytes of as many pages, which then migrate to the other node and back."""
+    pages = [BASE + PAGE * page for page in range(count)]
+    steps = [map_step(BASE, count)] + [write(page + at) for page in pages for at in ats]
+    return trace([count, count], steps + [migrate([0], [1]), migrate([1], [0])] * times)
+
+
+# So far apart that nearly all bytes of a page are copied.
+WHOLE = (*range(0, PAGE, 256), PAGE - 1)
+
+
 def whole_pages(size):
-    """As to_and_fro, but the last byte of each page is written as well."""
-    pages = [BASE + PAGE * page for page in range(8192)]
-    steps = [map_step(BASE, 8192)] + [write(page + at) for page in pages for at in (0, PAGE - 1)]
-    for number in range(2 * size):
-        steps.append(move_to(pages, 1 - number % 2))
-    return trace([8192, 8192], steps)
+    """8,192 pages, of which nearly all bytes are copied, migrate to the other node and back 2 N times."""
+    return to_and_fro_by_nodes(8192, 2 * size, WHOLE)
+
+
+def cached_pages(size):
+    """1,900 such pages, which fit a cache, migrate to the other node and back N times."""
+    return to_and_fro_by_nodes(1900, size, WHOLE)
+
+
+def pages_of_a_byte(size):
+    """8,192 pages with one byte to copy migrate to the other node and back 5 N times: what a move takes beside its copying."""
+    return to_and_fro_by_nodes(8192, 5 * size, (0,))
 
 
 def full_pages(size):
@@ -406,6 +423,8 @@ KINDS = {
     small_steps: 25,
     to_and_fro: 4,
     whole_pages: 4,
+    cached_pages: 25,
+    pages_of_a_byte: 4,
     full_pages: 1,
     migrations: 1024,
     vain_migrations: 2048,
