@@ -337,6 +337,19 @@ can_put_back s l page frame h placed =
     let whole : holders s.place s.free l frame ≡ 1 = h.frames.once frame ∙ ap (λ b. cond b 1 0) (lt-ltb frame (frame_count s.layout) below) in
     (below, not_in (free_list s (node_of s.layout frame)) frame (omega (arith, some, part, whole)), tt)
 
+-- where no page got a frame, a process sees again what it saw before
+pub seen_kept : (y z : AddressSpacesView) (k : FramesView) (online : List ℕ) (moved failed pid v : ℕ) (zero : Bool) → IsSome (get nat_cmp y.processes pid)
+    → ((p : Process) → get nat_cmp y.processes pid ≡ Some p → z ≡ with_before y pid p v zero) → IsSoundMachine (shown_by y k online moved failed) k.vacated y.frames
+    → IsSoundInFlight (undo_touch (shown_by y k online moved failed) (record { pid = pid; vpn = v; zero = zero; given = None })) k.vacated
+    → IsSoundMachine (shown_by z k online moved failed) k.vacated z.frames
+seen_kept y z k online moved failed pid v zero known seen kept sound =
+    let p = value_there (get nat_cmp y.processes pid) known in
+    let after : z ≡ with_before y pid p.0 v zero = seen p.0 p.1 in
+    record {
+      sound = subst (λ s. IsSoundInFlight s k.vacated) (sym ((λ i. shown_by (after i) k online moved failed) ∙ ap (λ o. seen_before (shown_by y k online moved failed) o pid v zero) (sym p.1))) sound;
+      as_many = ap (λ (z : AddressSpacesView). z.frames) after ∙ kept.as_many;
+    }
+
 module _ (y z w : AddressSpacesView) (k j : FramesView) (online : List ℕ) (moved failed pid v : ℕ) (zero : Bool) (page : Page) (frame : ℕ) (known : IsSome (get nat_cmp y.processes pid))
     (seen : (p : Process) → get nat_cmp y.processes pid ≡ Some p → z ≡ with_before y pid p v zero) (unplaced : w ≡ without_page z page) (freed : j ≡ record k { free = (with_front (pool_of k) frame).lists }) where
   pub back_shows : shown_by w j online moved failed ≡ undo_touch (shown_by y k online moved failed) (record { pid = pid; vpn = v; zero = zero; given = Some (page, frame) })
