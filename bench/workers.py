@@ -1,7 +1,7 @@
 #!/usr/bin/env python3
 """Times the built program by the clock with 1, 2 and 4 workers, and writes a table: the best of seven runs of each, in turn,
 and how long 4 workers take for what one takes 1 for. Where BOUNDS has microseconds for a page that moves, the last columns have them
-for 1 worker and for 4, reading the trace included, and beside them those of a plain program in Rust, without a proof, on a slower
+for 1 worker and for 4, reading the trace included, and beside them those of a plain program in Rust, without a proof, on another
 machine. Arguments select other kinds of traces. The figures are only meaningful on four idle processors. `./build` makes the
 program; `--program PROGRAM` takes another in its place."""
 import argparse

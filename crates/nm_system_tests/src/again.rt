@@ -3,7 +3,7 @@
 //! If a call that was refused memory is made again, it and all that follows must have the same answers as with memory;
 //! so the refusal left the system as it was.
 
-use crate::attempts::{Asked, attempt, refuse_each};
+use crate::attempts::{Probe, attempt, refuse_each};
 use crate::crews::Gated;
 use crate::gates::TestGate;
 use crate::traces::Heap;
@@ -22,12 +22,12 @@ const REFUSED: &str = "| HostMemory { runs: 0, policy_set: false } | true\n";
 
 /// Puts the two texts that a call and those after it may return: that of a call with memory, and the same after the
 /// line of a refusal.
-fn put_both(told: &mut String, text: &str) -> Result<(), AllocError> {
-    told.clear();
-    told.push_str(text)?;
-    told.push_str("\n\n")?;
-    told.push_str(REFUSED)?;
-    told.push_str(text)
+fn put_both(outcomes: &mut String, text: &str) -> Result<(), AllocError> {
+    outcomes.clear();
+    outcomes.push_str(text)?;
+    outcomes.push_str("\n\n")?;
+    outcomes.push_str(REFUSED)?;
+    outcomes.push_str(text)
 }
 
 /// Refuses each allocation of the call with this number in turn, until none is left: the answers from there on are the
@@ -37,16 +37,16 @@ fn refuse_call<'a, C: RunCrew<Heap<'a>>>(
     heap: Heap<'a>,
     trace: &Trace<Heap<'a>>,
     call: usize,
-    told: &mut String,
+    outcomes: &mut String,
     text: &mut String,
 ) -> Result<(u64, bool), AllocError> {
-    let asked = Asked {
+    let probe = Probe {
         call,
         looks: usize::MAX,
     };
-    attempt(crew, heap, trace, asked, 0, text)?;
-    put_both(told, text.as_str())?;
-    let (refused, seen) = refuse_each(crew, heap, trace, asked, told.as_str(), text)?;
+    attempt(crew, heap, trace, probe, 0, text)?;
+    put_both(outcomes, text.as_str())?;
+    let (refused, seen) = refuse_each(crew, heap, trace, probe, outcomes.as_str(), text)?;
     Ok((refused, seen != 0))
 }
 
@@ -57,11 +57,11 @@ fn refuse_all<'a, C: RunCrew<Heap<'a>>>(
     heap: Heap<'a>,
     trace: &Trace<Heap<'a>>,
     text: &mut String,
-    told: &mut String,
+    outcomes: &mut String,
 ) -> Result<(u64, bool), AllocError> {
     let mut refused = 0u64;
     for call in (0..trace.calls.len()).rev() {
-        let (more, fine) = refuse_call(crew, heap, trace, call, told, text)?;
+        let (more, fine) = refuse_call(crew, heap, trace, call, outcomes, text)?;
         if !fine {
             return Ok((more, false));
         }
@@ -103,7 +103,7 @@ const EVERY_CALL: &str =
 {\"op\":\"free\",\"node\":1},
 {\"op\":\"pagemap\",\"pid\":2}]}";
 
-const EVERY_CALL_TOLD: &str =
+const EVERY_CALL_ANSWERS: &str =
     "| | | | | | [0] | | | | [99] | 0 | | 1: [-16, 1, -14] | | 0 | 0: [1, 1, -14, 0, -14] | 00010000 default anon=1 N1=1 kernelpagesize_kB=4 00011000 prefer:1 anon=1 N1=1 kernelpagesize_kB=4 00012000 default 00020000 default anon=1 mapmax=2 N0=1 kernelpagesize_kB=4 | | | 5 4 zero 6 | | | [99] | 3 1 | 3 1 0 2 | 7 4 5 | 6 | true";
 
 /// Does so with two workers.
@@ -112,12 +112,12 @@ fn refuse_two<'a>(
     heap: Heap<'a>,
     trace: &Trace<Heap<'a>>,
     text: &mut String,
-    told: &mut String,
+    outcomes: &mut String,
 ) -> Result<(u64, bool), AllocError> {
     let _work: PhantomData<(CopyJob<Heap<'a>>, AddressSpaces<Heap<'a>>)> = PhantomData;
     let gate = TestGate::Through;
     let crew = Gated::new(rt, 2, &gate);
-    refuse_all(&crew, heap, trace, text, told)
+    refuse_all(&crew, heap, trace, text, outcomes)
 }
 
 /// Reads a trace, and refuses each allocation of each of its calls in turn.
@@ -131,8 +131,8 @@ fn refuse(
     let Ok(trace) = read_trace(&heap, alloc, trace.as_bytes()) else {
         return Err(AllocError);
     };
-    let mut told = String::new(alloc);
-    refuse_two(rt, &heap, &trace, text, &mut told)
+    let mut outcomes = String::new(alloc);
+    refuse_two(rt, &heap, &trace, text, &mut outcomes)
 }
 
 /// Each allocation of each call is refused in turn, and the call made again: the answers are the same as with memory.
@@ -140,7 +140,7 @@ fn refuse(
 fn no_refusal_loses_anything(rt: HostRuntime) -> Result<(), Fail> {
     let mut text = String::new(rt.alloc());
     let (refused, fine) = refuse(&rt, rt.alloc(), EVERY_CALL, &mut text)?;
-    let same = fine && text.as_str() == EVERY_CALL_TOLD;
+    let same = fine && text.as_str() == EVERY_CALL_ANSWERS;
     assert!(rt; same, "{}", text.as_str());
     assert!(rt; refused > 40, "{refused} refusals");
     Ok(())

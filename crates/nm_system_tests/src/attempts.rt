@@ -13,7 +13,7 @@ use std::alloc::AllocError;
 /// Which call of a trace is refused memory, and from which call on the calls are made to look at the system that it
 /// leaves if it is broken off. Both are numbers of calls, from 0.
 #[derive(Clone, Copy)]
-pub(crate) struct Asked {
+pub(crate) struct Probe {
     pub(crate) call: usize,
     pub(crate) looks: usize,
 }
@@ -73,12 +73,12 @@ fn make_refused<'a, C: RunCrew<Heap<'a>>>(
     heap: Heap<'a>,
     system: &mut System<Heap<'a>>,
     calls: &[Call<Heap<'a>>],
-    asked: usize,
+    call: usize,
     number: u64,
     text: &mut String,
 ) -> Result<bool, AllocError> {
     heap.refuse(number);
-    let made = make_some(crew, system, calls, asked, 1, text);
+    let made = make_some(crew, system, calls, call, 1, text);
     let met = heap.asked_since(number) >= number;
     heap.refuse(0);
     made?;
@@ -90,13 +90,13 @@ fn make_again<'a, C: RunCrew<Heap<'a>>>(
     crew: &C,
     system: &mut System<Heap<'a>>,
     calls: &[Call<Heap<'a>>],
-    asked: Asked,
+    probe: Probe,
     text: &mut String,
 ) -> Result<(), AllocError> {
     if text.as_str().starts_with("| HostMemory") {
-        make_rest(crew, system, calls, asked.looks, text)?;
+        make_rest(crew, system, calls, probe.looks, text)?;
         text.push_str("\n")?;
-        make_some(crew, system, calls, asked.call, 1, text)?;
+        make_some(crew, system, calls, probe.call, 1, text)?;
     }
     Ok(())
 }
@@ -108,15 +108,15 @@ fn make_all<'a, C: RunCrew<Heap<'a>>>(
     heap: Heap<'a>,
     system: &mut System<Heap<'a>>,
     calls: &[Call<Heap<'a>>],
-    asked: Asked,
+    probe: Probe,
     number: u64,
     text: &mut String,
 ) -> Result<bool, AllocError> {
-    make_some(crew, system, calls, 0, asked.call, text)?;
+    make_some(crew, system, calls, 0, probe.call, text)?;
     text.clear();
-    let met = make_refused(crew, heap, system, calls, asked.call, number, text)?;
-    make_again(crew, system, calls, asked, text)?;
-    make_rest(crew, system, calls, asked.call.saturating_add(1), text)?;
+    let met = make_refused(crew, heap, system, calls, probe.call, number, text)?;
+    make_again(crew, system, calls, probe, text)?;
+    make_rest(crew, system, calls, probe.call.saturating_add(1), text)?;
     Ok(met)
 }
 
@@ -125,13 +125,13 @@ pub(crate) fn attempt<'a, C: RunCrew<Heap<'a>>>(
     crew: &C,
     heap: Heap<'a>,
     trace: &Trace<Heap<'a>>,
-    asked: Asked,
+    probe: Probe,
     number: u64,
     text: &mut String,
 ) -> Result<bool, AllocError> {
     let mut system = new_system(heap, trace)?;
     let calls = trace.calls.as_slice();
-    make_all(crew, heap, &mut system, calls, asked, number, text)
+    make_all(crew, heap, &mut system, calls, probe, number, text)
 }
 
 /// The bit of a text among those that empty lines separate: 1 for the first, and twice as much for each further one. 0
@@ -153,13 +153,13 @@ pub(crate) fn refuse_each<'a, C: RunCrew<Heap<'a>>>(
     crew: &C,
     heap: Heap<'a>,
     trace: &Trace<Heap<'a>>,
-    asked: Asked,
+    probe: Probe,
     texts: &str,
     text: &mut String,
 ) -> Result<(u64, u32), AllocError> {
     let mut seen = 0u32;
     for number in 1..1000u64 {
-        let met = attempt(crew, heap, trace, asked, number, text)?;
+        let met = attempt(crew, heap, trace, probe, number, text)?;
         let bit = bit_of(texts, text.as_str());
         if bit == 0 || bit != 1 && !met {
             return Ok((number, 0));

@@ -1,7 +1,7 @@
 //! Calls that move pages while their memory is refused: each reports how many runs it made and whether it set its
 //! policy, the state is the one after these, and the same call with memory does the rest.
 
-use crate::attempts::{Asked, refuse_each};
+use crate::attempts::{Probe, refuse_each};
 use crate::crews::Gated;
 use crate::gates::TestGate;
 use crate::traces::Heap;
@@ -24,7 +24,7 @@ struct Trail<'t> {
     call: usize,
     /// The texts that occur if its allocations are refused in turn, with an empty line between two. The first is that
     /// of a call with memory.
-    told: &'t str,
+    outcomes: &'t str,
 }
 
 /// The bits of all texts that empty lines separate.
@@ -36,7 +36,7 @@ fn bits_of(texts: &str) -> u32 {
     bits
 }
 
-/// Reads a trace and refuses each allocation of its call in turn. Returns whether the texts that its trail tells
+/// Reads a trace and refuses each allocation of its call in turn. Returns whether the texts of its trail
 /// occurred, each of them and no other; `text` has the last one.
 fn refuse<'a, C: RunCrew<Heap<'a>>>(
     crew: &C,
@@ -48,12 +48,12 @@ fn refuse<'a, C: RunCrew<Heap<'a>>>(
     let Ok(trace) = read_trace(heap, alloc, trail.trace.as_bytes()) else {
         return Err(AllocError);
     };
-    let asked = Asked {
+    let probe = Probe {
         call: trail.call,
         looks: trail.call.saturating_add(1),
     };
-    let (_, seen) = refuse_each(crew, heap, &trace, asked, trail.told, text)?;
-    Ok(seen == bits_of(trail.told))
+    let (_, seen) = refuse_each(crew, heap, &trace, probe, trail.outcomes, text)?;
+    Ok(seen == bits_of(trail.outcomes))
 }
 
 /// Three pages on node 0, which go to node 1 in one run.
@@ -75,7 +75,7 @@ const THREE: Trail<'static> = Trail {
 {\"op\":\"read\",\"pid\":1,\"addr\":69632,\"len\":2},
 {\"op\":\"read\",\"pid\":1,\"addr\":73728,\"len\":1}]}",
     call: 5,
-    told: "| 0: [1, 1, 1] | 4 5 6 | 3 0 1 2 | 7 | 3 0 | [97] | [98, 0] | [99] | true
+    outcomes: "| 0: [1, 1, 1] | 4 5 6 | 3 0 1 2 | 7 | 3 0 | [97] | [98, 0] | [99] | true
 
 | HostMemory { runs: 0, policy_set: false } | 0 1 2 | 3 | 4 5 6 7 | 0 0 | [97] | [98, 0] | [99] | true
 | 0: [1, 1, 1] | 4 5 6 | 3 0 1 2 | 7 | 3 0 | [97] | [98, 0] | [99] | true",
@@ -106,7 +106,7 @@ const SHARED: &str =
 const SHARED_ASKED: Trail<'static> = Trail {
     trace: SHARED,
     call: 7,
-    told: "| 0: [-13] | 0: [0] | 0: [-13] | 0 | 1 2 3 | 4 5 6 7 | 0 0 | 0 | [97] | true
+    outcomes: "| 0: [-13] | 0: [0] | 0: [-13] | 0 | 1 2 3 | 4 5 6 7 | 0 0 | 0 | [97] | true
 
 | HostMemory { runs: 0, policy_set: false } | 0: [0] | 0: [-13] | 0 | 1 2 3 | 4 5 6 7 | 0 0 | 0 | [97] | true
 | 0: [-13] | 0: [0] | 0: [-13] | 0 | 1 2 3 | 4 5 6 7 | 0 0 | 0 | [97] | true",
@@ -116,7 +116,7 @@ const SHARED_ASKED: Trail<'static> = Trail {
 const SHARED_THERE: Trail<'static> = Trail {
     trace: SHARED,
     call: 8,
-    told: "| 0: [0] | 0: [-13] | 0 | 1 2 3 | 4 5 6 7 | 0 0 | 0 | [97] | true
+    outcomes: "| 0: [0] | 0: [-13] | 0 | 1 2 3 | 4 5 6 7 | 0 0 | 0 | [97] | true
 
 | HostMemory { runs: 0, policy_set: false } | 0: [-13] | 0 | 1 2 3 | 4 5 6 7 | 0 0 | 0 | [97] | true
 | 0: [0] | 0: [-13] | 0 | 1 2 3 | 4 5 6 7 | 0 0 | 0 | [97] | true",
@@ -126,7 +126,7 @@ const SHARED_THERE: Trail<'static> = Trail {
 const SHARED_UNASKED: Trail<'static> = Trail {
     trace: SHARED,
     call: 9,
-    told: "| 0: [-13] | 0 | 1 2 3 | 4 5 6 7 | 0 0 | 0 | [97] | true
+    outcomes: "| 0: [-13] | 0 | 1 2 3 | 4 5 6 7 | 0 0 | 0 | [97] | true
 
 | HostMemory { runs: 0, policy_set: false } | 0 | 1 2 3 | 4 5 6 7 | 0 0 | 0 | [97] | true
 | 0: [-13] | 0 | 1 2 3 | 4 5 6 7 | 0 0 | 0 | [97] | true",
@@ -152,7 +152,7 @@ const SHARED_BY_ALL: Trail<'static> = Trail {
 {\"op\":\"pagemap\",\"pid\":2},
 {\"op\":\"read\",\"pid\":2,\"addr\":196608,\"len\":1}]}",
     call: 7,
-    told: "| 0: [1] | 4 | 1 2 3 0 | 5 6 7 | 1 0 | 4 | [97] | true
+    outcomes: "| 0: [1] | 4 | 1 2 3 0 | 5 6 7 | 1 0 | 4 | [97] | true
 
 | HostMemory { runs: 0, policy_set: false } | 0 | 1 2 3 | 4 5 6 7 | 0 0 | 0 | [97] | true
 | 0: [1] | 4 | 1 2 3 0 | 5 6 7 | 1 0 | 4 | [97] | true",
@@ -175,7 +175,7 @@ const THERE_AND_BACK: Trail<'static> = Trail {
 {\"op\":\"vmstat\"},
 {\"op\":\"read\",\"pid\":1,\"addr\":65536,\"len\":1}]}",
     call: 5,
-    told: "| 0: [1, 0] | 3 1 2 | 0 | 5 6 7 4 | 2 0 | [97] | true
+    outcomes: "| 0: [1, 0] | 3 1 2 | 0 | 5 6 7 4 | 2 0 | [97] | true
 
 | HostMemory { runs: 0, policy_set: false } | 0 1 2 | 3 | 4 5 6 7 | 0 0 | [97] | true
 | 0: [1, 0] | 3 1 2 | 0 | 5 6 7 4 | 2 0 | [97] | true
@@ -204,7 +204,7 @@ const FROM_NODES: Trail<'static> = Trail {
 {\"op\":\"read\",\"pid\":1,\"addr\":65536,\"len\":1},
 {\"op\":\"read\",\"pid\":1,\"addr\":69632,\"len\":1}]}",
     call: 5,
-    told: "| 0 | 5 8 | 2 3 1 0 | 6 7 4 | 9 10 11 | 3 0 | [97] | [98] | true
+    outcomes: "| 0 | 5 8 | 2 3 1 0 | 6 7 4 | 9 10 11 | 3 0 | [97] | [98] | true
 
 | HostMemory { runs: 0, policy_set: false } | 0 4 | 2 3 1 | 5 6 7 | 8 9 10 11 | 1 0 | [97] | [98] | true
 | 0 | 5 8 | 2 3 1 0 | 6 7 4 | 9 10 11 | 3 0 | [97] | [98] | true
@@ -233,7 +233,7 @@ const BOUND: Trail<'static> = Trail {
 {\"op\":\"read\",\"pid\":1,\"addr\":65536,\"len\":1},
 {\"op\":\"read\",\"pid\":1,\"addr\":69632,\"len\":1}]}",
     call: 4,
-    told: "| 0 | 4 5 | 2 3 0 1 | | 6 7 8 | 2 1 | 00010000 bind:1-2 anon=2 N1=1 N2=1 kernelpagesize_kB=4 | [97] | [98] | true
+    outcomes: "| 0 | 4 5 | 2 3 0 1 | | 6 7 8 | 2 1 | 00010000 bind:1-2 anon=2 N1=1 N2=1 kernelpagesize_kB=4 | [97] | [98] | true
 
 | HostMemory { runs: 0, policy_set: false } | 0 1 | 2 3 | 4 | 5 6 7 8 | 0 0 | 00010000 default anon=2 N0=2 kernelpagesize_kB=4 | [97] | [98] | true
 | 0 | 4 5 | 2 3 0 1 | | 6 7 8 | 2 1 | 00010000 bind:1-2 anon=2 N1=1 N2=1 kernelpagesize_kB=4 | [97] | [98] | true
@@ -267,7 +267,7 @@ const EMPTIED: Trail<'static> = Trail {
 {\"op\":\"read\",\"pid\":1,\"addr\":73728,\"len\":1},
 {\"op\":\"move_pages\",\"caller\":1,\"pid\":0,\"pages\":[69632],\"nodes\":[0],\"flags\":2}]}",
     call: 6,
-    told: "| Refused(Ebusy) | 4 1 5 | 3 0 2 | | 6 7 8 | 2 2 | [97] | [99] | 0: [0] | true
+    outcomes: "| Refused(Ebusy) | 4 1 5 | 3 0 2 | | 6 7 8 | 2 2 | [97] | [99] | 0: [0] | true
 
 | HostMemory { runs: 0, policy_set: false } | 0 1 2 | 3 | 4 | 5 6 7 8 | 0 0 | [97] | [99] | 0: [0] | true
 | Refused(Ebusy) | 4 1 5 | 3 0 2 | | 6 7 8 | 2 2 | [97] | [99] | 0: [0] | true
@@ -295,7 +295,7 @@ const GONE: Trail<'static> = Trail {
 {\"op\":\"read\",\"pid\":1,\"addr\":69632,\"len\":1},
 {\"op\":\"move_pages\",\"caller\":1,\"pid\":0,\"pages\":[69632],\"nodes\":[0],\"flags\":2}]}",
     call: 5,
-    told: "| | 4 5 6 | 3 0 1 2 | | 7 8 | 3 2 | [98] | Refused(Enodev) | true
+    outcomes: "| | 4 5 6 | 3 0 1 2 | | 7 8 | 3 2 | [98] | Refused(Enodev) | true
 
 | HostMemory { runs: 0, policy_set: false } | 0 1 2 | 3 | 4 | 5 6 7 8 | 0 0 | [98] | 0: [0] | true
 | | 4 5 6 | 3 0 1 2 | | 7 8 | 3 2 | [98] | Refused(Enodev) | true
@@ -328,7 +328,7 @@ const IN_FLIGHT: Trail<'static> = Trail {
 {\"op\":\"read\",\"pid\":1,\"addr\":65536,\"len\":1},
 {\"op\":\"read\",\"pid\":1,\"addr\":69632,\"len\":1}]}",
     call: 6,
-    told: "| 0: [1] held [98] done | 4 1 2 3 5 | 0 | 6 7 | 1 0 | [97] | [98] | true
+    outcomes: "| 0: [1] held [98] done | 4 1 2 3 5 | 0 | 6 7 | 1 0 | [97] | [98] | true
 
 | HostMemory { runs: 0, policy_set: false } | 0 1 2 3 | | 4 5 6 7 | 0 0 | [97] | [98] | true
 | 0: [1] held [98] done | 4 1 2 3 5 | 0 | 6 7 | 1 0 | [97] | [98] | true",
@@ -351,7 +351,7 @@ const HELD: Trail<'static> = Trail {
 {\"op\":\"vmstat\"},
 {\"op\":\"read\",\"pid\":1,\"addr\":131072,\"len\":1}]}",
     call: 4,
-    told: "| 0: [1] held | 4 | 1 2 3 0 | 5 6 7 | 1 0 | [97] | true
+    outcomes: "| 0: [1] held | 4 | 1 2 3 0 | 5 6 7 | 1 0 | [97] | true
 
 | HostMemory { runs: 0, policy_set: false } | 0 | 1 2 3 | 4 5 6 7 | 0 0 | [97] | true
 | 0: [1] held | 4 | 1 2 3 0 | 5 6 7 | 1 0 | [97] | true",
@@ -377,7 +377,7 @@ const IN_THE_SECOND: Trail<'static> = Trail {
 {\"op\":\"read\",\"pid\":1,\"addr\":65536,\"len\":1},
 {\"op\":\"read\",\"pid\":1,\"addr\":69632,\"len\":1}]}",
     call: 6,
-    told: "| 0: [1, 1] done | 4 5 2 3 0 | 1 | 6 7 | 2 0 | [97] | [98] | true
+    outcomes: "| 0: [1, 1] done | 4 5 2 3 0 | 1 | 6 7 | 2 0 | [97] | [98] | true
 
 | HostMemory { runs: 0, policy_set: false } | 0 1 2 3 | | 4 5 6 7 | 0 0 | [97] | [98] | true
 | 0: [1, 1] done | 4 5 2 3 0 | 1 | 6 7 | 2 0 | [97] | [98] | true
@@ -422,7 +422,7 @@ fn refused_calls_go_on(rt: HostRuntime) -> Result<(), Fail> {
     let mut text = String::new(rt.alloc());
     for trail in TRAILS {
         let fine = refuse_two(&rt, rt.alloc(), trail, &mut text)?;
-        assert!(rt; fine, "{}\nin place of\n{}", text.as_str(), trail.told);
+        assert!(rt; fine, "{}\nin place of\n{}", text.as_str(), trail.outcomes);
     }
     Ok(())
 }
