@@ -1,7 +1,8 @@
 #!/bin/sh
 # Plays each example, each trace of the tests, a long one, whose runs are long enough for several workers, and two that reach
 # limits, with 1, 2, 3 and 64 workers: the report is the one beside the trace, byte for byte, the status is 0, and standard error is
-# empty. An argument names a program other than the one that ./build makes. Silent where all is well.
+# empty. Of a bad trace the program says what is wrong with it, and nothing else. An argument names a program other than the one that
+# ./build makes. Silent where all is well.
 set -eu
 program=${1-}
 case $program in
@@ -28,3 +29,17 @@ for trace in examples/*.json tests/traces/*.json "$room"/*.json; do
         fi
     done
 done
+
+# What it says of a bad trace.
+expect_fault() {
+    status=0
+    printf %s "$2" | "$program" > "$room/out" 2> "$room/err" || status=$?
+    if [ "$status" = 0 ] || [ -s "$room/out" ] || ! echo "$(basename "$program"): $1" | cmp -s - "$room/err"; then
+        echo "tests/traces.sh: $2 ends with $status, and not with the fault $1:" >&2
+        cat "$room/err" >&2
+        exit 1
+    fi
+}
+expect_fault 'not JSON' '{"version":1'
+expect_fault 'bad machine' '{"version":3}'
+expect_fault 'bad step 1' '{"version":1,"machine":{"nodes":[4],"distance":[[10]]},"steps":[{"op":"vmstat"},{"op":"free"}]}'

@@ -8,8 +8,6 @@ ghost use Rattle.nm_steps.specs.Plans.{contents_of};
 
 mod making;
 mod moving;
-#[cfg(test)]
-mod tests;
 mod values;
 
 use making::make_trace;
