@@ -46,6 +46,7 @@ def words_given():
                        "prove none without an edit")
     words.add_argument("--anew", action="store_true", help="try also what was refused before, where nothing has changed since")
     words.add_argument("--apply", action="store_true", help="prove nothing: see only whether each edit can be applied, and has its name alone")
+    words.add_argument("--compile", action="store_true", help="prove nothing: see only which edits do not compile; the libraries below are built")
     words.add_argument("--times", action="store_true", help="write down in tests/edits/seconds what each took: --chosen takes the cheapest")
     words.add_argument("--jobs", type=int, metavar="N", help="so many crates at once")
     words.add_argument("--logs", metavar="FOLDER", help="keep what each check prints there")
@@ -125,6 +126,21 @@ def try_crate(crate, edits, room, given):
     return counts
 
 
+def compile_crate(crate, edits, room, given):
+    """Prints which edits of a crate do not compile, and returns the counts."""
+    counts = Counts()
+    try:
+        broken = Tries(checks_of(crate, room, given.root), edits).broken()
+    except Fault as fault:
+        say(f"{crate}: NOT JUDGED: {fault}")
+        counts.faults = len(edits)
+        return counts
+    for one in broken:
+        say(f"{crate}/{one.edit.name}: {one.verdict.upper()} ({one.place()}): {one.why}")
+    counts.faults = len(broken)
+    return counts
+
+
 def leave(room):
     """Ends at once. (The checks end with this process, and are not waited for.)"""
     shutil.rmtree(room, ignore_errors=True)
@@ -132,15 +148,20 @@ def leave(room):
 
 
 def try_all(edits, given):
-    """Tries edits, several crates at once, and returns whether all are refused for their meaning."""
+    """Tries edits, several crates at once, and returns whether all are refused for their meaning, or, if that is asked, whether all compile."""
     began = time.monotonic()
     begin()
     order = sorted(edits, key=lambda crate: -sum(os.path.getsize(edit.path) for edit in edits[crate]))
     with tempfile.TemporaryDirectory(prefix="edits-") as room, ThreadPoolExecutor(given.jobs or jobs()) as pool:
         for number in (signal.SIGHUP, signal.SIGINT, signal.SIGTERM):
             signal.signal(number, lambda *_: leave(room))
-        found = list(pool.map(lambda crate: try_crate(crate, edits[crate], room, given), order))
+        one = compile_crate if given.compile else try_crate
+        found = list(pool.map(lambda crate: one(crate, edits[crate], room, given), order))
     total = {name: sum(getattr(counts, name) for counts in found) for name in ("tried", "refused", "kept", "rounds", "faults")}
+    if given.compile:
+        every = sum(len(ours) for ours in edits.values())
+        say(f"edits: {every - total['faults']} of {every} compile; {time.monotonic() - began:.0f} s by the clock")
+        return not total["faults"]
     if given.times:
         note_seconds(given.root, {name: seconds for counts in found for name, seconds in counts.seconds.items()})
     took = resource.getrusage(resource.RUSAGE_CHILDREN)

@@ -80,11 +80,12 @@ class Function:
         return "::".join([*self.modules, *(each for each in [self.owner.type + self.owner.trait] if each), self.name])
 
     def path(self):
-        """What names it to `--only` before a log has its name, or None: of a method the end of its name, as its type may be of another module."""
+        """What names it to `--only` before a log has its name, or None: of a method the end of its name, as its type may be of another module;
+        of one of a trait its module, as several of that name may end so."""
         of, trait = self.owner.type, self.owner.trait.replace("Drop", "")
-        if not of and trait:
-            return None
-        return f"{of}{trait}{self.owner.arguments}::{self.name}" if of else "::".join([*self.modules, self.name])
+        if trait:
+            return "::".join(self.modules) or None
+        return f"{of}{self.owner.arguments}::{self.name}" if of else "::".join([*self.modules, self.name])
 
     def fits(self, crate, name):
         """How well a check's name of a function, crate::modules::Owner::name, fits this one; 0 for not at all."""

@@ -90,7 +90,7 @@ class Tries:
             return []
         ours = [each for one in chosen for each in one.functions]
         known = [[name for name in self.names.get(each, ()) if "::fn::" not in name] or [each.path()] for each in ours]
-        return [] if [None] in known else [path for paths in known for path in paths]
+        return [] if [None] in known else list(dict.fromkeys(path for paths in known for path in paths))
 
     def run(self, say):
         """Tries all."""
@@ -112,6 +112,22 @@ class Tries:
             again = sum(not one.verdict for one in chosen)
             if len(chosen) > 1:
                 say(f"{self.checks.name}: round {self.rounds}: {len(chosen)} edits at once" + (f", {again} of them once more{why}" if again else ""))
+
+    def broken(self):
+        """The tries of edits that do not compile. A check of no function says so in seconds, and proves nothing."""
+        found = []
+        while self.left():
+            chosen, texts = self.next_round()
+            log = self.checks.check(texts, [""], f"compile-{len(found)}", [one.edit.name for one in chosen])
+            if log.broken:
+                self.read_broken(log, chosen)
+            elif log.status in (0, 1):
+                for one in chosen:
+                    one.judge(REFUSED)
+            else:
+                raise Fault(log.why_none())
+            found += [one for one in chosen if one.verdict not in (None, REFUSED)]
+        return found
 
     def halve(self, chosen):
         self.most = max(1, len(chosen) // 2)
