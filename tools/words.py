@@ -3,7 +3,9 @@
 
 - No definition of the specifications and no function is named by a bare participle, except the subject's own words (OWN).
 - No name stands for two definitions in one crate, or in two crates one of which stands on the other.
-- The label of a clause is one of those that docs/WORDS.md lists, or a word of the clause or of its function's signature."""
+- No definition and no function has a word in its name in place of which docs/WORDS.md has another (GONE).
+- The label of a clause is one of those that docs/WORDS.md lists, or a word of the clause or of its function's signature, and
+  `allocates` is the label of clauses on errors alone."""
 import collections
 import glob
 import os
@@ -20,6 +22,10 @@ OWN = set("read run set cut put split let seen placed Wanted Moved Held Refused 
 IRREGULAR = set("""begun bound bought broken built caught come dealt done drawn driven fed felt flown found given gone grown hidden kept
     known laid left lent lost made meant met paid put ran run seen sent set shown sold split spoken stolen swept taken thrown told
     torn undone understood unseen withdrawn won written""".split())
+# Words of names in place of which others stand.
+GONE = set("told tell midway meanwhile flown dues".split())
+# What a clause has that says when memory is allocated.
+ERRORS = re.compile(r"\b(?:OnErr|Err|AllocatesOnlyIf|AsksLast|IsErr)\b")
 CLAUSE = re.compile(r"\b(?:ensures|requires) ([a-z_0-9]+) \{")
 
 
@@ -81,12 +87,12 @@ def words_of(text):
 
 
 def labels_of(text):
-    """Each label of a clause, with its function's name and the words that it may be without a list."""
+    """Each label of a clause, with its function's name, the clause, and the words that the label may be without a list."""
     for found in CLAUSE.finditer(text):
         start = text.rfind("fn ", 0, found.start())
         signature = re.split(r"\b(?:ensures|requires)\b", text[start:found.start()], maxsplit=1)[0]
         clause = text[found.end():closed(text, found.end() - 1)]
-        yield found[1], re.match(r"fn (\w+)", text[start:])[1], words_of(signature) | words_of(clause)
+        yield found[1], re.match(r"fn (\w+)", text[start:])[1], clause, words_of(signature) | words_of(clause)
 
 
 def listed_labels():
@@ -102,15 +108,21 @@ def main():
     for name, crate, path in all_definitions():
         if is_participle(name):
             faults.append(f"{path}: the definition {name} is named by a participle")
+        if words_of(name) & GONE:
+            faults.append(f"{path}: the definition {name} has a word in its name in place of which docs/WORDS.md has another")
         places[name].add((crate, path))
     known = listed_labels()
     for path, text in sources():
         for name in re.findall(r"^\s*(?:pub(?:\([a-z]+\))? )?(?:const )?fn ([a-z_0-9]+)", text, re.M):
             if is_participle(name):
                 faults.append(f"{path}: the function {name} is named by a participle")
-        for label, function, words in labels_of(text):
+            if words_of(name) & GONE:
+                faults.append(f"{path}: the function {name} has a word in its name in place of which docs/WORDS.md has another")
+        for label, function, clause, words in labels_of(text):
             if label not in known and not all(part.rstrip("s") in words or part in words for part in label.split("_")):
                 faults.append(f"{path}: {function} has the label {label}, which docs/WORDS.md does not list")
+            if label == "allocates" and not ERRORS.search(clause):
+                faults.append(f"{path}: {function} has a clause allocates that speaks of no error")
     below = stands_on()
     for name, found in sorted(places.items()):
         found = sorted(found)

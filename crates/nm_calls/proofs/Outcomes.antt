@@ -88,11 +88,11 @@ refusal_does to old new call e r does is = subst (λ r. Does to r old new call) 
 
 -- .. and is lack of memory where that was
 pub lack_of : {T : Type 0} (r : Result T CallError) (e : CallError) (f : CallError) → IsErr r × IsErrAnd r (λ x. x ≡ e) → r ≡ Err f → e ≡ f
-lack_of r e f is lack = let told : r ≡ Err e = err_is r e is in cc
+lack_of r e f is lack = let is_so : r ≡ Err e = err_is r e is in cc
 
 -- a refusal is no lack of memory
 pub no_lack : {T P : Type 0} (r : Result T CallError) (e : Errno) (runs : ℕ) (policy_set : Bool) → IsErr r × IsErrAnd r (λ x. x ≡ Refused e) → r ≡ Err (HostMemory runs policy_set) → P
-no_lack r e runs policy_set is lack = let told : r ≡ Err (Refused e) = err_is r (Refused e) is in absurd (cc)
+no_lack r e runs policy_set is lack = let is_so : r ≡ Err (Refused e) = err_is r (Refused e) is in absurd (cc)
 
 module _ {T : Type 0} (view : T → Answer) (y : SystemState) (call : Call) (r : Result T CallError) where
   -- a call that is refused
@@ -104,10 +104,10 @@ module _ {T : Type 0} (view : T → Answer) (y : SystemState) (call : Call) (r :
   out_at_once none is = subst (λ r. Does view r y y call) (sym (err_is r (out_of_memory 0) is)) (none, inl (refl, refl, refl))
 
 -- a call that only tells something, and is refused or without memory
-pub tells_error : {S T : Type 0} (view : T → Answer) (y : SystemState) (call : Call) (r : Result T CallError) (e : MachineError) (Holds : S → Type 0) → refused_at_once y.state call ≡ refusal_of y.state call → Returns (Err e) (refusal_of y.state call) Holds → AsksLast {T = S} (Err e) (refusal_of y.state call)
+pub returns_error : {S T : Type 0} (view : T → Answer) (y : SystemState) (call : Call) (r : Result T CallError) (e : MachineError) (Holds : S → Type 0) → refused_at_once y.state call ≡ refusal_of y.state call → Returns (Err e) (refusal_of y.state call) Holds → AsksLast {T = S} (Err e) (refusal_of y.state call)
     → IsErr r × IsErrAnd r (λ x. x ≡ of_machine e) → Does view r y y call
-tells_error view y call r (machine.Refused e) Holds same told last is = refuses_by view y call r e told is
-tells_error view y call r machine.HostMemory Holds same told last is = out_at_once view y call r (same ∙ last) is
+returns_error view y call r (machine.Refused e) Holds same is_so last is = refuses_by view y call r e is_so is
+returns_error view y call r machine.HostMemory Holds same is_so last is = out_at_once view y call r (same ∙ last) is
 
 -- the machine had no memory
 pub machine_lacks : {T : Type 0} (r : Result T CallError) (e : MachineError) (runs : ℕ) (policy_set : Bool) → IsErr r × IsErrAnd r (λ x. x ≡ of_machine e) → r ≡ Err (HostMemory runs policy_set) → e ≡ machine.HostMemory

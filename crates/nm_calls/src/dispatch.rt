@@ -2,7 +2,7 @@
 
 ghost use Rattle.std.specs.Prelude.{◌<◌};
 ghost use Rattle.nm_requests.specs.Calls as calls;
-ghost use Rattle.nm_calls.specs.definitions.Does.{Asks, Does};
+ghost use Rattle.nm_calls.specs.definitions.Does.{AllocatesOnlyIf, Does};
 ghost use Rattle.nm_calls.specs.definitions.Memory.{MayAllocate};
 ghost use Rattle.nm_requests.specs.Views.{attach_call, call_of, mbind_call, query_call, spawn_call};
 ghost use Rattle.nm_calls.specs.views.Answers.{answer_of, moved_shown};
@@ -44,7 +44,7 @@ fn mbind<A: Allocator + Copy + Send + Sync, C: RunCrew<A>>(
     request: &MbindRequest,
 ) -> Result<Answer<A>, CallError>
     ensures done { Does answer_of result system.old system.new (mbind_call request.now) }
-    ensures allocates { Asks result (MayAllocate system.old.state (mbind_call request.now)) }
+    ensures allocates { AllocatesOnlyIf result (MayAllocate system.old.state (mbind_call request.now)) }
 {
     system.mbind(crew, request)?;
     Ok(Answer::Failed(0))
@@ -57,7 +57,7 @@ fn offline<A: Allocator + Copy + Send + Sync, C: RunCrew<A>>(
     node: NodeId,
 ) -> Result<Answer<A>, CallError>
     ensures done { Does answer_of result system.old system.new (calls.Offline node) }
-    ensures allocates { Asks result (MayAllocate system.old.state (calls.Offline node)) }
+    ensures allocates { AllocatesOnlyIf result (MayAllocate system.old.state (calls.Offline node)) }
 {
     system.offline(crew, node)?;
     Ok(Answer::Done)
@@ -69,7 +69,7 @@ fn online<A: Allocator + Copy + Send + Sync>(
     node: NodeId,
 ) -> Result<Answer<A>, CallError>
     ensures done { Does answer_of result system.old system.new (calls.Online node) }
-    ensures allocates { Asks result (MayAllocate system.old.state (calls.Online node)) }
+    ensures allocates { AllocatesOnlyIf result (MayAllocate system.old.state (calls.Online node)) }
 {
     system.online(node)?;
     Ok(Answer::Done)
@@ -81,7 +81,7 @@ fn query<A: Allocator + Copy + Send + Sync>(
     question: &Question<A>,
 ) -> Result<Moved<A>, CallError>
     ensures done { Does moved_shown result system.now system.now (query_call question.now) }
-    ensures allocates { Asks result (MayAllocate system.now.state (query_call question.now)) }
+    ensures allocates { AllocatesOnlyIf result (MayAllocate system.now.state (query_call question.now)) }
 {
     Ok(Moved {
         failed: 0,
@@ -96,7 +96,7 @@ impl<A: Allocator + Copy + Send + Sync> System<A> {
     /// where `MayAllocate` holds: there is something to unmap, move, set or list, say.
     pub fn call<C: RunCrew<A>>(&mut self, crew: &C, call: &Call<A>) -> Result<Answer<A>, CallError>
         ensures done { Does answer_of result self.old self.new (call_of call.now) }
-        ensures allocates { Asks result (MayAllocate self.old.state (call_of call.now)) }
+        ensures allocates { AllocatesOnlyIf result (MayAllocate self.old.state (call_of call.now)) }
     {
         match call {
             Call::Spawn(process) => spawn(self, process),

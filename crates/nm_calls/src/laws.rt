@@ -7,7 +7,7 @@ ghost use Rattle.nm_calls.specs.definitions.Mbind.{NoStrayIsListedTwice};
 ghost use Rattle.nm_calls.specs.definitions.Offline.{RunsIgnoreOnline};
 ghost use Rattle.nm_calls.specs.examples.OfflineRows.{PagesLeaveTheNode, NothingIsTakenOffline, PinnedPageKeepsItsNode, PassesGoByDistance, UnseenPageMoves, SharedPageLeavesItsNode, OfflineNodesAreNotKept, NearestNodeFirst, LastNodeStays, PagesGoBySegment};
 ghost use Rattle.nm_calls.specs.examples.DuringRows.{FramesAreReserved, AccessFindsNoFrame, HeldAtEachAddress, RefusedBeforeHeld, RefusedCallsMakeNone, AnsweredInOrder, LimitMakesRuns};
-ghost use Rattle.nm_calls.specs.examples.MbindRows.{PinnedPageIsTold, StrictAloneRefuses, StayingIsNoError, LinesAreSplit, NewPagesTakeTurns, BoundPagesGoNowhereElse, SecondPassTakesTheRest, FollowersStay, StrayPagesTakeTurns, BindingsAreRefused, LastByteCounts, TurnsGoByIndex, StrayIsListedOnce, SharedPagesMoveWithAll, SetsAsText, BothProcessesAreCounted, LastPage};
+ghost use Rattle.nm_calls.specs.examples.MbindRows.{PinnedPageIsAnError, StrictAloneRefuses, StayingIsNoError, LinesAreSplit, NewPagesTakeTurns, BoundPagesGoNowhereElse, SecondPassTakesTheRest, FollowersStay, StrayPagesTakeTurns, BindingsAreRefused, LastByteCounts, TurnsGoByIndex, StrayIsListedOnce, SharedPagesMoveWithAll, SetsAsText, BothProcessesAreCounted, LastPage};
 
 /// A call that is refused leaves the system as it was, except for EIO of mbind(2) with MPOL_MF_STRICT and a flag to
 /// move, and EBUSY of taking a node offline.
@@ -62,7 +62,7 @@ pub fn pages_migrate()
 
 /// Worked examples of mbind(2), by its definition.
 pub fn policies_move_pages()
-    ensures pinned_page_is_told { PinnedPageIsTold }
+    ensures pinned_page_is_an_error { PinnedPageIsAnError }
     ensures strict_alone_refuses { StrictAloneRefuses }
     ensures staying_is_no_error { StayingIsNoError }
     ensures lines_are_split { LinesAreSplit }
@@ -103,7 +103,7 @@ pub fn nodes_go_offline()
 {}
 
 /// Worked examples of areas as text.
-pub fn areas_are_told()
+pub fn areas_are_listed()
     ensures sets_as_text { SetsAsText }
     ensures both_processes_are_counted { BothProcessesAreCounted }
     ensures last_page { LastPage }

@@ -4,7 +4,7 @@ ghost use Rattle.std.specs.Prelude.{◌≡◌, ℕ, ◌+◌, ◌++◌, ◌∷◌
 ghost use Rattle.nm_types.specs.Layout.{node_count};
 ghost use Rattle.nm_types.specs.Map.{get, page_cmp};
 ghost use Rattle.nm_calls.specs.definitions.Maps.{stretches, stretch_text, set_text, policy_text, most_users, lines_shown};
-ghost use Rattle.nm_calls.specs.views.Tally.{comma, line_text, pages_of, told_on, nodes_text, tally_text};
+ghost use Rattle.nm_calls.specs.views.Tally.{comma, line_text, pages_of, node_count_text, nodes_text, tally_text};
 
 use crate::number_text::{push_address, push_number};
 use nm_areas::Area;
@@ -165,7 +165,7 @@ fn count_pages<A: Allocator + Copy + Send + Sync>(
 /// Appends how many pages are on a node, if any are. Allocates only then.
 fn push_node<A: Allocator>(line: &mut String<A>, node: usize, pages: u64) -> Result<(), AllocError>
     ensures text { OnOk result
-        (string_bytes line.new ≡ string_bytes line.old ++ told_on node pages) }
+        (string_bytes line.new ≡ string_bytes line.old ++ node_count_text node pages) }
     ensures allocates { OnErr result (0 < pages) }
 {
     if pages == 0 {

@@ -12,7 +12,7 @@ ghost use Rattle.nm_calls.specs.definitions.Maps.{lines_shown};
 ghost use Rattle.nm_calls.specs.definitions.Memory.{MayAllocate};
 ghost use Rattle.nm_calls.specs.definitions.Systems.{new_system, system_with};
 ghost use Rattle.nm_calls.specs.definitions.Outcome.{outcome};
-ghost use Rattle.nm_calls.specs.definitions.Does.{Asks, Does, DoesOrRefuses};
+ghost use Rattle.nm_calls.specs.definitions.Does.{AllocatesOnlyIf, Does, DoesOrRefuses};
 ghost use Rattle.nm_calls.specs.views.Answers.{moved_shown};
 ghost use Rattle.nm_requests.specs.Views.{attach_call, map_call, mbind_call, migrate_call, move_call, query_call, spawn_call};
 
@@ -172,7 +172,7 @@ impl<A: Allocator + Copy + Send + Sync> System<A> {
     /// range, and only if it is split there or a page has a frame.
     pub fn unmap(&mut self, pid: Pid, addr: u64, pages: u64) -> Result<(), CallError>
         ensures done { Does (λ done. Done) result self.old self.new (Unmap pid addr pages) }
-        ensures allocates { Asks result (MayAllocate self.old.state (Unmap pid addr pages)) }
+        ensures allocates { AllocatesOnlyIf result (MayAllocate self.old.state (Unmap pid addr pages)) }
     {
         Ok(self.machine.unmap(pid, addr, pages)?)
     }
@@ -183,7 +183,7 @@ impl<A: Allocator + Copy + Send + Sync> System<A> {
     /// the process has an area, and a page has a frame.
     pub fn exit(&mut self, pid: Pid) -> Result<(), CallError>
         ensures done { Does (λ done. Done) result self.old self.new (Exit pid) }
-        ensures allocates { Asks result (MayAllocate self.old.state (Exit pid)) }
+        ensures allocates { AllocatesOnlyIf result (MayAllocate self.old.state (Exit pid)) }
     {
         Ok(self.machine.exit(pid)?)
     }
@@ -224,7 +224,7 @@ impl<A: Allocator + Copy + Send + Sync> System<A> {
     pub fn write(&mut self, pid: Pid, addr: u64, bytes: &[u8]) -> Result<(), CallError>
         ensures done { Does (λ done. Done) result self.old self.new
             (WriteBytes pid addr bytes.now) }
-        ensures allocates { Asks result (MayAllocate self.old.state (WriteBytes pid addr bytes.now)) }
+        ensures allocates { AllocatesOnlyIf result (MayAllocate self.old.state (WriteBytes pid addr bytes.now)) }
     {
         Ok(self.machine.write(pid, addr, bytes)?)
     }
@@ -240,7 +240,7 @@ impl<A: Allocator + Copy + Send + Sync> System<A> {
     /// target's number, and the page moves. -16 and -12 count as failed. A frame that a run leaves becomes free when
     /// the run ends.
     ///
-    /// The accesses of `during` are made meanwhile, each in the run with its number, from 0: those of a run in order,
+    /// Each access of `during` is made during the run with its number, from 0: those of a run in order,
     /// after its frames are reserved and before those that its pages left are free. An access to a page that its run
     /// moves is held: it reads and writes nothing, and takes no frame. On Linux it would find a migration entry, and
     /// wait (the kernel's Documentation/mm/page_migration.rst). Held comes after ESRCH, EINVAL and EFAULT, and before
@@ -261,7 +261,7 @@ impl<A: Allocator + Copy + Send + Sync> System<A> {
         request: &MoveRequest<A>,
     ) -> Result<Moved<A>, CallError>
         ensures done { Does moved_shown result self.old self.new (move_call request.now) }
-        ensures allocates { Asks result (MayAllocate self.old.state (move_call request.now)) }
+        ensures allocates { AllocatesOnlyIf result (MayAllocate self.old.state (move_call request.now)) }
     {
         let permit = permit_of(&self.machine, request.caller, request.pid, request.flags)?;
         let batch = &request.batch;
@@ -328,7 +328,7 @@ impl<A: Allocator + Copy + Send + Sync> System<A> {
         request: &MbindRequest,
     ) -> Result<(), CallError>
         ensures done { Does (λ done. Failed 0) result self.old self.new (mbind_call request.now) }
-        ensures allocates { Asks result (MayAllocate self.old.state (mbind_call request.now)) }
+        ensures allocates { AllocatesOnlyIf result (MayAllocate self.old.state (mbind_call request.now)) }
     {
         let (asked, binding) = check_binding(&self.machine, request)?;
         if request.len == 0 {
@@ -349,7 +349,7 @@ impl<A: Allocator + Copy + Send + Sync> System<A> {
     /// remain, and the node is online.
     pub fn offline<C: RunCrew<A>>(&mut self, crew: &C, node: NodeId) -> Result<(), CallError>
         ensures done { Does (λ done. Done) result self.old self.new (Offline node) }
-        ensures allocates { Asks result (MayAllocate self.old.state (Offline node)) }
+        ensures allocates { AllocatesOnlyIf result (MayAllocate self.old.state (Offline node)) }
     {
         check_offline(&self.machine, node)?;
         if !self.machine.online().contains(node) {
@@ -378,7 +378,7 @@ impl<A: Allocator + Copy + Send + Sync> System<A> {
     pub fn query(&self, question: &Question<A>) -> Result<Vec<i32, A>, CallError>
         ensures done { Does (λ statuses. Statuses 0 statuses.items []) result self.now self.now
             (query_call question.now) }
-        ensures allocates { Asks result (MayAllocate self.now.state (query_call question.now)) }
+        ensures allocates { AllocatesOnlyIf result (MayAllocate self.now.state (query_call question.now)) }
     {
         let Question {
             caller,
@@ -412,7 +412,7 @@ impl<A: Allocator + Copy + Send + Sync> System<A> {
     pub fn numa_maps(&self, pid: Pid) -> Result<Vec<String<A>, A>, CallError>
         ensures done { Does (λ lines. Lines (lines_shown lines.items)) result self.now self.now
             (NumaMaps pid) }
-        ensures allocates { Asks result (MayAllocate self.now.state (NumaMaps pid)) }
+        ensures allocates { AllocatesOnlyIf result (MayAllocate self.now.state (NumaMaps pid)) }
     {
         let spaces = self.machine.spaces();
         if spaces.info(pid).is_none() {
@@ -427,7 +427,7 @@ impl<A: Allocator + Copy + Send + Sync> System<A> {
     pub fn free_list(&self, node: NodeId) -> Result<Vec<FrameId, A>, CallError>
         ensures done { Does (λ frames. Frames frames.items) result self.now self.now
             (FreeList node) }
-        ensures allocates { Asks result (MayAllocate self.now.state (FreeList node)) }
+        ensures allocates { AllocatesOnlyIf result (MayAllocate self.now.state (FreeList node)) }
     {
         Ok(self.machine.free_list(node)?)
     }
@@ -437,7 +437,7 @@ impl<A: Allocator + Copy + Send + Sync> System<A> {
     pub fn pagemap(&self, pid: Pid) -> Result<Vec<PagemapEntry, A>, CallError>
         ensures done { Does (λ mapped. Entries (entries_mapped mapped.items)) result self.now
             self.now (Pagemap pid) }
-        ensures allocates { Asks result (MayAllocate self.now.state (Pagemap pid)) }
+        ensures allocates { AllocatesOnlyIf result (MayAllocate self.now.state (Pagemap pid)) }
     {
         let entries = entries_of(&self.machine, pid)?;
         Ok(mapped_of(self.alloc, entries.as_slice())?)

@@ -36,9 +36,9 @@ error_status (HostMemory runs policy_set) = pos 3
 
 -- the system makes the call: with a value, the status is 0 and `Shown` holds of it, and else it is the error's
 abbrev pub MakesCall : (V : Type 0) → (V → Answer) → Call → (V → Type 0) → Type 0 → ℤ → OpenSession → OpenSession → Type 0
-MakesCall V view call Shown Untold status old new =
+MakesCall V view call Shown Unwritten status old new =
     (r : Result V CallError) × Does view r old.session.system new.session.system call
-    × MatchResult r (λ v. (status ≡ pos 0) × Shown v) (λ e. (status ≡ error_status e) × Untold)
+    × MatchResult r (λ v. (status ≡ pos 0) × Shown v) (λ e. (status ≡ error_status e) × Unwritten)
     × (new.session.steps ≡ old.session.steps) × (new.lines ≡ old.lines)
 
 -- a call that answers nothing else
@@ -71,7 +71,7 @@ MovesPages call before statuses before_failed failed =
 
 -- there is no memory to make a call with, and nothing changes
 abbrev pub Lacks : Type 0 → ℤ → OpenSession → OpenSession → Type 0
-Lacks Untold status old new = (status ≡ pos 3) × Untold × (new ≡ old)
+Lacks Unwritten status old new = (status ≡ pos 3) × Unwritten × (new ≡ old)
 
 abbrev pub MovesListed : Call → List ℤ → List ℤ → ℕ → ℕ → ℤ → OpenSession → OpenSession → Type 0
 MovesListed call before statuses before_failed failed status old new =
@@ -80,13 +80,13 @@ MovesListed call before statuses before_failed failed status old new =
 
 -- ---- calls that only look
 
--- the system is asked: with a value, `Told` says what is written and with which status, and else the status is the error's; or there is no
--- memory for the answer
+-- the system is asked: with a value, `Written` says what is written and with which status, and else the status is the
+-- error's; or there is no memory for the answer
 abbrev pub AsksSystem : (V : Type 0) → (V → Answer) → Call → (V → ℤ → Type 0) → Type 0 → ℤ → OpenSession → Type 0
-AsksSystem V view call Told Untold status kept =
+AsksSystem V view call Written Unwritten status kept =
     ((r : Result V CallError) × Does view r kept.session.system kept.session.system call
-    × MatchResult r (λ v. Told v status) (λ e. (status ≡ error_status e) × Untold))
-    ⊎ ((status ≡ pos 3) × Untold)
+    × MatchResult r (λ v. Written v status) (λ e. (status ≡ error_status e) × Unwritten))
+    ⊎ ((status ≡ pos 3) × Unwritten)
 
 -- the same of a session that stays as it was
 abbrev pub LooksOnly : (ℤ → OpenSession → Type 0) → ℤ → OpenSession → OpenSession → Type 0

@@ -42,7 +42,7 @@ pub fn make_on(alloc: Global, session: &mut Handle, call: &Call<Global>) -> i32
     let Some(mut kept) = session.take(alloc) else {
         return status::BAD_ARGUMENT;
     };
-    let told = make(&mut kept, call);
+    let answer = make(&mut kept, call);
     session.put(kept);
-    told
+    answer
 }

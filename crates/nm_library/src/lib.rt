@@ -35,7 +35,7 @@ pub extern "C" fn numatrace_run(
     ensures { ReportsTrace trace.now result report.old report.new needed.old needed.new }
 {
     match playing::report_on(alloc, trace) {
-        Ok(text) => rooms::tell(text.as_slice(), report, needed),
+        Ok(text) => rooms::fill(text.as_slice(), report, needed),
         Err(fault) => status::status_of(fault),
     }
 }
@@ -76,9 +76,9 @@ pub extern "C" fn numatrace_step(
     let Some(mut kept) = session.take(alloc) else {
         return status::BAD_ARGUMENT;
     };
-    let told = playing::step_told(alloc, &mut kept, step, lines, needed);
+    let answer = playing::write_step(alloc, &mut kept, step, lines, needed);
     session.put(kept);
-    told
+    answer
 }
 
 /// Writes the lines of the last step once more, none before the first. Does not allocate.
@@ -98,9 +98,9 @@ pub extern "C" fn numatrace_lines(
     let Some(kept) = session.take(alloc) else {
         return status::BAD_ARGUMENT;
     };
-    let told = rooms::tell(kept.lines.as_slice(), lines, needed);
+    let answer = rooms::fill(kept.lines.as_slice(), lines, needed);
     session.put(kept);
-    told
+    answer
 }
 
 /// Closes a session, if one is open.

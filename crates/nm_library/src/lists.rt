@@ -8,7 +8,7 @@ ghost use Rattle.nm_library.specs.Entries.{pagemap_entry};
 use crate::calls::status_for;
 use crate::entry::Entry;
 use crate::handle::{Handle, OpenSession};
-use crate::rooms::tell;
+use crate::rooms::fill;
 use crate::status;
 use nm_calls::PagemapEntry;
 use nm_types::{FrameId, NodeId, Pid};
@@ -25,7 +25,7 @@ fn numbers_of(alloc: Global, frames: &[FrameId]) -> Result<Vec<u16>, AllocError>
     Ok(numbers)
 }
 
-/// Tells the free frames of a node.
+/// Writes the free frames of a node.
 fn free_list(
     alloc: Global,
     kept: &OpenSession,
@@ -40,7 +40,7 @@ fn free_list(
             let Ok(numbers) = numbers_of(alloc, list.as_slice()) else {
                 return status::NO_MEMORY;
             };
-            tell(numbers.as_slice(), frames, needed)
+            fill(numbers.as_slice(), frames, needed)
         }
         Err(error) => status_for(error),
     }
@@ -63,9 +63,9 @@ pub extern "C" fn numatrace_free_list(
     let Some(kept) = session.take(alloc) else {
         return status::BAD_ARGUMENT;
     };
-    let told = free_list(alloc, &kept, node, frames, needed);
+    let answer = free_list(alloc, &kept, node, frames, needed);
     session.put(kept);
-    told
+    answer
 }
 
 /// Entries as C has them.
@@ -79,7 +79,7 @@ fn entries_of(alloc: Global, mapped: &[PagemapEntry]) -> Result<Vec<Entry>, Allo
     Ok(entries)
 }
 
-/// Tells the entries of a process.
+/// Writes the entries of a process.
 fn pagemap(
     alloc: Global,
     kept: &OpenSession,
@@ -94,7 +94,7 @@ fn pagemap(
             let Ok(shown) = entries_of(alloc, list.as_slice()) else {
                 return status::NO_MEMORY;
             };
-            tell(shown.as_slice(), entries, needed)
+            fill(shown.as_slice(), entries, needed)
         }
         Err(error) => status_for(error),
     }
@@ -117,9 +117,9 @@ pub extern "C" fn numatrace_pagemap(
     let Some(kept) = session.take(alloc) else {
         return status::BAD_ARGUMENT;
     };
-    let told = pagemap(alloc, &kept, pid, entries, needed);
+    let answer = pagemap(alloc, &kept, pid, entries, needed);
     session.put(kept);
-    told
+    answer
 }
 
 /// A text of lines, each with a line feed at its end.
@@ -134,7 +134,7 @@ fn text_of(alloc: Global, lines: &[String]) -> Result<Vec<u8>, AllocError>
     Ok(text)
 }
 
-/// Tells the areas of a process as text.
+/// Writes the areas of a process as text.
 fn numa_maps(
     alloc: Global,
     kept: &OpenSession,
@@ -149,7 +149,7 @@ fn numa_maps(
             let Ok(shown) = text_of(alloc, list.as_slice()) else {
                 return status::NO_MEMORY;
             };
-            tell(shown.as_slice(), text, needed)
+            fill(shown.as_slice(), text, needed)
         }
         Err(error) => status_for(error),
     }
@@ -172,9 +172,9 @@ pub extern "C" fn numatrace_numa_maps(
     let Some(kept) = session.take(alloc) else {
         return status::BAD_ARGUMENT;
     };
-    let told = numa_maps(alloc, &kept, pid, text, needed);
+    let answer = numa_maps(alloc, &kept, pid, text, needed);
     session.put(kept);
-    told
+    answer
 }
 
 /// Writes how many pages have moved, and how many entries have failed: `System::vmstat`.

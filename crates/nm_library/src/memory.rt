@@ -41,9 +41,9 @@ pub extern "C" fn numatrace_read(
     let Some(mut kept) = session.take(alloc) else {
         return status::BAD_ARGUMENT;
     };
-    let told = read(&mut kept, pid, addr, room);
+    let answer = read(&mut kept, pid, addr, room);
     session.put(kept);
-    told
+    answer
 }
 
 /// Writes bytes.
@@ -70,9 +70,9 @@ pub extern "C" fn numatrace_write(
     let Some(mut kept) = session.take(alloc) else {
         return status::BAD_ARGUMENT;
     };
-    let told = write(&mut kept, pid, addr, bytes);
+    let answer = write(&mut kept, pid, addr, bytes);
     session.put(kept);
-    told
+    answer
 }
 
 /// Adds a pin to the page at an address: `System::pin`.

@@ -139,9 +139,9 @@ pub extern "C" fn numatrace_move_pages(
     let Some(mut kept) = session.take(alloc) else {
         return status::BAD_ARGUMENT;
     };
-    let told = move_listed(alloc, &mut kept, asking, pages, nodes, statuses, failed);
+    let answer = move_listed(alloc, &mut kept, asking, pages, nodes, statuses, failed);
     session.put(kept);
-    told
+    answer
 }
 
 /// Asks where pages are.
@@ -196,9 +196,9 @@ pub extern "C" fn numatrace_query(
     let Some(kept) = session.take(alloc) else {
         return status::BAD_ARGUMENT;
     };
-    let told = query(alloc, &kept, asking, pages, statuses);
+    let answer = query(alloc, &kept, asking, pages, statuses);
     session.put(kept);
-    told
+    answer
 }
 
 /// Moves pages from nodes to nodes, and writes how many failed.
@@ -242,9 +242,9 @@ pub extern "C" fn numatrace_migrate_pages(
         old: mask_of(old_nodes),
         new: mask_of(new_nodes),
     };
-    let told = migrate(&mut kept, &request, failed);
+    let answer = migrate(&mut kept, &request, failed);
     session.put(kept);
-    told
+    answer
 }
 
 /// Sets the policy of a range: `System::mbind`.

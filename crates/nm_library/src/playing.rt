@@ -6,7 +6,7 @@ ghost use Rattle.nm_steps.specs.Faults.{trace_of};
 ghost use Rattle.nm_trace.specs.definitions.Session.{session_of as session_of};
 
 use crate::handle::OpenSession;
-use crate::rooms::tell;
+use crate::rooms::fill;
 use crate::status;
 use nm_crew::Alone;
 use nm_trace::{Session, TraceError, WatchedStream, run_trace};
@@ -48,7 +48,7 @@ pub fn step(alloc: Global, kept: &mut OpenSession, step: &[u8]) -> Result<(), Tr
 }
 
 /// Makes a step, keeps its lines, and writes them.
-pub fn step_told(
+pub fn write_step(
     alloc: Global,
     kept: &mut OpenSession,
     bytes: &[u8],
@@ -58,7 +58,7 @@ pub fn step_told(
     ensures { MakesSteps bytes.now lines.old lines.new needed.old needed.new result kept.old kept.new }
 {
     match step(alloc, kept, bytes) {
-        Ok(()) => tell(kept.lines.as_slice(), lines, needed),
+        Ok(()) => fill(kept.lines.as_slice(), lines, needed),
         Err(fault) => status::status_of(fault),
     }
 }

@@ -84,9 +84,9 @@ pub extern "C" fn numatrace_map(
         pages,
         shared,
     };
-    let told = map(&mut kept, &area, segment);
+    let answer = map(&mut kept, &area, segment);
     session.put(kept);
-    told
+    answer
 }
 
 /// Makes an area over a range of a shared segment: `System::attach`.

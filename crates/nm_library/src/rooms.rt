@@ -15,7 +15,7 @@ pub fn put<T: Copy>(items: &[T], room: &mut [T])
 }
 
 /// Copies a list to the front of a room, if it fits, and its length to `needed`.
-pub fn tell<T: Copy>(items: &[T], room: &mut [T], needed: &mut usize) -> i32
+pub fn fill<T: Copy>(items: &[T], room: &mut [T], needed: &mut usize) -> i32
     ensures { FillsRoom items.now result room.old room.new needed.new }
 {
     *needed = items.len();

@@ -1,5 +1,5 @@
 //! A batch of pages to move: whether they may go to their nodes, and its runs, one after another, with the accesses
-//! made meanwhile.
+//! during them.
 
 #![tactic(auto, using(crate::proofs::Trails::first_state))]
 
@@ -53,7 +53,7 @@ pub fn run_count(nodes: &[u32], limit: usize) -> usize
 }
 
 /// Makes runs one after another, with a crew that copies their pages, and puts the statuses into a list that has room
-/// for them. The accesses are made meanwhile, each in the run with its number. Allocates before the first run starts,
+/// for them. Each access is made during the run with its number. Allocates before the first run starts,
 /// except for what a run itself needs. An error means that the host is out of memory, and says after how many runs; no
 /// runs and no accesses take none.
 pub fn move_runs<A: Allocator + Copy + Send + Sync, C: RunCrew<A>>(
@@ -73,7 +73,7 @@ pub fn move_runs<A: Allocator + Copy + Send + Sync, C: RunCrew<A>>(
     ensures allocates { OnErr result (0 < length runs.now + length during.now) }
 {
     let accesses = by_run(alloc, during, runs.len())?;
-    let mut told = Vec::with_capacity(alloc, runs.len())?;
+    let mut answers_left = Vec::with_capacity(alloc, runs.len())?;
     let answers = Vec::with_capacity(alloc, during.len())?;
     let mut failed = 0;
     for (k, run) in runs.iter().enumerate() {
@@ -87,12 +87,12 @@ pub fn move_runs<A: Allocator + Copy + Send + Sync, C: RunCrew<A>>(
             .extend_from_slice(landed.statuses.as_slice())
             .unwrap();
         failed += landed.failed;
-        told.push_reserved(landed.answers.into_iter());
+        answers_left.push_reserved(landed.answers.into_iter());
     }
     Ok(Moved {
         failed,
         statuses,
-        answers: in_order(during, told, answers),
+        answers: in_order(during, answers_left, answers),
     })
 }
 
@@ -163,16 +163,16 @@ pub(crate) fn by_run<'d, A: Allocator + Copy + Send + Sync>(
 /// of the accesses.
 pub(crate) fn in_order<A: Allocator + Copy + Send + Sync>(
     during: &[InFlight<A>],
-    mut told: Vec<vec::IntoIter<AccessAnswer<A>, A>, A>,
+    mut answers_left: Vec<vec::IntoIter<AccessAnswer<A>, A>, A>,
     mut answers: Vec<AccessAnswer<A>, A>,
 ) -> Vec<AccessAnswer<A>, A>
     requires empty { answers.items ≡ [] }
     requires room { length during.now ≤ vec_capacity answers }
     ensures { map answer_shown result.items
-        ≡ answers_in_order (keys_of (shown_during during.now)) (map left_shown told.items) }
+        ≡ answers_in_order (keys_of (shown_during during.now)) (map left_shown answers_left.items) }
 {
     for asked in during {
-        if let Some(left) = told.get_mut(asked.run) {
+        if let Some(left) = answers_left.get_mut(asked.run) {
             if let Some(answer) = left.next() {
                 answers.push_reserved(answer);
             }

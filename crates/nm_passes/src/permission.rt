@@ -46,22 +46,22 @@ pub fn owner_of(caller: Pid, pid: Pid) -> Pid
 
 /// What `spawn` fixed of a process, if another may act on its pages. Errors, in order: ESRCH (no such process); EPERM
 /// (it has another user, and the caller is not privileged).
-pub fn acted_on(asking: ProcessInfo, asked: Option<ProcessInfo>) -> Result<ProcessInfo, Errno>
-    ensures exact { Checks result (right_refusal asking asked) }
-    ensures allocates { IfOk result (λ info. asked ≡ Some info) }
+pub fn acted_on(caller: ProcessInfo, owner: Option<ProcessInfo>) -> Result<ProcessInfo, Errno>
+    ensures exact { Checks result (right_refusal caller owner) }
+    ensures info { IfOk result (λ info. owner ≡ Some info) }
 {
     let ProcessInfo {
         uid,
         privileged,
         ..
-    } = asking;
-    let Some(asked) = asked else {
+    } = caller;
+    let Some(owner) = owner else {
         return Err(Errno::Esrch);
     };
-    if uid != asked.uid && !privileged {
+    if uid != owner.uid && !privileged {
         return Err(Errno::Eperm);
     }
-    Ok(asked)
+    Ok(owner)
 }
 
 /// Whether a set has a node that the machine does not have.
@@ -104,15 +104,15 @@ pub fn permit_of<A: Allocator + Copy + Send + Sync>(
     ensures allowed { IfOk result
         (λ permit. allowed_at machine.now (owner_of caller pid) ≡ Some permit.allowed) }
 {
-    let Some(asking) = machine.spaces().info(caller) else {
+    let Some(caller_info) = machine.spaces().info(caller) else {
         return Err(Errno::Esrch);
     };
-    let all = asks_all(flags, asking.privileged)?;
+    let all = asks_all(flags, caller_info.privileged)?;
     let owner = owner_of(caller, pid);
-    let asked = acted_on(asking, machine.spaces().info(owner))?;
+    let info = acted_on(caller_info, machine.spaces().info(owner))?;
     Ok(Permit {
         pid: owner,
-        allowed: asked.allowed,
+        allowed: info.allowed,
         all,
     })
 }

@@ -79,7 +79,7 @@ pub struct MoveRequest<A: Allocator + Copy + Send + Sync> {
     pub batch: Batch<A>,
     /// The flags by their bits: MPOL_MF_MOVE is 2, MPOL_MF_MOVE_ALL is 4.
     pub flags: u32,
-    /// The accesses to make meanwhile: those of one run are made one after another, in the order of this list.
+    /// The accesses during its runs: those of one run are made one after another, in the order of this list.
     pub during: Vec<InFlight<A>, A>,
 }
 

@@ -12,7 +12,7 @@ use Rattle.nm_steps.specs.declared.step_error.StepError.{StepError}
 use Rattle.nm_steps.specs.Gives.{FailsStep, GivesStep}
 use Rattle.nm_steps.specs.Tree.{items_seen}
 use Rattle.nm_steps.specs.Form.{◌>>=◌, below, each, u64_of, number_at, numbers_at, number_below, small_numbers_at, items_at, batch_of, during_of, limit_of, machine_of, row_of}
-use Rattle.nm_steps.specs.Memory.{has_items, holds, begins, begins_at, batch_starts, flight_asks, row_asks, machine_takes_memory, starts, starts_at, step_asks, steps_take_memory}
+use Rattle.nm_steps.specs.Memory.{has_items, holds, begins, begins_at, batch_starts, flight_allocates, row_allocates, machine_takes_memory, starts, starts_at, step_allocates, steps_take_memory}
 
 -- an error that a question mark hands on is that of the call
 pub handed_on : {X Y E : Type 0} (r : Result X E) (called : Result Y E) (e f : E) → IsErr r × IsErrAnd r (λ x. x ≡ e) → called ≡ Err e → r ≡ Err f → called ≡ Err f
@@ -67,15 +67,15 @@ module _ {V : Type 0} (view : V → Data) (vs : List V) where
   begins_listed such o is first = rw is first
 
   -- these values are the rows of a machine
-  pub has_rows : (d m : Data) (sizes : List ℕ) → get (codes "machine") d ≡ Some m → small_numbers_at (codes "nodes") m ≡ Some sizes → items_at (codes "distance") m ≡ Some (items_seen view vs) → begins row_asks (items_seen view vs) ≡ true
+  pub has_rows : (d m : Data) (sizes : List ℕ) → get (codes "machine") d ≡ Some m → small_numbers_at (codes "nodes") m ≡ Some sizes → items_at (codes "distance") m ≡ Some (items_seen view vs) → begins row_allocates (items_seen view vs) ≡ true
       → machine_takes_memory d ≡ true
   has_rows d m sizes machine nodes is first =
-      rw (machine, machine_takes_memory) (or_right (starts_at (number_below (2 ^ 32)) (items_at (codes "nodes") m)) _ (and_both _ _ (is_there _ sizes nodes) (begins_listed row_asks _ is first)))
+      rw (machine, machine_takes_memory) (or_right (starts_at (number_below (2 ^ 32)) (items_at (codes "nodes") m)) _ (and_both _ _ (is_there _ sizes nodes) (begins_listed row_allocates _ is first)))
 
   -- these values are the steps of a trace
-  pub steps_begin : (d : Data) (limit : ℕ) → limit_of d ≡ Some limit → items_at (codes "steps") d ≡ Some (items_seen view vs) → begins (step_asks limit) (items_seen view vs) ≡ true → steps_take_memory d ≡ true
+  pub steps_begin : (d : Data) (limit : ℕ) → limit_of d ≡ Some limit → items_at (codes "steps") d ≡ Some (items_seen view vs) → begins (step_allocates limit) (items_seen view vs) ≡ true → steps_take_memory d ≡ true
   steps_begin d limit read is first =
-      ap (λ o. holds (option_map (λ n. begins_at (step_asks n) (items_at (codes "steps") d)) o)) read ∙ begins_listed (step_asks limit) _ is first
+      ap (λ o. holds (option_map (λ n. begins_at (step_allocates n) (items_at (codes "steps") d)) o)) read ∙ begins_listed (step_allocates limit) _ is first
 
 -- the nodes of a machine begin with a number
 pub has_sizes : (d m : Data) → get (codes "machine") d ≡ Some m → starts_at (number_below (2 ^ 32)) (items_at (codes "nodes") m) ≡ true → machine_takes_memory d ≡ true
@@ -124,22 +124,22 @@ none_below None = refl
 none_below (Some n) = rw (le-ltb n 0 (omega arith)) refl
 
 -- without runs there is no access in flight
-no_flight : (d : Data) → flight_asks 0 d ≡ false
+no_flight : (d : Data) → flight_allocates 0 d ≡ false
 unfolding during_of
 no_flight d = rw (none_below (number_at (codes "run") d)) refl
 
-no_flights : (o : Option Items) → begins_at (flight_asks 0) o ≡ true → ⊥
+no_flights : (o : Option Items) → begins_at (flight_allocates 0) o ≡ true → ⊥
 no_flights None is = absurd (cc)
 no_flights (Some no_items) is = absurd (cc)
 no_flights (Some (item d ds)) is =
     let none = no_flight d in absurd (cc)
 
-some_runs : (limit : ℕ) (nodes : List ℕ) (o : Option Items) → begins_at (flight_asks (run_count limit nodes)) o ≡ true → 0 < length nodes
+some_runs : (limit : ℕ) (nodes : List ℕ) (o : Option Items) → begins_at (flight_allocates (run_count limit nodes)) o ≡ true → 0 < length nodes
 some_runs limit [] o is = absurd (no_flights o is)
 some_runs limit (n ∷ ns) o is = omega arith
 
 -- a batch with an access in flight begins with a page
-pub batch_begins : (limit : ℕ) (d : Data) (batch : List ℕ × List ℕ) (o : Option Items) → batch_of d ≡ Some batch → length batch.0 ≡ length batch.1 → begins_at (flight_asks (run_count limit batch.1)) o ≡ true
+pub batch_begins : (limit : ℕ) (d : Data) (batch : List ℕ × List ℕ) (o : Option Items) → batch_of d ≡ Some batch → length batch.0 ≡ length batch.1 → begins_at (flight_allocates (run_count limit batch.1)) o ≡ true
     → batch_starts d ≡ true
 unfolding batch_of
 batch_begins limit d batch o is paired first =

@@ -82,8 +82,8 @@ takes_memory op d =
 -- ---- items of lists: those that are read, and those whose reading takes memory
 
 -- whether it is a row that is read, or one up to its first number
-abbrev pub row_asks : Data → Bool
-row_asks d = is_some (row_of d) || starts_at (number_below (2 ^ 8)) (as_array d)
+abbrev pub row_allocates : Data → Bool
+row_allocates d = is_some (row_of d) || starts_at (number_below (2 ^ 8)) (as_array d)
 
 -- whether something is there, and true
 abbrev pub holds : Option Bool → Bool
@@ -95,14 +95,14 @@ abbrev pub names_run : ℕ → Data → Bool
 names_run runs d = is_some (number_at (codes "run") d >>= below runs)
 
 -- whether it is an access in flight that is read, or one up to its bytes
-abbrev pub flight_asks : ℕ → Data → Bool
-flight_asks runs d =
+abbrev pub flight_allocates : ℕ → Data → Bool
+flight_allocates runs d =
     is_some (during_of runs d)
     || (names_run runs d && holds (option_map (λ op. access_takes_memory op d) (text_at (codes "op") d)))
 
 -- whether it is a step that is read, or one up to what takes memory
-abbrev pub step_asks : ℕ → Data → Bool
-step_asks limit d =
+abbrev pub step_allocates : ℕ → Data → Bool
+step_allocates limit d =
     is_some (step_of limit d) || holds (option_map (λ op. takes_memory op d) (text_at (codes "op") d))
 
 -- ---- traces
@@ -114,9 +114,9 @@ machine_takes_memory d =
       | None ↦ false
       | Some m ↦
           starts_at (number_below (2 ^ 32)) (items_at (codes "nodes") m)
-          || (is_some (small_numbers_at (codes "nodes") m) && begins_at row_asks (items_at (codes "distance") m))
+          || (is_some (small_numbers_at (codes "nodes") m) && begins_at row_allocates (items_at (codes "distance") m))
     ]
 
 -- whether a trace's limit is read, and its steps begin with one that is read, or one up to what takes memory
 abbrev pub steps_take_memory : Data → Bool
-steps_take_memory d = holds (option_map (λ limit. begins_at (step_asks limit) (items_at (codes "steps") d)) (limit_of d))
+steps_take_memory d = holds (option_map (λ limit. begins_at (step_allocates limit) (items_at (codes "steps") d)) (limit_of d))

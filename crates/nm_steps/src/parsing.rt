@@ -8,7 +8,7 @@ ghost use Rattle.nm_steps.specs.Form.{small_at, place_at};
 ghost use Rattle.nm_steps.specs.Form as form;
 ghost use Rattle.nm_requests.specs.Views.{call_of, shown_during};
 ghost use Rattle.nm_steps.specs.Gives.{GivesStep};
-ghost use Rattle.nm_steps.specs.Memory.{takes_memory, access_takes_memory, batch_starts, begins, begins_at, flight_asks, move_takes_memory, names_run, query_takes_memory, write_has_pairs};
+ghost use Rattle.nm_steps.specs.Memory.{takes_memory, access_takes_memory, batch_starts, begins, begins_at, flight_allocates, move_takes_memory, names_run, query_takes_memory, write_has_pairs};
 ghost use Rattle.nm_steps.specs.declared.step_error.StepError.TheVariants.{Bad, Memory};
 
 use crate::json_value::JsonValue;
@@ -120,7 +120,7 @@ fn flights_of<A: Allocator + Copy + Send + Sync, V: JsonValue>(
     ensures flights { GivesStep (λ v. shown_during v.items) result
         (form.each (form.during_of runs) (items_seen V.as_data values.now)) }
     ensures allocates { result ≡ Err Memory →
-        begins (flight_asks runs) (items_seen V.as_data values.now) ≡ true }
+        begins (flight_allocates runs) (items_seen V.as_data values.now) ≡ true }
 {
     let mut flights = Vec::new(alloc);
     for value in values {
@@ -139,7 +139,7 @@ fn flights_at<A: Allocator + Copy + Send + Sync, V: JsonValue>(
     ensures flights { GivesStep (λ v. shown_during v.items) result
         (form.during_at runs (V.as_data value.now)) }
     ensures allocates { result ≡ Err Memory →
-        begins_at (flight_asks runs) (form.items_at (codes "during") (V.as_data value.now)) ≡ true }
+        begins_at (flight_allocates runs) (form.items_at (codes "during") (V.as_data value.now)) ≡ true }
 {
     match value.get("during") {
         None => Ok(Vec::new(alloc)),

@@ -15,7 +15,7 @@ ghost use Rattle.nm_steps.specs.Plans.{contents_of};
 ghost use Rattle.nm_steps.specs.declared.trace_error.TraceError.TheVariants.{NotJson, BadMachine, HostMemory};
 ghost use Rattle.nm_steps.specs.declared.step_error.StepError.TheVariants.{Bad, Memory};
 ghost use Rattle.nm_steps.specs.Gives as of_step;
-ghost use Rattle.nm_steps.specs.Memory.{IsSomeText, NeedsMemory, begins, has_items, machine_takes_memory, row_asks, starts, starts_at, step_asks, steps_take_memory};
+ghost use Rattle.nm_steps.specs.Memory.{IsSomeText, NeedsMemory, begins, has_items, machine_takes_memory, row_allocates, starts, starts_at, step_allocates, steps_take_memory};
 ghost use Rattle.serde_json.specs.Find.{as_array};
 
 use crate::json_value::JsonValue;
@@ -79,7 +79,7 @@ fn rows_of<A: Allocator + Copy, V: JsonValue>(
         (form.each form.row_of (items_seen V.as_data values.now)) }
     ensures allocates { result ≡ Err Memory → 0 < length values.now }
     ensures first { result ≡ Err Memory →
-        begins row_asks (items_seen V.as_data values.now) ≡ true }
+        begins row_allocates (items_seen V.as_data values.now) ≡ true }
 {
     let mut rows = Vec::new(alloc);
     for value in values {
@@ -160,7 +160,7 @@ fn calls_of<A: Allocator + Copy + Send + Sync, V: JsonValue>(
         (faults.calls_of limit (items_seen V.as_data values.now)) }
     ensures allocates { result ≡ Err (HostMemory 0) → 0 < length values.now }
     ensures first { result ≡ Err (HostMemory 0) →
-        begins (step_asks limit) (items_seen V.as_data values.now) ≡ true }
+        begins (step_allocates limit) (items_seen V.as_data values.now) ≡ true }
 {
     let mut calls = Vec::new(alloc);
     for (k, value) in values.iter().enumerate() {

@@ -66,9 +66,9 @@ stops_limit y call t stops =
     ]
 
 -- a call that stopped, or was made
-pub told_limit : (y : SystemState) (call : Call) (t : SystemState) → StopsIn y call t ⊎ (t ≡ (outcome y call).system) → t.run_limit ≡ y.run_limit
-told_limit y call t (inl stops) = stops_limit y call t stops
-told_limit y call t (inr made) = ap (λ (u : SystemState). u.run_limit) made ∙ outcome_limit y call
+pub step_limit : (y : SystemState) (call : Call) (t : SystemState) → StopsIn y call t ⊎ (t ≡ (outcome y call).system) → t.run_limit ≡ y.run_limit
+step_limit y call t (inl stops) = stops_limit y call t stops
+step_limit y call t (inr made) = ap (λ (u : SystemState). u.run_limit) made ∙ outcome_limit y call
 
 -- ---- steps
 
@@ -87,16 +87,16 @@ text_of_memory room bytes needs = (needs.0, needs_some room bytes needs.1)
 
 -- .. and so are those for whose value memory is refused
 pub value_memory : (room n : ℕ) (bytes : List ℕ) (e : TraceError) → e ≡ HostMemory n → (e ≡ NotJson) ⊎ (e ≡ HostMemory 0) → (e ≡ HostMemory 0 → (is_utf8 bytes ≡ true) × NeedsMemory room bytes) → IsSomeText bytes
-value_memory room n bytes e is (inl bad) told = absurd (cc)
-value_memory room n bytes e is (inr memory) told = text_of_memory room bytes (told memory)
+value_memory room n bytes e is (inl bad) is_so = absurd (cc)
+value_memory room n bytes e is (inr memory) is_so = text_of_memory room bytes (is_so memory)
 
 -- a call that is not counted
 pub stopped : (x y : SessionState) (t : SystemState) (bytes : List ℕ) (call : Call) → x ≡ y → next_call x bytes ≡ Ok call
     → StopsIn x.system call t ⊎ (t ≡ (outcome x.system call).system)
     → (x.steps ≡ y.steps) × StopsShort y bytes (record { system = t; steps = x.steps })
-stopped x y t bytes call is h told =
+stopped x y t bytes call is h is_so =
     subst (λ (z : SessionState). (x.steps ≡ z.steps) × StopsShort z bytes (record { system = t; steps = x.steps })) is
-    (refl, (refl, inr (call, h, told)))
+    (refl, (refl, inr (call, h, is_so)))
 
 -- a call that is made is a step
 pub stepped : (x y : SessionState) (t : SystemState) (bytes lines : List ℕ) (call : Call) → x ≡ y → next_call x bytes ≡ Ok call → lines ≡ next_lines x call

@@ -25,7 +25,7 @@ const STATUSES: &str =
 /// How many workers the words ask for: 1 to 64 with `--workers`, and 4 if it is not given. Any other word is refused.
 pub fn read_words(heap: Global, words: &[String]) -> Result<usize, Error>
     ensures within { IfOk result (λ workers. (0 < workers) × (workers ≤ 64)) }
-    ensures allocates { IfOk result (λ workers. workers ≡ workers_asked (map string_bytes words.now)) }
+    ensures number { IfOk result (λ workers. workers ≡ workers_asked (map string_bytes words.now)) }
     ensures refused { FailsBy (refusals_of (map string_bytes words.now)) result }
 {
     let workers = Arg::new(heap, "workers")

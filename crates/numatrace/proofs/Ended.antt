@@ -8,10 +8,10 @@ use Rattle.nm_steps.specs.declared.trace_error.TraceError.TheVariants.{NotJson, 
 use Rattle.numatrace.specs.Status.{RunsTrace, WritesText, status_of}
 
 -- what was written whole, or not since the writer failed
-pub tells : {X F : Type 0} (old new : Option (List ℕ)) (before failed : Bool) (text : List ℕ) (r : Result X F)
+pub prints : {X F : Type 0} (old new : Option (List ℕ)) (before failed : Bool) (text : List ℕ) (r : Result X F)
     → OnOk r (Appends old new text) → failed ≡ (is_err r || before) → WritesText old new failed text
-tells old new before failed text (Ok done) whole told = inl whole
-tells old new before failed text (Err e) whole told = inr told
+prints old new before failed text (Ok done) whole printed = inl whole
+prints old new before failed text (Err e) whole printed = inr printed
 
 -- a run after words that are refused for no cause
 pub run_after : {R W E : Type 0} (remaining : R → Option (List ℕ)) (read_failed : R → Bool) (gave : R → R → ℕ → Type 0)

@@ -53,20 +53,20 @@ abbrev pub WritesText : Option (List ℕ) → Option (List ℕ) → Bool → Lis
 WritesText old new failed text = Appends old new text ⊎ (failed ≡ true)
 
 -- why words were refused; clap has texts of its own for all causes but lack of memory
-abbrev pub TellsRefusal : ParseKind → Option (List ℕ) → Option (List ℕ) → Bool → Type 0
-TellsRefusal parse.OutOfMemory old new failed = WritesText old new failed memory_line
-TellsRefusal kind old new failed = Unit {0}
+abbrev pub PrintsRefusal : ParseKind → Option (List ℕ) → Option (List ℕ) → Bool → Type 0
+PrintsRefusal parse.OutOfMemory old new failed = WritesText old new failed memory_line
+PrintsRefusal kind old new failed = Unit {0}
 
 -- ---- how the program ends, with a status, after words that are refused for some causes: what it leaves of the reader of the trace,
 -- the writer of the report and that of faults
 
 -- the words are refused for one of the causes, or the host has no memory for them: nothing is read and no report is written
-pub record RefusesWords {R W E : Type 0} (told : E → Option (List ℕ)) (telling_failed : E → Bool) (refusals : Kinds) (status : ℕ)
+pub record RefusesWords {R W E : Type 0} (printed : E → Option (List ℕ)) (printing_failed : E → Bool) (refusals : Kinds) (status : ℕ)
     (r s : R) (w v : W) (e f : E) : Type 0 where
   pub kind : ParseKind
   pub cause : (kind ≡ parse.OutOfMemory) ⊎ IsAmong kind refusals
   pub ends : status ≡ refused_status kind
-  pub tells : TellsRefusal kind (told e) (told f) (telling_failed f)
+  pub prints : PrintsRefusal kind (printed e) (printed f) (printing_failed f)
   pub unread : s ≡ r
   pub unwritten : v ≡ w
 
@@ -85,6 +85,6 @@ pub record RunsTrace {R W E : Type 0} (remaining : R → Option (List ℕ)) (rea
 -- one of these
 abbrev pub Ends : {R W E : Type 0} → (R → Option (List ℕ)) → (R → Bool) → (R → R → ℕ → Type 0) → (W → Option (List ℕ)) → (W → Bool)
     → (E → Option (List ℕ)) → (E → Bool) → Kinds → ℕ → R → R → W → W → E → E → Type 0
-Ends remaining read_failed gave contents write_failed told telling_failed refusals status r s w v e f =
-    RefusesWords told telling_failed refusals status r s w v e f
+Ends remaining read_failed gave contents write_failed printed printing_failed refusals status r s w v e f =
+    RefusesWords printed printing_failed refusals status r s w v e f
     ⊎ RunsTrace remaining read_failed gave contents write_failed refusals status r s w v e f

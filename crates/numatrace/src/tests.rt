@@ -116,7 +116,7 @@ fn run<A: Allocator + Copy + Send + Sync, C: RunCrew<A> + Drop, H: FnOnce(usize)
 
 /// Only a lack of memory is reported as such; `tests/hostile.py` has a word that is not UTF-8.
 #[test]
-fn tells_why_words_are_unread(rt: HostRuntime) -> Result<(), Fail> {
+fn prints_why_words_are_unread(rt: HostRuntime) -> Result<(), Fail> {
     let mut err = Vec::new(rt.alloc());
     let status = unread_words(ErrorKind::OutOfMemory, &mut err);
     assert!(rt;
@@ -137,22 +137,22 @@ fn is_write_fault(global: Global, most: usize, fails: bool) -> Result<bool, Allo
     };
     let _work: PhantomData<(CopyJob<Global>, AddressSpaces<Global>)> = PhantomData;
     let (status, err) = run(|_: usize| -> Alone { Alone }, global, global, &mut out)?;
-    let told = status == 4 && err.as_slice() == b"numatrace: write fault\n".as_slice();
-    Ok(told && out.is_front && out.taken == most)
+    let printed = status == 4 && err.as_slice() == b"numatrace: write fault\n".as_slice();
+    Ok(printed && out.is_front && out.taken == most)
 }
 
 #[test]
 fn fails_with_its_writer(rt: HostRuntime) -> Result<(), Fail> {
     for most in 0..REPORT.len() {
-        let told = is_write_fault(rt.alloc(), most, true)?
+        let printed = is_write_fault(rt.alloc(), most, true)?
             && is_write_fault(rt.alloc(), most, false)?;
-        assert!(rt; told, "after {most} bytes");
+        assert!(rt; printed, "after {most} bytes");
     }
     Ok(())
 }
 
 /// Words, and the number of workers that they ask for.
-const ASKED: [(&str, usize); 3] = [
+const WORDS: [(&str, usize); 3] = [
     ("numatrace", 4),
     ("numatrace --workers=2", 2),
     ("numatrace --workers 64", 64),
@@ -176,13 +176,13 @@ fn workers_hired(global: Global, text: &str) -> Result<Option<usize>, AllocError
         &mut written,
         &mut WatchedStream::new(Vec::new(global)),
     );
-    let told = status == 0 && written.get_ref().as_slice() == REPORT.as_bytes();
-    Ok(told.then_some(hired.load(Ordering::SeqCst)))
+    let printed = status == 0 && written.get_ref().as_slice() == REPORT.as_bytes();
+    Ok(printed.then_some(hired.load(Ordering::SeqCst)))
 }
 
 #[test]
 fn as_many_workers_as_asked(rt: HostRuntime) -> Result<(), Fail> {
-    for (text, workers) in ASKED {
+    for (text, workers) in WORDS {
         assert!(rt;
             workers_hired(rt.alloc(), text)? == Some(workers),
             "at {text}"
@@ -193,12 +193,12 @@ fn as_many_workers_as_asked(rt: HostRuntime) -> Result<(), Fail> {
 
 /// Whether a run that may have met a refusal reported it, after the lines of as many steps. A step that only looks may
 /// have managed with less memory, and then the report is whole.
-fn is_told(status: u8, err: &[u8], out: &Narrow) -> bool {
+fn is_reported(status: u8, err: &[u8], out: &Narrow) -> bool {
     let mut text = *b"numatrace: host memory refused after 0 steps\n";
     text[37] = text[37].wrapping_add(out.lines); // the 0 before "steps"
-    let told = status == 3 && err == text.as_slice();
+    let printed = status == 3 && err == text.as_slice();
     let whole = status == 0 && out.taken == REPORT.len();
-    out.is_front && (told || whole)
+    out.is_front && (printed || whole)
 }
 
 /// Runs the program on the trace while the allocation with this number is refused. Returns whether it reached that
@@ -224,16 +224,16 @@ fn run_refused<R: Threads + Wait>(
     { Hired::new(rt, workers) };
     let (status, err) = run(hire, heap, global, &mut out)?;
     let met = heap.asked_since(number) >= number;
-    Ok((met, is_told(status, err.as_slice(), &out)))
+    Ok((met, is_reported(status, err.as_slice(), &out)))
 }
 
 #[test]
-fn tells_of_refused_memory(rt: HostRuntime) -> Result<(), Fail> {
+fn prints_refused_memory(rt: HostRuntime) -> Result<(), Fail> {
     let heap = Refusing::new(rt.alloc());
     let mut refused = 0u64;
     for number in 1..10_000u64 {
-        let (met, told) = run_refused(&rt, rt.alloc(), &heap, number)?;
-        assert!(rt; told, "allocation {number}");
+        let (met, printed) = run_refused(&rt, rt.alloc(), &heap, number)?;
+        assert!(rt; printed, "allocation {number}");
         if !met {
             refused = number - 1;
             break;

@@ -3,7 +3,7 @@
 ghost use Rattle.std.specs.Prelude.{◌≡◌, ◌<◌, ◌≤◌, ℕ, [], OnOk, map, string_bytes};
 ghost use Rattle.std.specs.Io.KnownBytes.{Appends};
 ghost use Rattle.clap.specs.Words.{kind_of};
-ghost use Rattle.numatrace.specs.Status.{status_of, words_status, words_text, refused_status, Ends, RunsTrace, TellsRefusal};
+ghost use Rattle.numatrace.specs.Status.{status_of, words_status, words_text, refused_status, Ends, RunsTrace, PrintsRefusal};
 ghost use Rattle.nm_words.specs.Words.{refusals_of};
 
 use clap::Error;
@@ -55,8 +55,8 @@ fn refused_words(kind: ErrorKind) -> u8
 }
 
 /// Writes why words were refused, in one line or in clap's own text. A fault of `err` is not reported.
-fn tell_refusal<E: ReportingWriter>(error: &Error, err: &mut E)
-    ensures { TellsRefusal (kind_of error.now) (E.contents err.old) (E.contents err.new) (E.has_failed err.new) }
+fn print_refusal<E: ReportingWriter>(error: &Error, err: &mut E)
+    ensures { PrintsRefusal (kind_of error.now) (E.contents err.old) (E.contents err.new) (E.has_failed err.new) }
 {
     if matches!(error.kind(), ErrorKind::OutOfMemory) {
         let _ = write_lines(err, b"numatrace: host memory refused after 0 steps\n");
@@ -76,7 +76,7 @@ fn words_text(kind: io::ErrorKind) -> &'static str
 }
 
 /// Writes in one line why the program's words could not be read.
-fn tell_unread<E: Write>(kind: io::ErrorKind, err: &mut E) -> io::Result<()>
+fn print_unread<E: Write>(kind: io::ErrorKind, err: &mut E) -> io::Result<()>
     ensures { OnOk result (Appends (E.contents err.old) (E.contents err.new) (words_text kind)) }
 {
     let text = words_text(kind);
@@ -88,7 +88,7 @@ fn tell_unread<E: Write>(kind: io::ErrorKind, err: &mut E) -> io::Result<()>
 pub(crate) fn unread_words<E: Write>(kind: io::ErrorKind, err: &mut E) -> u8
     ensures { result ≡ words_status kind }
 {
-    let _ = tell_unread(kind, err);
+    let _ = print_unread(kind, err);
     if matches!(kind, io::ErrorKind::OutOfMemory) {
         return HOST_REFUSAL;
     }
@@ -136,7 +136,7 @@ pub(crate) fn run_words_by<
     let workers = match read_words(heap, words) {
         Ok(workers) => workers,
         Err(error) => {
-            tell_refusal(&error, err);
+            print_refusal(&error, err);
             return refused_words(error.kind());
         }
     };

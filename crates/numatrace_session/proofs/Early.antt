@@ -59,10 +59,10 @@ unreplied s t u a b c old new newer reader failed mid fails line Stream h is dro
 -- the replies could not be flushed
 pub unflushed : (s t : SessionState) (a c old new : Option (List ℕ)) (reader failed fails : Bool) (e : End) → RepliesToLines s t a c old new
     → e ≡ Stream → fails ≡ true → EndsEarly e s a c old new reader failed fails
-unflushed s t a c old new reader failed fails e h is told =
+unflushed s t a c old new reader failed fails e h is is_so =
     let whole = replies_to s h.0 in
     subst (λ (d : End). EndsEarly d s a c old new reader failed fails) (sym is)
-    (h.0, (c, h.1, none_beyond c), h.4, inr (whole, [], append-nil whole, h.3, told, replies_but_last s h.0, h.1))
+    (h.0, (c, h.1, none_beyond c), h.4, inr (whole, [], append-nil whole, h.3, is_so, replies_but_last s h.0, h.1))
 
 -- ---- from the first line on
 

@@ -67,9 +67,9 @@ ends_kept a b old new newer reader failed mid fails (Err end) h kept same =
 pub ends_lost : {X : Type 0} (a b old new newer : Option (List ℕ)) (reader failed mid fails : Bool) (result : Result X End)
     → OnOk result (Talks a b old new) → IfErr result (λ e. EndsTalk e a b old new reader failed mid) → Keeps new newer → fails ≡ true
     → EndsFlushed Stream a b old newer reader failed fails
-ends_lost a b old new newer reader failed mid fails (Ok done) talks early kept told = inr (told, inl (talks_kept {E = End} a b old new newer (Ok done) talks kept))
-ends_lost a b old new newer reader failed mid fails (Err end) talks early kept told =
-    inr (told, inr (end, mid, talk_kept end a b old new newer reader failed mid mid early kept refl))
+ends_lost a b old new newer reader failed mid fails (Ok done) talks early kept is_so = inr (is_so, inl (talks_kept {E = End} a b old new newer (Ok done) talks kept))
+ends_lost a b old new newer reader failed mid fails (Err end) talks early kept is_so =
+    inr (is_so, inr (end, mid, talk_kept end a b old new newer reader failed mid mid early kept refl))
 
 -- ---- the first line
 

@@ -36,7 +36,7 @@ status_of (Err HostMemory) = 3
 status_of (Err Stream) = 4
 
 -- the line on standard error; that of a bad top has the words of its fault
-abbrev pub IsTold : End → Option (List ℕ) → Option (List ℕ) → Type 0
-IsTold (BadTop fault) old new = Unit {0}
-IsTold HostMemory old new = Appends old new (codes "numatrace_session: host memory refused\n")
-IsTold Stream old new = Appends old new (codes "numatrace_session: a stream failed\n")
+abbrev pub IsPrinted : End → Option (List ℕ) → Option (List ℕ) → Type 0
+IsPrinted (BadTop fault) old new = Unit {0}
+IsPrinted HostMemory old new = Appends old new (codes "numatrace_session: host memory refused\n")
+IsPrinted Stream old new = Appends old new (codes "numatrace_session: a stream failed\n")

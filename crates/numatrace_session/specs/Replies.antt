@@ -44,10 +44,10 @@ Writes old new failed fails text (Err HostMemory) = ⊥
 Writes old new failed fails text (Err Stream) = BreaksOff old new text × (fails ≡ true)
 
 -- the reply to a fault is written; lack of memory is returned, and nothing is written
-abbrev pub TellsFault : TraceError → Option (List ℕ) → Option (List ℕ) → Bool → Bool → Result (Unit {0}) End → Type 0
-TellsFault (trace.HostMemory k) old new failed fails result =
+abbrev pub RepliesFault : TraceError → Option (List ℕ) → Option (List ℕ) → Bool → Bool → Result (Unit {0}) End → Type 0
+RepliesFault (trace.HostMemory k) old new failed fails result =
     (result ≡ Err HostMemory) × Appends old new [] × (fails ≡ failed)
-TellsFault fault old new failed fails result = Writes old new failed fails (fault_reply fault) result
+RepliesFault fault old new failed fails result = Writes old new failed fails (fault_reply fault) result
 
 -- the reply to a line is written, and its call made; if the host has no memory, nothing is written, and the call may
 -- have been made in part
@@ -169,7 +169,7 @@ EndsTalk Stream left left_then old new reader failed fails =
 abbrev pub IsUnflushed : Option (List ℕ) → Option (List ℕ) → Option (List ℕ) → Option (List ℕ) → Bool → Bool → Bool → Type 0
 IsUnflushed left left_then old new reader failed fails =
     (fails ≡ true) × (Talks left left_then old new
-    ⊎ ((end : End) × (told : Bool) × EndsTalk end left left_then old new reader failed told))
+    ⊎ ((end : End) × (fails_then : Bool) × EndsTalk end left left_then old new reader failed fails_then))
 
 -- a session ends early, and the replies that wait are flushed; or they could not be
 abbrev pub EndsFlushed : End → Option (List ℕ) → Option (List ℕ) → Option (List ℕ) → Option (List ℕ) → Bool → Bool → Bool → Type 0

@@ -14,9 +14,9 @@ ghost use Rattle.std.specs.Io.KnownBytes.{Consumes, IsAtEnd, Keeps};
 ghost use Rattle.std.specs.Io.Buffered.{reader_buffer, writer_buffer, writer_inner};
 ghost use Rattle.nm_steps.specs.Memory.{IsSomeText};
 ghost use Rattle.nm_steps.specs.declared.trace_error.TraceError.{TraceError};
-ghost use Rattle.numatrace_session.specs.Ends.{status_of, end_unopened, unread, Begins, IsTold};
+ghost use Rattle.numatrace_session.specs.Ends.{status_of, end_unopened, unread, Begins, IsPrinted};
 ghost use Rattle.numatrace_session.specs.Input.{has_read_failed, left_in};
-ghost use Rattle.numatrace_session.specs.Replies.{bad_step_reply, has_line, EndsEarly, EndsFlushed, EndsTalk, ReachesEnd, Replies, RepliesToLines, Talks, TellsFault, Writes};
+ghost use Rattle.numatrace_session.specs.Replies.{bad_step_reply, has_line, EndsEarly, EndsFlushed, EndsTalk, ReachesEnd, Replies, RepliesToLines, Talks, RepliesFault, Writes};
 
 use nm_crew::Alone;
 use nm_frames::CopyJob;
@@ -118,7 +118,7 @@ fn put_bad_step<W: ReportingWriter>(out: &mut W, step: usize) -> Result<(), End>
 /// Writes what is wrong with a line, and an empty line; nothing if its fault is lack of memory, which is returned.
 #[tactic(auto, using(nm_streams::proofs::Known::appends_none))]
 fn put_fault<W: ReportingWriter>(out: &mut W, fault: TraceError) -> Result<(), End>
-    ensures { TellsFault fault (W.contents out.old) (W.contents out.new)
+    ensures { RepliesFault fault (W.contents out.old) (W.contents out.new)
         (W.has_failed out.old) (W.has_failed out.new) result }
 {
     match fault {
@@ -320,8 +320,8 @@ fn status_of(ended: &Result<(), End>) -> u8
 }
 
 /// Writes in one line why a session ended before its input did.
-fn tell<E: Write>(end: &End, err: &mut E) -> io::Result<()>
-    ensures { OnOk result (IsTold end.now (E.contents err.old) (E.contents err.new)) }
+fn print_end<E: Write>(end: &End, err: &mut E) -> io::Result<()>
+    ensures { OnOk result (IsPrinted end.now (E.contents err.old) (E.contents err.new)) }
 {
     match end {
         End::BadTop(fault) => writeln!(err, "numatrace_session: {fault}"),
@@ -345,7 +345,7 @@ fn serve<T: Wait, R: Read + Drop, W: Write + Drop>(
 fn main(rt: HostRuntime) -> ExitCode {
     let ended = serve(&rt, rt.alloc(), rt.stdin(), rt.stdout());
     if let Err(end) = &ended {
-        let _ = tell(end, &mut rt.stderr());
+        let _ = print_end(end, &mut rt.stderr());
     }
     ExitCode::from(status_of(&ended))
 }

@@ -32,13 +32,13 @@ module _ (answers : List (List AccessAnswer)) where
       → list_at (slice_set left run (drop 1 (list_at left run))) k ≡ drop (count_by (λ r. r == k) (run ∷ before)) (list_at answers k)
   next_left before left run k true h is =
       let e : run ≡ k = eqb-true run k h in
-      let told = count_by (λ r. r == k) before in
-      let n : told + 1 ≡ count_by (λ r. r == k) (run ∷ before) = let m = one_more k run before true h in omega (arith, m) in
+      let earlier = count_by (λ r. r == k) before in
+      let n : earlier + 1 ≡ count_by (λ r. r == k) (run ∷ before) = let m = one_more k run before true h in omega (arith, m) in
       ap (λ j. list_at (slice_set left run (drop 1 (list_at left run))) j) (sym e) ∙ shorter left run
-      ∙ ap (λ j. drop 1 (list_at left j)) e ∙ ap (drop 1) (is k) ∙ drop-drop 1 told (list_at answers k) ∙ ap (λ n. drop n (list_at answers k)) n
+      ∙ ap (λ j. drop 1 (list_at left j)) e ∙ ap (drop 1) (is k) ∙ drop-drop 1 earlier (list_at answers k) ∙ ap (λ n. drop n (list_at answers k)) n
   next_left before left run k false h is =
-      let told = count_by (λ r. r == k) before in
-      let n : told ≡ count_by (λ r. r == k) (run ∷ before) = let m = one_more k run before false h in omega (arith, m) in
+      let earlier = count_by (λ r. r == k) before in
+      let n : earlier ≡ count_by (λ r. r == k) (run ∷ before) = let m = one_more k run before false h in omega (arith, m) in
       get_or-set_other left run k (drop 1 (list_at left run)) [] (differ k run h) ∙ is k ∙ ap (λ n. drop n (list_at answers k)) n
 
   goes : (runs before : List ℕ) (left : List (List AccessAnswer)) → IsLeft before left → answers_in_order runs left ≡ by_place before runs answers

@@ -77,15 +77,15 @@ still_enough left run runs k false h enough lt =
 all_few : (n m : ℕ) (runs : List ℕ) → n ≡ m → AllByRecursion (λ r. r < n) runs → AllByRecursion (λ r. r < m) runs
 all_few n m runs same few = subst (λ n. AllByRecursion (λ r. r < n) runs) same few
 
-all_told : (runs : List ℕ) (left : List (List AccessAnswer)) → IsEnough left runs → AllByRecursion (λ r. r < length left) runs → length (answers_in_order runs left) ≡ length runs
-all_told [] left enough few = refl
-all_told (run ∷ runs) left enough few =
+all_given : (runs : List ℕ) (left : List (List AccessAnswer)) → IsEnough left runs → AllByRecursion (λ r. r < length left) runs → length (answers_in_order runs left) ≡ length runs
+all_given [] left enough few = refl
+all_given (run ∷ runs) left enough few =
     let front = list_at left run in
     let next = slice_set left run (drop 1 front) in
     let size : length next ≡ length left = length-set left run (drop 1 front) in
     let many = enough run few.0 in
     let more = one_more run run runs true (eq-eqb run run refl) in
-    let rest = all_told runs next
+    let rest = all_given runs next
     (λ k lt. still_enough left run runs k (run == k) refl enough (omega (arith, lt, size)))
     (all_few (length left) (length next) runs (sym size) few.1) in
     length-append (take 1 front) (answers_in_order runs next) ∙ omega (arith, length-take 1 front, many, more, rest)
@@ -112,7 +112,7 @@ module _ (y : SystemState) (caller pid : ℕ) (pages nodes : List ℕ) (flags : 
       let made = runs_from 0 y.state runs during in
       let size : length made.answers ≡ length runs = runs_count 0 y.state runs during in
       sym (ap (λ answer. length (listed answer)) is)
-      ∙ (all_told (keys_of during) made.answers
+      ∙ (all_given (keys_of during) made.answers
       (λ k lt. each_has 0 y.state runs during k (omega (arith, lt, size)) ∙ named_count (0 + k) during ∙ ap (λ n. count_by (λ r. r == n) (keys_of during)) (plus_zero k))
       (all_few (length runs) (length made.answers) (keys_of during) (sym size) few)
       ∙ length-map during (λ (d : ℕ × Access). d.0))

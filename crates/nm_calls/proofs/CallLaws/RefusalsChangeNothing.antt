@@ -12,7 +12,7 @@ use Rattle.nm_calls.specs.definitions.Systems.{SystemState}
 use Rattle.nm_calls.specs.definitions.Outcome.{refusal_in, access_answer, refusal_of, start, runs_asked, accesses_asked, end_of_call, unless, offline_outcome}
 use Rattle.std.specs.Prelude.{◌⊎◌, ◌&&◌, if◌then◌else◌}
 use Rattle.nm_types.specs.declared.errno.Errno.TheVariants.{Eio, Ebusy}
-use Rattle.nm_calls.specs.definitions.Mbind.{binding, has_stray, tells_late}
+use Rattle.nm_calls.specs.definitions.Mbind.{binding, has_stray, checks_after_moves}
 use Rattle.nm_types.specs.State.{State}
 use Rattle.nm_calls.specs.definitions.Offline.{still_on}
 use Rattle.nm_calls.specs.laws.Calls.{late_refusal}
@@ -87,7 +87,7 @@ call_answers y (MovePages caller pid pages nodes flags during) made e h is = abs
 call_answers y (MigratePages caller pid old new) made e h is = absurd (no_error _ e refl is)
 call_answers y (Query caller pid pages flags) made e h is = absurd (no_error _ e refl is)
 call_answers y (Mbind caller addr len mode nodes flags) made e h is =
-    late_error (tells_late flags) (has_stray y.state made.state (binding y.state caller addr len mode nodes)) e is
+    late_error (checks_after_moves flags) (has_stray y.state made.state (binding y.state caller addr len mode nodes)) e is
 call_answers y (Offline node) made e h is = busy_error y node made.state (still_on y.state made.state node) e is
 call_answers y (Online node) made e h is = absurd (no_error Done e refl is)
 call_answers y (FreeList node) made e h is = absurd (no_error _ e refl is)

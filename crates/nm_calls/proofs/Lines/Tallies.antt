@@ -26,7 +26,7 @@ use Rattle.nm_types.specs.Nodes.{up_from}
 use Rattle.nm_types.specs.State.{State, PlacedArea}
 use Rattle.nm_types.specs.declared.located_page.LocatedPage.{LocatedPage}
 use Rattle.nm_calls.specs.declared.maps.Tally.{Tally}
-use Rattle.nm_calls.specs.definitions.Maps.{told_from, node_text, most_users, numa_maps, area_text, pages_text}
+use Rattle.nm_calls.specs.definitions.Maps.{count_text_from, node_text, most_users, numa_maps, area_text, pages_text}
 use Rattle.nm_calls.specs.views.Tally.{line_text, nodes_text, counts_text, tally_text}
 
 -- how many pages are on a node
@@ -37,25 +37,25 @@ same_up : (f g : ℕ → List ℕ) (n a : ℕ) → ((k : ℕ) → k < a + n → 
 same_up f g zero a h = refl
 same_up f g (suc n) a h = ap (λ t. t ++ flat_map f (up_from (a + 1) n)) (h a (omega arith)) ∙ ap (λ t. g a ++ t) (same_up f g n (a + 1) (λ k lt. h k (omega (arith, lt))))
 
-pub nodes_told : (on : List ℕ) (pages : List LocatedPage) (n : ℕ) → ((node : ℕ) → node < n → slice_index on node ≡ count_on pages node) → nodes_text on n ≡ flat_map (node_text pages) (up_from 0 n)
-nodes_told on pages n h =
-    same_up (λ node. told_from 1 (codes " N" ++ decimal node ++ codes "=") (slice_index on node)) (node_text pages) n 0 (λ k lt. ap (told_from 1 (codes " N" ++ decimal k ++ codes "=")) (h k (omega (arith, lt))))
+pub nodes_counted : (on : List ℕ) (pages : List LocatedPage) (n : ℕ) → ((node : ℕ) → node < n → slice_index on node ≡ count_on pages node) → nodes_text on n ≡ flat_map (node_text pages) (up_from 0 n)
+nodes_counted on pages n h =
+    same_up (λ node. count_text_from 1 (codes " N" ++ decimal node ++ codes "=") (slice_index on node)) (node_text pages) n 0 (λ k lt. ap (count_text_from 1 (codes " N" ++ decimal k ++ codes "=")) (h k (omega (arith, lt))))
 
 -- where there are pages
-some_told : (n most : ℕ) (nodes : List ℕ) → counts_text (suc n) most nodes ≡ (codes " anon=" ++ decimal (suc n)) ++ told_from 2 (codes " mapmax=") most ++ nodes ++ codes " kernelpagesize_kB=4"
-some_told n most nodes =
-    ap (λ (b : Bool). if b then [] else (codes " anon=" ++ decimal (suc n)) ++ told_from 2 (codes " mapmax=") most ++ nodes ++ codes " kernelpagesize_kB=4") (ne_eqb (suc n) 0 (λ e. omega (arith, e)))
+some_counted : (n most : ℕ) (nodes : List ℕ) → counts_text (suc n) most nodes ≡ (codes " anon=" ++ decimal (suc n)) ++ count_text_from 2 (codes " mapmax=") most ++ nodes ++ codes " kernelpagesize_kB=4"
+some_counted n most nodes =
+    ap (λ (b : Bool). if b then [] else (codes " anon=" ++ decimal (suc n)) ++ count_text_from 2 (codes " mapmax=") most ++ nodes ++ codes " kernelpagesize_kB=4") (ne_eqb (suc n) 0 (λ e. omega (arith, e)))
 
 pub tally_tells : (s : State) (pages : List LocatedPage) (t : Tally) → t.pages ≡ length pages → t.most ≡ most_users s pages → ((node : ℕ) → node < 64 → slice_index t.on node ≡ count_on pages node) → node_count s.layout ≤ 64
     → tally_text t (node_count s.layout) ≡ pages_text s pages
 tally_tells s [] t many most on few = ap (λ n. counts_text n t.most (nodes_text t.on (node_count s.layout))) many
 tally_tells s (p ∷ ps) t many most on few =
     let all = p ∷ ps in
-    let nodes = nodes_told t.on all (node_count s.layout) (λ node lt. on node (omega (arith, lt, few))) in
+    let nodes = nodes_counted t.on all (node_count s.layout) (λ node lt. on node (omega (arith, lt, few))) in
     ap (λ n. counts_text n t.most (nodes_text t.on (node_count s.layout))) many
     ∙ ap (λ m. counts_text (length all) m (nodes_text t.on (node_count s.layout))) most
     ∙ ap (λ x. counts_text (length all) (most_users s all) x) nodes
-    ∙ some_told (length ps) (most_users s all) (flat_map (node_text all) (up_from 0 (node_count s.layout)))
+    ∙ some_counted (length ps) (most_users s all) (flat_map (node_text all) (up_from 0 (node_count s.layout)))
 
 abbrev one_if : Bool → ℕ
 one_if b = cond b 1 0

@@ -8,13 +8,13 @@ use Rattle.nm_model.specs.definitions.Cut.{Stretch}
 use Rattle.nm_passes.specs.declared.call_error.CallError.{CallError}
 use Rattle.nm_passes.specs.declared.call_error.CallError.TheVariants.{Refused, HostMemory}
 use Rattle.nm_passes.specs.declared.binding.Binding.{Binding}
-use Rattle.nm_calls.specs.definitions.Mbind.{has_stray, is_strict, pages_to_bind, has_move, tells_late}
+use Rattle.nm_calls.specs.definitions.Mbind.{has_stray, is_strict, pages_to_bind, has_move, checks_after_moves}
 use Rattle.nm_passes.specs.definitions.Placement.{is_stray, stray_pages}
 use Rattle.nm_calls.specs.views.Ends.{FailsBinding}
 use Rattle.nm_passes.specs.views.Runs.{Stops}
 
--- an error after the moves is told exactly where a listed page strays then
-pub late_is : (s t : State) (b : Binding) (flags : ℕ) → (is_strict flags && list_any (is_stray t b.policy) (pages_to_bind s b flags)) ≡ (tells_late flags && has_stray s t b)
+-- an error after the moves is returned exactly where a listed page strays then
+pub late_is : (s t : State) (b : Binding) (flags : ℕ) → (is_strict flags && list_any (is_stray t b.policy) (pages_to_bind s b flags)) ≡ (checks_after_moves flags && has_stray s t b)
 late_is s t b flags = elim (has_move flags) as (λ m. (is_strict flags && list_any (is_stray t b.policy) (if m then stray_pages s b else [])) ≡ ((is_strict flags && m) && has_stray s t b)) [
   | true ↦ strict (is_strict flags) (has_stray s t b)
   | false ↦ lenient (is_strict flags) (has_stray s t b)

@@ -17,7 +17,7 @@ use Rattle.nm_passes.specs.declared.binding.Binding.{Binding}
 use Rattle.nm_requests.specs.Calls.{Mbind}
 use Rattle.nm_calls.specs.definitions.Answers.{Failed}
 use Rattle.nm_calls.specs.definitions.Outcome.{outcome}
-use Rattle.nm_calls.specs.definitions.Mbind.{binding, has_stray, home_of, pages_to_bind, mbind_refusal, mbind_runs, has_move, tells_late}
+use Rattle.nm_calls.specs.definitions.Mbind.{binding, has_stray, home_of, pages_to_bind, mbind_refusal, mbind_runs, has_move, checks_after_moves}
 use Rattle.nm_passes.specs.definitions.Placement.{is_stray, runs_by, stray_pages}
 use Rattle.nm_passes.specs.definitions.Listing.{once}
 use Rattle.nm_passes.specs.definitions.Permission.{info_at, has_move_all}
@@ -83,8 +83,8 @@ module _ (y : SystemState) (caller addr mode : ℕ) (nodes : List ℕ) (flags : 
       let b = binding s caller addr 0 mode nodes in
       let few : b.end ≤ b.first = omega arith in
       let runs = no_runs y.run_limit s b flags few in
-      let stray : (tells_late flags && has_stray s (runs_from 0 s (mbind_runs y.run_limit s b flags) []).state b) ≡ false =
-      ap (λ pages. tells_late flags && list_any (is_stray (runs_from 0 s (mbind_runs y.run_limit s b flags) []).state b.policy) pages) (no_strays s b few) ∙ and_false (tells_late flags) in
+      let stray : (checks_after_moves flags && has_stray s (runs_from 0 s (mbind_runs y.run_limit s b flags) []).state b) ≡ false =
+      ap (λ pages. checks_after_moves flags && list_any (is_stray (runs_from 0 s (mbind_runs y.run_limit s b flags) []).state b.policy) pages) (no_strays s b few) ∙ and_false (checks_after_moves flags) in
       let done : Result ℕ CallError = Ok 0 in
       binds_does y caller addr 0 mode nodes flags done s h
       (subst (λ t. Binds done s t s b (mbind_runs y.run_limit t b flags) flags) (sym (none_set s caller addr b.policy))

@@ -13,7 +13,7 @@ use Rattle.nm_passes.specs.declared.call_error.CallError.TheVariants.{Refused, H
 use Rattle.nm_requests.specs.Calls.{Call, Mbind}
 use Rattle.nm_calls.specs.definitions.Answers.{Refusal, Failed}
 use Rattle.nm_calls.specs.definitions.Systems.{SystemState, in_state}
-use Rattle.nm_calls.specs.definitions.Mbind.{mbind_refusal, binding, mbind_runs, with_binding, tells_late, has_stray}
+use Rattle.nm_calls.specs.definitions.Mbind.{mbind_refusal, binding, mbind_runs, with_binding, checks_after_moves, has_stray}
 use Rattle.nm_calls.specs.definitions.Outcome.{refusal_of, refused_at_once, start, sets_policy, runs_asked, accesses_asked, runs_of, end_of_call, outcome, leaves, trail}
 use Rattle.nm_passes.specs.definitions.Moves.{states_of}
 use Rattle.nm_calls.specs.definitions.Does.{Does}
@@ -60,7 +60,7 @@ module _ (y : SystemState) (caller addr len mode : ℕ) (nodes : List ℕ) (flag
 
   -- where the pages stray, or do not
   answered : (late : Bool) (new : State) → mbind_refusal y.state caller addr len mode nodes flags ≡ None
-      → (tells_late flags && has_stray y.state (runs_from 0 first runs []).state (binding y.state caller addr len mode nodes)) ≡ late → new ≡ (runs_from 0 first runs []).state
+      → (checks_after_moves flags && has_stray y.state (runs_from 0 first runs []).state (binding y.state caller addr len mode nodes)) ≡ late → new ≡ (runs_from 0 first runs []).state
       → outcome y asks ≡ record { answer = late_answer late; system = in_state y new }
   unfolding refusal_of runs_asked start end_of_call accesses_asked
   answered late new h strays is =

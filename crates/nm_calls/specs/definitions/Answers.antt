@@ -13,7 +13,7 @@ pub data Answer : Type 0 where
   TheBytes : List ℕ → Answer
   -- how many entries failed
   Failed : (failed : ℕ) → Answer
-  -- the same, with the status of each entry and the answers to the accesses made meanwhile
+  -- the same, with the status of each entry and the answers to the accesses during its runs
   Statuses : (failed : ℕ) → List ℤ → (answers : List AccessAnswer) → Answer
   -- frames, front first
   Frames : List ℕ → Answer

@@ -28,5 +28,5 @@ DoesOrRefuses view (Ok value) old new call = outcome old call ≡ record { answe
 DoesOrRefuses view (Err e) old new call = outcome old call ≡ record { answer = Refusal e; system = new }
 
 -- the host may be out of memory only where this holds
-abbrev pub Asks : {T : Type 0} → Result T CallError → Type 0 → Type 0
-Asks result P = (runs : ℕ) (policy_set : Bool) → result ≡ Err (HostMemory runs policy_set) → P
+abbrev pub AllocatesOnlyIf : {T : Type 0} → Result T CallError → Type 0 → Type 0
+AllocatesOnlyIf result P = (runs : ℕ) (policy_set : Bool) → result ≡ Err (HostMemory runs policy_set) → P

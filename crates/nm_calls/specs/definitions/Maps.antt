@@ -46,19 +46,19 @@ address_text vpn = let ds = digits 16 false vpn in replicate (5 - length ds) 48 
 abbrev pub most_users : State → List LocatedPage → ℕ
 most_users s pages = fold (λ most p. max most (length (users s.processes p.page))) 0 pages
 
--- a word and a number, unless the number is too small to be shown
-abbrev pub told_from : ℕ → List ℕ → ℕ → List ℕ
-told_from least word n = if nat_lt n least then [] else word ++ decimal n
+-- a word and a count, if it is as great as this or greater
+abbrev pub count_text_from : ℕ → List ℕ → ℕ → List ℕ
+count_text_from least word n = if nat_lt n least then [] else word ++ decimal n
 
 -- how many pages are on a node, if any are
 abbrev pub node_text : List LocatedPage → ℕ → List ℕ
-node_text ps node = told_from 1 (codes " N" ++ decimal node ++ codes "=") (count_by (λ p. p.node == node) ps)
+node_text ps node = count_text_from 1 (codes " N" ++ decimal node ++ codes "=") (count_by (λ p. p.node == node) ps)
 
 -- what is shown of the pages in an area, if there are any
 abbrev pub pages_text : State → List LocatedPage → List ℕ
 pages_text s [] = []
 pages_text s (p ∷ ps) =
-    (codes " anon=" ++ decimal (length (p ∷ ps))) ++ told_from 2 (codes " mapmax=") (most_users s (p ∷ ps))
+    (codes " anon=" ++ decimal (length (p ∷ ps))) ++ count_text_from 2 (codes " mapmax=") (most_users s (p ∷ ps))
     ++ flat_map (node_text (p ∷ ps)) (up_from 0 (node_count s.layout)) ++ codes " kernelpagesize_kB=4"
 
 -- an area as text

@@ -105,8 +105,8 @@ abbrev pub NoStrayIsListedTwice : Type 0
 NoStrayIsListedTwice = (s : State) (b : Binding) → IsDistinct same_page (map (λ l. l.page) (stray_pages s b))
 
 -- whether the flags ask for moves, and for an error if a page does not follow after them
-abbrev pub tells_late : ℕ → Bool
-tells_late flags = is_strict flags && has_move flags
+abbrev pub checks_after_moves : ℕ → Bool
+checks_after_moves flags = is_strict flags && has_move flags
 
 -- the state before the first run, with the policy set
 abbrev pub with_binding : State → ℕ → ℕ → ℕ → ℕ → List ℕ → State

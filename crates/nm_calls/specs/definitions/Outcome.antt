@@ -18,7 +18,7 @@ use Rattle.nm_passes.specs.definitions.Permission.{query_refusal, has_move_all, 
 use Rattle.nm_types.specs.declared.errno.Errno.TheVariants.{Eio, Ebusy}
 use Rattle.nm_passes.specs.definitions.Batch.{move_refusal, answers_in_order}
 use Rattle.nm_calls.specs.definitions.Migrate.{migrate_refusal, migration}
-use Rattle.nm_calls.specs.definitions.Mbind.{mbind_refusal, with_binding, binding, mbind_runs, has_stray, tells_late}
+use Rattle.nm_calls.specs.definitions.Mbind.{mbind_refusal, with_binding, binding, mbind_runs, has_stray, checks_after_moves}
 use Rattle.nm_calls.specs.definitions.Offline.{offline_refusal, offline_runs, still_on}
 use Rattle.nm_calls.specs.definitions.Systems.{SystemState, in_state}
 use Rattle.nm_passes.specs.definitions.Moves.{states_from}
@@ -127,7 +127,7 @@ end_of_call y (Query caller pid pages flags) made =
     leaves y (Statuses 0 (statuses_of y.state (owner_of caller pid) pages) []) y.state
 end_of_call y (Mbind caller addr len mode nodes flags) made =
     let strays = has_stray y.state made.state (binding y.state caller addr len mode nodes) in
-    leaves y (if tells_late flags && strays then Refusal Eio else Failed 0) made.state
+    leaves y (if checks_after_moves flags && strays then Refusal Eio else Failed 0) made.state
 end_of_call y (Offline node) made = offline_outcome y node made.state (still_on y.state made.state node)
 end_of_call y (Online node) made = leaves y Done (set_online y.state node true)
 end_of_call y (FreeList node) made = leaves y (Frames (free_list y.state node)) y.state

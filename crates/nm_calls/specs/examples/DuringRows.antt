@@ -12,11 +12,11 @@ use Rattle.nm_calls.specs.definitions.Systems.{SystemState}
 use Rattle.nm_calls.specs.definitions.Outcome.{Outcome, outcome}
 use Rattle.nm_calls.specs.examples.Calling.{system_in, outline_of}
 
--- process 1 moves pages of its own, with accesses made meanwhile
+-- process 1 moves pages of its own, with accesses during its runs
 abbrev pub move_with_accesses : State → List ℕ → List ℕ → List (ℕ × Access) → Outcome
 move_with_accesses s pages nodes during = outcome (system_in s) (MovePages 1 0 pages nodes 2 during)
 
--- four pages fill node 0. One of them moves, and cannot be read meanwhile; the next one can; and a page written for the
+-- four pages fill node 0. One of them moves, and cannot be read during its run; the next one can; and a page written for the
 -- first time takes the frame after the one reserved for the move, not the one that becomes free
 abbrev pub FramesAreReserved : Type 0
 FramesAreReserved =

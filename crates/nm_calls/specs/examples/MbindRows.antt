@@ -72,8 +72,8 @@ abbrev pub both_to_1 : ℕ → MbindOf
 both_to_1 flags = ask A 8192 MPOL_BIND (1 ∷ []) flags
 
 -- a pinned page stays and is reported; the other has moved, and the policy is set
-abbrev pub PinnedPageIsTold : Type 0
-PinnedPageIsTold =
+abbrev pub PinnedPageIsAnError : Type 0
+PinnedPageIsAnError =
     let s = after_mbind second_pinned (both_to_1 3) in
     (mbind_answer second_pinned (both_to_1 3) ≡ Refusal Eio)
     × (outline_of s (A ∷ B ∷ [])

@@ -15,14 +15,14 @@ use Rattle.nm_calls.specs.definitions.Answers.{Refusal, Statuses, Failed}
 use Rattle.nm_passes.specs.definitions.Batch.{answers_in_order, by_place}
 use Rattle.nm_calls.specs.definitions.Systems.{SystemState}
 use Rattle.nm_calls.specs.definitions.Outcome.{refusal_of, leaves, start, state_before_runs, outcome, runs_of, accesses_asked, trail}
-use Rattle.nm_calls.specs.definitions.Mbind.{tells_late}
+use Rattle.nm_calls.specs.definitions.Mbind.{checks_after_moves}
 use Rattle.nm_calls.specs.definitions.Migrate.{migration}
 use Rattle.nm_passes.specs.definitions.Permission.{owner_of, has_move_all}
 use Rattle.nm_types.specs.declared.errno.Errno.TheVariants.{Eio, Ebusy}
 
 -- the refusal that may come after a call's runs
 abbrev pub late_refusal : Call → Option Errno
-late_refusal (Mbind caller addr len mode nodes flags) = if tells_late flags then Some Eio else None
+late_refusal (Mbind caller addr len mode nodes flags) = if checks_after_moves flags then Some Eio else None
 late_refusal (Offline node) = Some Ebusy
 late_refusal call = None
 

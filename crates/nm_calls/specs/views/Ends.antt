@@ -8,7 +8,7 @@ use Rattle.nm_model.specs.definitions.Effect.{set_online}
 use Rattle.nm_passes.specs.declared.binding.Binding.{Binding}
 use Rattle.nm_passes.specs.declared.call_error.CallError.{CallError}
 use Rattle.nm_passes.specs.declared.call_error.CallError.TheVariants.{Refused, HostMemory}
-use Rattle.nm_calls.specs.definitions.Mbind.{has_stray, tells_late}
+use Rattle.nm_calls.specs.definitions.Mbind.{has_stray, checks_after_moves}
 use Rattle.nm_calls.specs.definitions.Offline.{still_on}
 use Rattle.nm_passes.specs.views.Runs.{Stops}
 
@@ -17,7 +17,7 @@ use Rattle.nm_passes.specs.views.Runs.{Stops}
 abbrev pub FailsBinding : CallError → State → State → State → Binding → List Stretch → ℕ → Type 0
 FailsBinding (Refused e) old set new b runs flags =
     let made = runs_from 0 set runs [] in
-    ((tells_late flags && has_stray old made.state b) ≡ true) × (e ≡ Eio) × (new ≡ made.state)
+    ((checks_after_moves flags && has_stray old made.state b) ≡ true) × (e ≡ Eio) × (new ≡ made.state)
 FailsBinding (HostMemory k policy_set) old set new b runs flags =
     ((k ≡ 0) × (policy_set ≡ false) × (new ≡ old)) ⊎ Stops true (HostMemory k policy_set) set new runs
 
@@ -25,7 +25,7 @@ FailsBinding (HostMemory k policy_set) old set new b runs flags =
 abbrev pub Binds : {T : Type 0} → Result T CallError → State → State → State → Binding → List Stretch → ℕ → Type 0
 Binds (Ok done) old set new b runs flags =
     let made = runs_from 0 set runs [] in
-    ((tells_late flags && has_stray old made.state b) ≡ false) × (new ≡ made.state)
+    ((checks_after_moves flags && has_stray old made.state b) ≡ false) × (new ≡ made.state)
 Binds (Err e) old set new b runs flags = FailsBinding e old set new b runs flags
 
 -- a page stays; or the host runs out of memory, before the first run or for one of the runs

@@ -7,7 +7,7 @@ use Rattle.nm_types.specs.State.{State, PlacedArea}
 use Rattle.nm_types.specs.declared.located_page.LocatedPage.{LocatedPage}
 use Rattle.nm_areas.specs.declared.lines.Area.{Area as Listed}
 use Rattle.nm_model.specs.definitions.Seen.{located_between}
-use Rattle.nm_calls.specs.definitions.Maps.{area_text, told_from}
+use Rattle.nm_calls.specs.definitions.Maps.{area_text, count_text_from}
 
 -- an area of a process, from how the areas are listed
 abbrev pub placed_of : ℕ → Listed → PlacedArea
@@ -26,19 +26,19 @@ abbrev pub comma : Bool → List ℕ
 comma wanted = if wanted then codes "," else []
 
 -- how many pages are on a node, if any are
-abbrev pub told_on : ℕ → ℕ → List ℕ
-told_on node pages = told_from 1 (codes " N" ++ decimal node ++ codes "=") pages
+abbrev pub node_count_text : ℕ → ℕ → List ℕ
+node_count_text node pages = count_text_from 1 (codes " N" ++ decimal node ++ codes "=") pages
 
 -- how many pages are on each of the first nodes, where any are
 abbrev pub nodes_text : List ℕ → ℕ → List ℕ
 nodes_text on count =
-    flat_map (λ node. told_on node (slice_index on node)) (up_from 0 count)
+    flat_map (λ node. node_count_text node (slice_index on node)) (up_from 0 count)
 
 -- how many pages there are, the greatest number of processes that see one, and the nodes that they are on
 abbrev pub counts_text : ℕ → ℕ → List ℕ → List ℕ
 counts_text pages most nodes =
     if pages == 0 then []
-    else (codes " anon=" ++ decimal pages) ++ told_from 2 (codes " mapmax=") most ++ nodes ++ codes " kernelpagesize_kB=4"
+    else (codes " anon=" ++ decimal pages) ++ count_text_from 2 (codes " mapmax=") most ++ nodes ++ codes " kernelpagesize_kB=4"
 
 -- the counts, if there are pages
 abbrev pub tally_text : Tally → ℕ → List ℕ

@@ -51,31 +51,31 @@ append_none [] = refl
 append_none (x ∷ xs) = ap (λ l. x ∷ l) (append_none xs)
 
 -- the answers that were given, and those of the other accesses by what is left, are all of them
-module _ (told : List AccessAnswer) (left : List (List AccessAnswer)) (run : ℕ) (runs : List ℕ) (all : List AccessAnswer) where
-  next_told : told ++ answers_in_order (run ∷ runs) left ≡ all → (told ++ take 1 (list_at left run)) ++ answers_in_order runs (slice_set left run (drop 1 (list_at left run))) ≡ all
-  next_told is = append_assoc told (take 1 (list_at left run)) (answers_in_order runs (slice_set left run (drop 1 (list_at left run)))) ∙ is
+module _ (given : List AccessAnswer) (left : List (List AccessAnswer)) (run : ℕ) (runs : List ℕ) (all : List AccessAnswer) where
+  next_given : given ++ answers_in_order (run ∷ runs) left ≡ all → (given ++ take 1 (list_at left run)) ++ answers_in_order runs (slice_set left run (drop 1 (list_at left run))) ≡ all
+  next_given is = append_assoc given (take 1 (list_at left run)) (answers_in_order runs (slice_set left run (drop 1 (list_at left run)))) ∙ is
 
   -- an access of a run that was not made
-  pub unmade_told : length left ≤ run → told ++ answers_in_order (run ∷ runs) left ≡ all → told ++ answers_in_order runs left ≡ all
-  unmade_told past is =
+  pub unmade_given : length left ≤ run → given ++ answers_in_order (run ∷ runs) left ≡ all → given ++ answers_in_order runs left ≡ all
+  unmade_given past is =
       let none : list_at left run ≡ [] = get_or_past left run [] past in
-      sym (ap (λ l. (told ++ take 1 l) ++ answers_in_order runs (slice_set left run (drop 1 l))) none
-      ∙ ap (λ l. l ++ answers_in_order runs (slice_set left run [])) (append_none told)
-      ∙ ap (λ ls. told ++ answers_in_order runs ls) (set_past left run [] past)) ∙ next_told is
+      sym (ap (λ l. (given ++ take 1 l) ++ answers_in_order runs (slice_set left run (drop 1 l))) none
+      ∙ ap (λ l. l ++ answers_in_order runs (slice_set left run [])) (append_none given)
+      ∙ ap (λ ls. given ++ answers_in_order runs ls) (set_past left run [] past)) ∙ next_given is
 
   -- an access of a run whose answers are all given
-  pub none_told : (left' : List (List AccessAnswer)) → list_at left run ≡ [] → left' ≡ slice_set left run [] → told ++ answers_in_order (run ∷ runs) left ≡ all → told ++ answers_in_order runs left' ≡ all
-  none_told left' none is' is =
-      ap (λ ls. told ++ answers_in_order runs ls) is'
-      ∙ sym (ap (λ l. (told ++ take 1 l) ++ answers_in_order runs (slice_set left run (drop 1 l))) none
-      ∙ ap (λ l. l ++ answers_in_order runs (slice_set left run [])) (append_none told)) ∙ next_told is
+  pub none_given : (left' : List (List AccessAnswer)) → list_at left run ≡ [] → left' ≡ slice_set left run [] → given ++ answers_in_order (run ∷ runs) left ≡ all → given ++ answers_in_order runs left' ≡ all
+  none_given left' none is' is =
+      ap (λ ls. given ++ answers_in_order runs ls) is'
+      ∙ sym (ap (λ l. (given ++ take 1 l) ++ answers_in_order runs (slice_set left run (drop 1 l))) none
+      ∙ ap (λ l. l ++ answers_in_order runs (slice_set left run [])) (append_none given)) ∙ next_given is
 
   -- the next answer of its run
-  pub one_told : (told' : List AccessAnswer) (left' : List (List AccessAnswer)) (x : AccessAnswer) (xs : List AccessAnswer) → list_at left run ≡ x ∷ xs → told' ≡ told ++ x ∷ [] → left' ≡ slice_set left run xs
-      → told ++ answers_in_order (run ∷ runs) left ≡ all → told' ++ answers_in_order runs left' ≡ all
-  one_told told' left' x xs some told_is left_is is =
-      ap (λ l. l ++ answers_in_order runs left') told_is ∙ ap (λ ls. (told ++ x ∷ []) ++ answers_in_order runs ls) left_is
-      ∙ sym (ap (λ l. (told ++ take 1 l) ++ answers_in_order runs (slice_set left run (drop 1 l))) some) ∙ next_told is
+  pub one_given : (given' : List AccessAnswer) (left' : List (List AccessAnswer)) (x : AccessAnswer) (xs : List AccessAnswer) → list_at left run ≡ x ∷ xs → given' ≡ given ++ x ∷ [] → left' ≡ slice_set left run xs
+      → given ++ answers_in_order (run ∷ runs) left ≡ all → given' ++ answers_in_order runs left' ≡ all
+  one_given given' left' x xs some given_is left_is is =
+      ap (λ l. l ++ answers_in_order runs left') given_is ∙ ap (λ ls. (given ++ x ∷ []) ++ answers_in_order runs ls) left_is
+      ∙ sym (ap (λ l. (given ++ take 1 l) ++ answers_in_order runs (slice_set left run (drop 1 l))) some) ∙ next_given is
 
 -- lists as they are seen
 module _ {X Y : Type 0} (shown : X → List Y) (xs : List X) where

@@ -1,4 +1,4 @@
--- Batches of pages to move: what is refused, and which accesses are made meanwhile.
+-- Batches of pages to move: what is refused, and which accesses are made during them.
 use Rattle.std.specs.Prelude.{ℕ, List, map, Option, option_and_then}
 use Rattle.nm_types.specs.declared.errno.Errno.{Errno}
 use Rattle.nm_types.specs.Layout.{node_count}

@@ -20,7 +20,7 @@ pub record AccessLineRows : Type 0 where
   -- a call that is refused has no answers
   pub none_of_a_refused_call : access_lines 6 0 ((0, Read 1 65536 1) ∷ []) [] ≡ []
 
--- process 1 has five pages, and has written four, which fill node 0. The first moves to node 1. Meanwhile it is read,
+-- process 1 has five pages, and has written four, which fill node 0. The first moves to node 1. In flight it is read,
 -- which is held; the second, which stays, is read; and the fifth is written: its frame is the one after that which the
 -- move took
 abbrev pub read_while_it_moves : TraceContents

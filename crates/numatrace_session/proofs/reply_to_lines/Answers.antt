@@ -11,7 +11,7 @@ use Rattle.numatrace_session.proofs.reply_to_lines.Goals as goal
 pub loop-init : goal.loop-init
 loop-init g c = record {
   replied = no_lines c.args.session.now (left_in g.R.Read.remaining c.args.input.now) (g.W.Write.contents c.args.out.now);
-  told = refl;
+  failure = refl;
 }
 
 pub loop-preserved : goal.loop-preserved
@@ -23,7 +23,7 @@ loop-preserved g c =
     record {
       replied = one_more c.args.session.now s c.reply.new.session _ (left_in g.R.Read.remaining c.loop.input) (left_in g.R.Read.remaining c.next_line.new.input) _ _ _ (g.W.Write.contents c.flush_unless_asked.new.out)
           c.next_line.new.line.items c.loop.invariant.replied c.in_ok-next_line.ensures.line c.in_ok-next_line.ensures.rest written made c.in_ok-flush_unless_asked.ensures.kept (ltb-true 0 _ (sym c.in_ok-next_line.ensures.more ∙ c.if-not-branch.false));
-      told = c.in_ok-flush_unless_asked.ensures.failure ∙ (c.in_ok-reply.ensures.replies.0.1 ∙ c.loop.invariant.told);
+      failure = c.in_ok-flush_unless_asked.ensures.failure ∙ (c.in_ok-reply.ensures.replies.0.1 ∙ c.loop.invariant.failure);
     }
 
 pub returns-in_err-next_line-clause-talks : goal.returns-in_err-next_line-clause-talks
@@ -32,7 +32,7 @@ returns-in_err-next_line-clause-talks g c =
     if_err (λ e. EndsEarly e c.args.session.now (left_in g.R.Read.remaining c.args.input.now) (left_in g.R.Read.remaining c.next_line.new.input) (g.W.Write.contents c.args.out.now) (g.W.Write.contents c.loop.out) (has_read_failed c.next_line.new.input) (g.W.ReportingWriter.has_failed c.args.out.now) (g.W.ReportingWriter.has_failed c.loop.out))
     c.in_err-next_line.field-0.0 c.from_residual.result is
     (unread c.args.session.now c.loop.session _ (left_in g.R.Read.remaining c.loop.input) (left_in g.R.Read.remaining c.next_line.new.input) _ _ (has_read_failed c.next_line.new.input) _ _ c.next_line.new.line.items c.in_err-next_line.field-0.0
-    c.loop.invariant.replied c.next_line.ensures.consumes c.next_line.ensures.stops c.loop.invariant.told c.in_err-next_line.ensures.fault c.in_err-next_line.ensures.cause)
+    c.loop.invariant.replied c.next_line.ensures.consumes c.next_line.ensures.stops c.loop.invariant.failure c.in_err-next_line.ensures.fault c.in_err-next_line.ensures.cause)
 
 pub returns-in_err-reply-clause-talks : goal.returns-in_err-reply-clause-talks
 returns-in_err-reply-clause-talks g c =
@@ -44,7 +44,7 @@ returns-in_err-reply-clause-talks g c =
     if_err (λ e. EndsEarly e c.args.session.now (left_in g.R.Read.remaining c.args.input.now) (left_in g.R.Read.remaining c.next_line.new.input) (g.W.Write.contents c.args.out.now) (g.W.Write.contents c.reply.new.out) (has_read_failed c.next_line.new.input) (g.W.ReportingWriter.has_failed c.args.out.now) (g.W.ReportingWriter.has_failed c.reply.new.out))
     c.in_err-reply.field-0.0 c.from_residual-in_err-reply.result is
     (unreplied c.args.session.now t c.reply.new.session _ (left_in g.R.Read.remaining c.loop.input) (left_in g.R.Read.remaining c.next_line.new.input) _ (g.W.Write.contents c.loop.out) _ (has_read_failed c.next_line.new.input) _ (g.W.ReportingWriter.has_failed c.loop.out) _ line c.in_err-reply.field-0.0
-    c.loop.invariant.replied c.in_ok-next_line.ensures.line c.in_ok-next_line.ensures.rest c.next_line.ensures.consumes c.next_line.ensures.stops (ltb-true 0 _ (sym c.in_ok-next_line.ensures.more ∙ c.if-not-branch.false)) c.loop.invariant.told made)
+    c.loop.invariant.replied c.in_ok-next_line.ensures.line c.in_ok-next_line.ensures.rest c.next_line.ensures.consumes c.next_line.ensures.stops (ltb-true 0 _ (sym c.in_ok-next_line.ensures.more ∙ c.if-not-branch.false)) c.loop.invariant.failure made)
 
 pub returns-in_err-flush_unless_asked-clause-talks : goal.returns-in_err-flush_unless_asked-clause-talks
 returns-in_err-flush_unless_asked-clause-talks g c =

@@ -4,9 +4,9 @@ use Rattle.nm_calls.specs.definitions.Maps.{policy_text}
 use Rattle.nm_calls.specs.definitions.Outcome.{refusal_of, start, runs_asked, end_of_call, accesses_asked}
 use Rattle.nm_calls.proofs.laws.policies_move_pages.Goals as goal
 
-pub returns-clause-pinned_page_is_told : goal.returns-clause-pinned_page_is_told
+pub returns-clause-pinned_page_is_an_error : goal.returns-clause-pinned_page_is_an_error
 unfolding digits policy_text refusal_of start runs_asked end_of_call accesses_asked
-returns-clause-pinned_page_is_told c = (refl, refl, refl)
+returns-clause-pinned_page_is_an_error c = (refl, refl, refl)
 
 pub returns-clause-strict_alone_refuses : goal.returns-clause-strict_alone_refuses
 unfolding digits policy_text refusal_of start runs_asked end_of_call accesses_asked

@@ -8,5 +8,5 @@ use Rattle.nm_passes.proofs.batch.in_order.Given as goal
 abbrev pub invariant-loop-asked : goal.invariant-loop-asked
 invariant-loop-asked g l = record {
   room : length l.answers.items + length (drop l.asked-index l.during) ≤ vec_capacity l.answers;
-  told : map answer_shown l.answers.items ++ answers_in_order (keys_of (shown_during (drop l.asked-index l.during))) (map left_shown l.told.items) ≡ answers_in_order (keys_of (shown_during l.during)) (map left_shown l.fn.told.items);
+  given : map answer_shown l.answers.items ++ answers_in_order (keys_of (shown_during (drop l.asked-index l.during))) (map left_shown l.answers_left.items) ≡ answers_in_order (keys_of (shown_during l.during)) (map left_shown l.fn.answers_left.items);
 }

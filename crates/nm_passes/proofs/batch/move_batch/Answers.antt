@@ -23,9 +23,9 @@ is_more (suc n) b is some = omega arith
 -- a batch of no pages and no accesses
 none_made : {A : Type 0} (statuses : Vec ℤ A) (answers : Vec (AccessAnswer A) A) (s : State) (limit pid : ℕ) (all : Bool) (ps ns : List ℕ) (during : List (InFlight A)) → statuses.items ≡ [] → answers.items ≡ [] → length ps ≡ 0 → length during ≡ 0
     → Moves (Ok (record { failed = 0; statuses = statuses; answers = answers })) s s limit (requests_of pid all ps ns) (shown_during during)
-none_made statuses answers s limit pid all [] ns [] same told none still = (same, refl, ap (map answer_shown) told, refl)
-none_made statuses answers s limit pid all (p ∷ ps) ns during same told none still = absurd (omega (arith, none))
-none_made statuses answers s limit pid all [] ns (d ∷ ds) same told none still = absurd (omega (arith, still))
+none_made statuses answers s limit pid all [] ns [] same given none still = (same, refl, ap (map answer_shown) given, refl)
+none_made statuses answers s limit pid all (p ∷ ps) ns during same given none still = absurd (omega (arith, none))
+none_made statuses answers s limit pid all [] ns (d ∷ ds) same given none still = absurd (omega (arith, still))
 
 pub returns-then-is_empty-2-clause-moves : goal.returns-then-is_empty-2-clause-moves
 returns-then-is_empty-2-clause-moves g c =

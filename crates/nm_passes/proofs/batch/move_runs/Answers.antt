@@ -47,9 +47,9 @@ extended : {X E U : Type 0} (r : Result U E) (value : U) (old other own now : Li
 extended r value old other own now is ok same = is ∙ ap (λ r. if is_ok r then old ++ other else old) ok ∙ ap (λ xs. old ++ xs) same
 
 -- what has run, by other names
-runs_on : (start : State) (all left : List Stretch) (during : List (ℕ × Access)) (k : ℕ) (s t : State) (xs ys : List ℤ) (told others : List (List AccessAnswer)) → s ≡ t → xs ≡ ys → told ≡ others → HaveRun start all left during k t ys others → HaveRun start all left during k s xs told
-runs_on start all left during k s t xs ys told others state statuses answers h =
-    subst (λ s. HaveRun start all left during k s xs told) (sym state) (subst (λ xs. HaveRun start all left during k t xs told) (sym statuses) (subst (HaveRun start all left during k t ys) (sym answers) h))
+runs_on : (start : State) (all left : List Stretch) (during : List (ℕ × Access)) (k : ℕ) (s t : State) (xs ys : List ℤ) (given others : List (List AccessAnswer)) → s ≡ t → xs ≡ ys → given ≡ others → HaveRun start all left during k t ys others → HaveRun start all left during k s xs given
+runs_on start all left during k s t xs ys given others state statuses answers h =
+    subst (λ s. HaveRun start all left during k s xs given) (sym state) (subst (λ xs. HaveRun start all left during k t xs given) (sym statuses) (subst (HaveRun start all left during k t ys) (sym answers) h))
 
 some_after : (k n m : ℕ) → k < n → 0 < n + m
 some_after k n m more = omega (arith, more)
@@ -74,11 +74,11 @@ returns-in_default-clause-moves g c =
 
 pub loop-k-init : goal.loop-k-init
 loop-k-init g c =
-    let none = c.in_ok-told.ensures.items in
+    let none = c.in_ok-answers_left.ensures.items in
     record {
       room = fits_first (length c.args.statuses.items) _ _ (ap length c.requires.empty) c.requires.room;
       queues = ap length none;
-      places = c.in_ok-told.ensures.capacity;
+      places = c.in_ok-answers_left.ensures.capacity;
       nodes = refl;
       failed = sym (ap failures c.requires.empty);
       made = none_run c.args.machine.now (stretches_of c.args.runs.now) _ (shown_during c.args.during.now) 0 c.args.statuses.items _ refl refl c.requires.empty (ap (map left_shown) none);
@@ -130,22 +130,22 @@ loop-k-preserved g c =
     let answers : map answer_shown c.in-Ok.landed.answers.items ∷ [] ≡ made.answers = ap (λ (r : RunResult). r.answers) whole in
     let items : c.extend_from_slice.new.self.items ≡ c.loop-k.statuses.items ++ made.statuses =
     extended c.extend_from_slice.result _ c.loop-k.statuses.items c.as_slice-in-loop-k.result.now made.statuses c.extend_from_slice.new.self.items c.extend_from_slice.ensures.items c.unwrap.ensures (c.as_slice-in-loop-k.ensures.value ∙ statuses) in
-    let queues : map left_shown c.push_reserved.new.self.items ≡ map left_shown c.loop-k.told.items ++ made.answers =
-    ap (map left_shown) c.push_reserved.ensures.items ∙ map-append left_shown c.loop-k.told.items (c.into_iter.result ∷ [])
-    ∙ ap (λ xs. map left_shown c.loop-k.told.items ++ map answer_shown xs ∷ []) c.into_iter.ensures.rest
-    ∙ ap (λ l. map left_shown c.loop-k.told.items ++ l) answers in
+    let queues : map left_shown c.push_reserved.new.self.items ≡ map left_shown c.loop-k.answers_left.items ++ made.answers =
+    ap (map left_shown) c.push_reserved.ensures.items ∙ map-append left_shown c.loop-k.answers_left.items (c.into_iter.result ∷ [])
+    ∙ ap (λ xs. map left_shown c.loop-k.answers_left.items ++ map answer_shown xs ∷ []) c.into_iter.ensures.rest
+    ∙ ap (λ l. map left_shown c.loop-k.answers_left.items ++ l) answers in
     let failed : c.in-Ok.landed.failed ≡ failures made.statuses = c.in-Ok.ensures.failed ∙ ap failures statuses in
     let sum = ap failures items ∙ failures-append c.loop-k.statuses.items made.statuses in
     let len = ap length items ∙ length-append c.loop-k.statuses.items made.statuses in
     let count = run_length s asked.target asked.wanted.items own in
-    let more = ap length c.push_reserved.ensures.items ∙ length-append c.loop-k.told.items (c.into_iter.result ∷ []) in
+    let more = ap length c.push_reserved.ensures.items ∙ length-append c.loop-k.answers_left.items (c.into_iter.result ∷ []) in
     record {
       room = fits_still _ _ _ _ _ _ _ _ len count left c.extend_from_slice.ensures.capacity c.loop-k.invariant.room;
       queues = more ∙ ap (λ n. n + 1) c.loop-k.invariant.queues;
       places = subst (λ n. length runs ≤ n) (sym c.push_reserved.ensures.capacity) c.loop-k.invariant.places;
       nodes = ap (λ s. node_count s.layout) state ∙ ap node_count (run_layout s asked.target asked.wanted.items own) ∙ c.loop-k.invariant.nodes;
       failed = summed _ _ _ _ _ sum failed c.loop-k.invariant.failed;
-      made = runs_on c.args.machine.now (stretches_of runs) (stretches_of (drop (c.loop-k.k + 1) runs)) during (c.loop-k.k + 1) _ _ _ _ _ _ state items queues (one_more_run c.args.machine.now (stretches_of runs) (stretches_of (drop c.loop-k.k runs)) during c.loop-k.k s c.loop-k.statuses.items (map left_shown c.loop-k.told.items) (record { target = asked.target; wanted = asked.wanted.items }) (stretches_of (drop (c.loop-k.k + 1) runs)) (ap stretches_of next) c.loop-k.invariant.made);
+      made = runs_on c.args.machine.now (stretches_of runs) (stretches_of (drop (c.loop-k.k + 1) runs)) during (c.loop-k.k + 1) _ _ _ _ _ _ state items queues (one_more_run c.args.machine.now (stretches_of runs) (stretches_of (drop c.loop-k.k runs)) during c.loop-k.k s c.loop-k.statuses.items (map left_shown c.loop-k.answers_left.items) (record { target = asked.target; wanted = asked.wanted.items }) (stretches_of (drop (c.loop-k.k + 1) runs)) (ap stretches_of next) c.loop-k.invariant.made);
     }
 
 pub returns-clause-moves : goal.returns-clause-moves
@@ -153,14 +153,14 @@ returns-clause-moves g c =
     let runs = c.args.runs.now in
     let during = shown_during c.args.during.now in
     let none = drop_all c.loop-k.k runs c.loop-k-test.false in
-    let made = all_run c.args.machine.now (stretches_of runs) (stretches_of (drop c.loop-k.k runs)) during c.loop-k.k c.loop-k.machine c.loop-k.statuses.items (map left_shown c.loop-k.told.items) (ap stretches_of none) c.loop-k.invariant.made in
+    let made = all_run c.args.machine.now (stretches_of runs) (stretches_of (drop c.loop-k.k runs)) during c.loop-k.k c.loop-k.machine c.loop-k.statuses.items (map left_shown c.loop-k.answers_left.items) (ap stretches_of none) c.loop-k.invariant.made in
     (made.0, c.loop-k.invariant.failed ∙ ap failures made.0, c.in_order.ensures ∙ ap (answers_in_order (keys_of during)) made.1, made.2)
 
 pub returns-in_err-accesses-clause-moves : goal.returns-in_err-accesses-clause-moves
 returns-in_err-accesses-clause-moves g c = none_ran _ _ _ _ c.from_residual.ensures.1
 
-pub returns-in_err-told-clause-moves : goal.returns-in_err-told-clause-moves
-returns-in_err-told-clause-moves g c = none_ran _ _ _ _ c.from_residual-in_err-told.ensures.1
+pub returns-in_err-answers_left-clause-moves : goal.returns-in_err-answers_left-clause-moves
+returns-in_err-answers_left-clause-moves g c = none_ran _ _ _ _ c.from_residual-in_err-answers_left.ensures.1
 
 pub returns-in_err-answers-clause-moves : goal.returns-in_err-answers-clause-moves
 returns-in_err-answers-clause-moves g c = none_ran _ _ _ _ c.from_residual-in_err-answers.ensures.1
@@ -168,8 +168,8 @@ returns-in_err-answers-clause-moves g c = none_ran _ _ _ _ c.from_residual-in_er
 pub returns-in_err-accesses-clause-allocates : goal.returns-in_err-accesses-clause-allocates
 returns-in_err-accesses-clause-allocates g c = on_err c.from_residual.result (some_first _ _ c.in_err-accesses.ensures.allocates)
 
-pub returns-in_err-told-clause-allocates : goal.returns-in_err-told-clause-allocates
-returns-in_err-told-clause-allocates g c = on_err c.from_residual-in_err-told.result (some_first _ _ (takes_some _ c.in_err-told.ensures.succeeds))
+pub returns-in_err-answers_left-clause-allocates : goal.returns-in_err-answers_left-clause-allocates
+returns-in_err-answers_left-clause-allocates g c = on_err c.from_residual-in_err-answers_left.result (some_first _ _ (takes_some _ c.in_err-answers_left.ensures.succeeds))
 
 pub returns-in_err-answers-clause-allocates : goal.returns-in_err-answers-clause-allocates
 returns-in_err-answers-clause-allocates g c = on_err c.from_residual-in_err-answers.result (some_last _ _ (takes_some _ c.in_err-answers.ensures.succeeds))
@@ -183,7 +183,7 @@ pub returns-in_default-clause-allocates : goal.returns-in_default-clause-allocat
 returns-in_default-clause-allocates g c = some_after _ _ _ c.loop-k-test.true
 
 pub push_reserved-requires : goal.push_reserved-requires
-push_reserved-requires g c = reserved _ _ _ _ _ c.loop-k-test.true c.loop-k.invariant.queues c.loop-k.invariant.places c.loop-k.told.ok.0
+push_reserved-requires g c = reserved _ _ _ _ _ c.loop-k-test.true c.loop-k.invariant.queues c.loop-k.invariant.places c.loop-k.answers_left.ok.0
 
 pub in_order-requires-clause-empty : goal.in_order-requires-clause-empty
 in_order-requires-clause-empty g c κs within = c.in_ok-answers.ensures.items

@@ -3,7 +3,7 @@ use Rattle.nm_steps.specs.Tree.{items_seen}
 use Rattle.nm_steps.specs.Form.{each, step_of}
 use Rattle.nm_steps.specs.Faults.{first_bad}
 use Rattle.nm_requests.specs.Views.{call_of}
-use Rattle.nm_steps.specs.Memory.{begins, step_asks}
+use Rattle.nm_steps.specs.Memory.{begins, step_allocates}
 use Rattle.nm_steps.proofs.Each.{with_front}
 use Rattle.nm_steps.proofs.reading.calls_of.Given as goal
 
@@ -11,5 +11,5 @@ abbrev pub invariant-loop-k : goal.invariant-loop-k
 invariant-loop-k g l = record {
   read : with_front (map call_of l.calls.items) (each (step_of l.limit) (items_seen g.V.JsonValue.as_data (drop l.k l.values))) ≡ each (step_of l.limit) (items_seen g.V.JsonValue.as_data l.values);
   place : l.k + first_bad l.limit (items_seen g.V.JsonValue.as_data (drop l.k l.values)) ≡ first_bad l.limit (items_seen g.V.JsonValue.as_data l.values);
-  first : 0 < l.k → begins (step_asks l.limit) (items_seen g.V.JsonValue.as_data l.values) ≡ true;
+  first : 0 < l.k → begins (step_allocates l.limit) (items_seen g.V.JsonValue.as_data l.values) ≡ true;
 }

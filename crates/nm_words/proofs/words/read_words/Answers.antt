@@ -28,8 +28,8 @@ returns-clause-refused c =
     let told : FailsBy (refusals_of ws) c.try_get_matches_from.result = refused_of _ ws c.try_get_matches_from.result program_is c.try_get_matches_from.ensures.kinds in
     subst (FailsBy (refusals_of ws)) c.in_ok-matches.was told
 
-pub returns-clause-allocates : goal.returns-clause-allocates
-returns-clause-allocates c =
+pub returns-clause-number : goal.returns-clause-number
+returns-clause-number c =
     let ws : List Text = map string_bytes c.args.words.now in
     let rule_is : rule_of c.value_parser-workers.result ≡ workers_rule = search rules in
     let app_is : app_of c.after_help.result ≡ on_top (λ s. record s { has_version = true }) (new_app (codes "numatrace")) =

@@ -11,7 +11,7 @@ returns-in-Err g c = inl (record {
   kind = kind_of c.in-Err.error;
   cause = c.in-Err.ensures.refused;
   ends = c.refused_words.ensures ∙ ap refused_status c.kind.ensures;
-  tells = c.tell_refusal.ensures;
+  prints = c.print_refusal.ensures;
   unread = refl;
   unwritten = refl;
 })

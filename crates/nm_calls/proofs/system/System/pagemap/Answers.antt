@@ -7,7 +7,7 @@ use Rattle.nm_calls.specs.definitions.Entries.{entries_mapped, entries_shown}
 use Rattle.nm_calls.specs.definitions.Outcome.{outcome, refusal_of, refused_at_once, end_of_call}
 use Rattle.nm_calls.specs.definitions.Systems.{SystemState}
 use Rattle.nm_calls.proofs.PageLists.Pagemaps.{pagemap_shown}
-use Rattle.nm_calls.proofs.Outcomes.{answers, out_at_once, tells_error, machine_lacks}
+use Rattle.nm_calls.proofs.Outcomes.{answers, out_at_once, returns_error, machine_lacks}
 use Rattle.nm_calls.proofs.system.System.pagemap.Goals as goal
 
 pub returns-in_err-entries-clause-done : goal.returns-in_err-entries-clause-done
@@ -15,7 +15,7 @@ unfolding refusal_of refused_at_once
 returns-in_err-entries-clause-done g c =
     let y : SystemState = record { state = c.self.inside.machine; run_limit = c.self.inside.run_limit } in
     subst (λ (z : SystemState). Does (λ mapped. Entries (entries_mapped mapped.items)) c.from_residual.result z z (Pagemap c.args.pid)) c.self.view_is
-    (tells_error _ y (Pagemap c.args.pid) c.from_residual.result c.in_err-entries.field-0.0 _ refl c.in_err-entries.ensures.entries c.in_err-entries.ensures.memory c.from_residual.ensures)
+    (returns_error _ y (Pagemap c.args.pid) c.from_residual.result c.in_err-entries.field-0.0 _ refl c.in_err-entries.ensures.entries c.in_err-entries.ensures.memory c.from_residual.ensures)
 
 pub returns-in_err-entries-clause-allocates : goal.returns-in_err-entries-clause-allocates
 returns-in_err-entries-clause-allocates g c = λ runs policy_set is.

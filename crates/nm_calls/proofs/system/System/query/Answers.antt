@@ -39,9 +39,9 @@ returns-clause-done g c =
     let s = c.self.inside.machine in
     let y : SystemState = record { state = c.self.inside.machine; run_limit = c.self.inside.run_limit } in
     let call = Query x.caller x.pid x.pages.items x.flags in
-    let told = c.in_ok-statuses_of.ensures.list ∙ ap (λ pid. statuses_of s pid c.as_slice.result.now) c.in_ok-permit.ensures.pid ∙ ap (statuses_of s (owner_of x.caller x.pid)) c.as_slice.ensures.value in
+    let is_so = c.in_ok-statuses_of.ensures.list ∙ ap (λ pid. statuses_of s pid c.as_slice.result.now) c.in_ok-permit.ensures.pid ∙ ap (statuses_of s (owner_of x.caller x.pid)) c.as_slice.ensures.value in
     subst (λ (z : SystemState). outcome z call ≡ record { answer = Statuses 0 c.in_ok-statuses_of.field-0.items []; system = z }) c.self.view_is
-    (answers y call _ c.in_ok-permit.ensures.exact (ap (λ (l : List ℤ). record { answer = Statuses 0 l []; system = y }) (sym told)))
+    (answers y call _ c.in_ok-permit.ensures.exact (ap (λ (l : List ℤ). record { answer = Statuses 0 l []; system = y }) (sym is_so)))
 
 pub returns-clause-allocates : goal.returns-clause-allocates
 returns-clause-allocates g c = λ runs policy_set is. absurd (cc)

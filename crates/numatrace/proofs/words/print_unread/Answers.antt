@@ -1,7 +1,7 @@
 use Rattle.std.proofs.Common.{ℕ, List, ◌∙◌, subst}
 use Rattle.std.specs.Prelude.{OnOk}
 use Rattle.std.specs.Io.KnownBytes.{Appends}
-use Rattle.numatrace.proofs.words.tell_unread.Goals as goal
+use Rattle.numatrace.proofs.words.print_unread.Goals as goal
 
 pub returns : goal.returns
 returns g c =

@@ -1,7 +1,7 @@
 use Rattle.std.proofs.Common.{refl}
 use Rattle.std.specs.Fmt.{digits}
 use Rattle.nm_calls.specs.definitions.Maps.{policy_text}
-use Rattle.nm_calls.proofs.laws.areas_are_told.Goals as goal
+use Rattle.nm_calls.proofs.laws.areas_are_listed.Goals as goal
 
 pub returns-clause-sets_as_text : goal.returns-clause-sets_as_text
 unfolding digits policy_text
