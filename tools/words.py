@@ -23,9 +23,9 @@ IRREGULAR = set("""begun bound bought broken built caught come dealt done drawn 
     known laid left lent lost made meant met paid put ran run seen sent set shown sold split spoken stolen swept taken thrown told
     torn undone understood unseen withdrawn won written""".split())
 # Words of names in place of which others stand.
-GONE = set("told tell midway meanwhile flown dues".split())
+GONE = set("told tell midway meanwhile flown".split())
 # What a clause has that says when memory is allocated.
-ERRORS = re.compile(r"\b(?:OnErr|Err|AllocatesOnlyIf|AsksLast|IsErr)\b")
+ERRORS = re.compile(r"\b(?:OnErr|Err|AllocatesOnlyIf|AsksLast)\b")
 CLAUSE = re.compile(r"\b(?:ensures|requires) ([a-z_0-9]+) \{")
 
 

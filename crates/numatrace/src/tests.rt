@@ -176,8 +176,8 @@ fn workers_hired(global: Global, text: &str) -> Result<Option<usize>, AllocError
         &mut written,
         &mut WatchedStream::new(Vec::new(global)),
     );
-    let printed = status == 0 && written.get_ref().as_slice() == REPORT.as_bytes();
-    Ok(printed.then_some(hired.load(Ordering::SeqCst)))
+    let is_right = status == 0 && written.get_ref().as_slice() == REPORT.as_bytes();
+    Ok(is_right.then_some(hired.load(Ordering::SeqCst)))
 }
 
 #[test]
@@ -228,7 +228,7 @@ fn run_refused<R: Threads + Wait>(
 }
 
 #[test]
-fn prints_refused_memory(rt: HostRuntime) -> Result<(), Fail> {
+fn reports_refused_memory(rt: HostRuntime) -> Result<(), Fail> {
     let heap = Refusing::new(rt.alloc());
     let mut refused = 0u64;
     for number in 1..10_000u64 {
