@@ -186,6 +186,8 @@ def main():
             "numbers/half_of_nothing: REFUSED BY A NAME ALONE (lower): it does not compile: src/lib.rt:28",
             "edits: 3 of 6 are refused for their meaning",
         )
+        plain.expect(1, "numbers/half_of_nothing: REFUSED BY A NAME ALONE (lower): it does not compile: src/lib.rt:28", "edits: 5 of 6 compile",
+                     words=["--compile"])
         plain.expect(0, "edits: 0 of 0 are refused for their meaning; 3 more were refused before", words=[
             "--edit", "next_is_one_too_many", "--edit", "nothing_is_next", "--edit", "half_is_more"])
         words = ["--anew", "--proved", "--function", "next", "--edit", "next_is_one_too_many"]
