@@ -3,7 +3,7 @@
 
 - No definition of the specifications and no function is named by a bare participle, except the subject's own words (OWN).
 - No name stands for two definitions in one crate, or in two crates one of which stands on the other.
-- No definition and no function has a word in its name in place of which docs/WORDS.md has another (GONE).
+- No definition, function or edit that must fail has a word in its name in place of which docs/WORDS.md has another (GONE).
 - The label of a clause is one of those that docs/WORDS.md lists, or a word of the clause or of its function's signature, and
   `allocates` is the label of clauses on errors alone."""
 import collections
@@ -69,6 +69,13 @@ def sources():
             yield os.path.relpath(path, ROOT), file.read()
 
 
+def edits():
+    """The path of each edit that must fail."""
+    for folder in ("crates/*/must-fail", "tests/edits/*"):
+        for path in sorted(glob.glob(os.path.join(ROOT, folder, "*.edit"))):
+            yield os.path.relpath(path, ROOT)
+
+
 def closed(text, start):
     """Where the brace that opens at `start` is closed."""
     depth = 0
@@ -123,6 +130,9 @@ def main():
                 faults.append(f"{path}: {function} has the label {label}, which docs/WORDS.md does not list")
             if label == "allocates" and not ERRORS.search(clause):
                 faults.append(f"{path}: {function} has a clause allocates that speaks of no error")
+    for path in edits():
+        if words_of(os.path.basename(path)) & GONE:
+            faults.append(f"{path} has a word in its name in place of which docs/WORDS.md has another")
     below = stands_on()
     for name, found in sorted(places.items()):
         found = sorted(found)
