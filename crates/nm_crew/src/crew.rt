@@ -4,7 +4,7 @@ use crate::jobs::Jobs;
 
 /// Those who do jobs of one type: the caller, and threads if the crew has any.
 pub trait Crew<J: Jobs> {
-    /// What holds of a crew, of jobs that it has done, and of what `work` returned meanwhile. Whoever takes any crew
+    /// What holds of a crew, of jobs that it has done, and of what `work` returned. Whoever takes any crew
     /// learns it from `copy_while` alone.
     ghost has_done: { Self → J → (X : Type 0) → X → Type 0 };
 
@@ -12,8 +12,8 @@ pub trait Crew<J: Jobs> {
     /// this returns.
     fn access(&self, _number: usize) {}
 
-    /// Does the jobs, and calls `work` meanwhile, once, on the calling thread. Returns every job, done, and what `work`
-    /// returned.
+    /// Does the jobs, and at the same time calls `work`, once, on the calling thread. Returns every job, done, and what
+    /// `work` returned.
     fn copy_while<T, W: FnOnce() -> T>(&self, jobs: J, work: W) -> (J, T)
         requires jobs { J.may_be_done jobs }
         requires work { W.pre work }

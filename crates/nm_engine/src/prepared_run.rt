@@ -103,7 +103,7 @@ impl<A: Allocator + Copy + Send + Sync> PreparedRun<A> {
         ensures out { AreOutIn result.0 result.1.items }
         ensures tickets { (t : ℕ) (job : Job _) → slice_get result.1.items t ≡ Some job → job.ticket ≡ t }
 
-        // What is left to do for accesses can be done meanwhile
+        // What is due for accesses can be done during the run
         ensures pending { (d : Pending) →
             IsPending (map (λ t. t.page) moves.now) self.state d →
             CanDo result.0.spaces.place result.0.frames.frames d }

@@ -114,7 +114,7 @@ impl<'m, A: Allocator + Copy> RunInFlight<'m, A> {
 }
 
 impl<'m, A: Allocator + Copy + Send + Sync> RunInFlight<'m, A> {
-    /// Has a crew make the copies of the run, and meanwhile does what is left to do for accesses. The answers go into a
+    /// Has a crew make the copies of the run, and at the same time does what is due for accesses. The answers go into a
     /// list that has room for them. Returns the run, the jobs, done, and the answers.
     pub(crate) fn copy_beside<C: RunCrew<A>>(
         self,

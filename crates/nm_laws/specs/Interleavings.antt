@@ -40,7 +40,7 @@ pub record Unfolds (m : RunMachine) (target : ℕ) (wanted : List Wanted) (event
   pub alike : HasOneAll wanted
   pub leads : after m (Begin target wanted ∷ events) ≡ Some n
 
--- whatever accesses are made meanwhile, a run can end
+-- whatever accesses are made during it, a run can end
 abbrev pub EveryRunCanEnd : Type 0
 EveryRunCanEnd =
     (m : RunMachine) (target : ℕ) (wanted : List Wanted) (accesses : List Access) →

@@ -1,4 +1,4 @@
--- What is told as lack of memory.
+-- What is reported as lack of memory.
 use Rattle.std.proofs.Common.{◌≡◌, ℕ, ◌^◌, ◌<◌, ◌==◌, List, [], ◌∷◌, length, Bool, true, false, ◌||◌, ◌&&◌, Option, Some, None, is_some, option_map, option_and_then, refl, ap, ◌∙◌, sym, subst, arith, codes}
 use Rattle.std.proofs.lemmas.Bool.{le-ltb}
 use Rattle.std.specs.Prelude.{Result, Ok, Err, IsErr, IsErrAnd, nat_le, if◌then◌else◌}

@@ -304,7 +304,7 @@ const GONE: Trail<'static> = Trail {
 | | 4 5 6 | 3 0 1 2 | | 7 8 | 3 4 | [98] | Refused(Enodev) | true",
 };
 
-/// A page goes to node 1, and meanwhile it is read, the second page is read, and the fifth, which has no frame yet, is
+/// A page goes to node 1; during its run it is read, the second page is read, and the fifth, which has no frame yet, is
 /// written.
 ///
 /// The page that an access was to fill has no frame if the run was refused, and no free frame is lost or out of its
@@ -334,7 +334,7 @@ const IN_FLIGHT: Trail<'static> = Trail {
 | 0: [1] held [98] done | 4 1 2 3 5 | 0 | 6 7 | 1 0 | [97] | [98] | true",
 };
 
-/// A page goes to node 1, and meanwhile it is read through an area that does not show it yet.
+/// A page goes to node 1, and during its run it is read through an area that does not show it yet.
 ///
 /// The area through which the page was read has no entry for it if the run was refused.
 const HELD: Trail<'static> = Trail {

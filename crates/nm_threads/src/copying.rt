@@ -20,7 +20,7 @@ use std::sync::Wait;
 use std::thread;
 use std::thread::{Scope, Threads};
 
-/// Copies the jobs, and calls `work` meanwhile. The jobs' tickets must count up from 0 in the list's order. The caller is
+/// Copies the jobs, and calls `work` as well. The jobs' tickets must count up from 0 in the list's order. The caller is
 /// worker 0: it starts the others, calls `work` once, copies with them, and returns when their threads have ended. If
 /// there are fewer bytes to copy than the gate's `worth_from`, it copies alone. Returns every job, copied, in the order of
 /// its ticket, and what `work` returned. If the host is out of memory or starts no thread, the remaining workers do all

@@ -205,7 +205,7 @@ module _ (y : AddressSpacesView) (k : FramesView) (online : List ℕ) (moved fai
     Beside store =
         (f : ℕ) → times f (frames_left taken) ≡ 0 → times f (frames_taken taken) ≡ 0 → IsHome k.frames f → IsPopulated k.frames f → IsHome store f × IsPopulated store f
 
-    -- the page of what is left to do is in a frame that is home meanwhile
+    -- the page of what is due is in a frame that is home during the run
     page_in : (store : Store) → Beside store
         → (p : Page) (at len : ℕ) (o : Option ℕ) → get page_cmp y.place p ≡ o → IsSome o → list_any (same_page p) (pages_of taken) ≡ false → at + len ≤ 4096 → IsIn spaces_then.place store p at len
     page_in store homes p at len None e some other fits = cc

@@ -11,7 +11,7 @@ use Rattle.nm_laws.specs.Interleavings.{Unfolds, IsRun}
 use Rattle.nm_laws.specs.InFlight.{frames_of_job}
 use Rattle.nm_engine.specs.views.Flights.{Flight, IsFlightOf, pair_of}
 
--- what a run is asked for: the node that pages go to, the requests, and the accesses made meanwhile
+-- what a run is asked for: the node that pages go to, the requests, and the accesses during the run
 pub record RunRequest : Type 0 where
   pub target : ℕ
   pub wanted : List Wanted
@@ -21,7 +21,7 @@ pub record RunRequest : Type 0 where
 abbrev pub result_of_run : State → RunRequest → RunResult
 result_of_run s asked = run s asked.target asked.wanted asked.accesses
 
--- a run machine that begins such a run at rest in this state, with these accesses meanwhile, ends it so, whatever order
+-- a run machine that begins such a run at rest in this state, with these accesses during it, ends it so, whatever order
 -- its events take
 abbrev pub EndsSo : State → RunRequest → RunResult → Type 0
 EndsSo s asked ran =

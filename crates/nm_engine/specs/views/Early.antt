@@ -1,4 +1,4 @@
--- What is done for a run before it begins: its frames are taken, and the accesses that come meanwhile are touched.
+-- What is done for a run before it begins: its frames are taken, and the accesses during it are touched.
 use Rattle.std.specs.Prelude.{◌≡◌, ℕ, ◌≤◌, List, map, length, vec_len}
 use Rattle.std.specs.List.{AllByRecursion}
 use Rattle.std.specs.declared.vec.Vec.{Vec}

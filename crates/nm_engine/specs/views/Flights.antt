@@ -86,8 +86,8 @@ module _ {A : Type 0} where
   abbrev pub frames_then : Flight → List (CopyJob A) → FramesView
   frames_then x jobs = let k = x.frames in record k { frames = with_jobs_back k.frames (map job_after_copy jobs) }
 
-  -- the state that is read meanwhile: each page is in the frame that it goes to, with the bytes that it has in the one
-  -- that it leaves
+  -- the state that accesses during the run read: each page is in the frame that it goes to, with the bytes that it has in
+  -- the one that it leaves
   abbrev pub state_in_flight : Flight → List (CopyJob A) → State
   state_in_flight x jobs = shown_by x.spaces (frames_then x jobs) x.online x.moved x.failed
 
@@ -106,7 +106,7 @@ module _ {A : Type 0} where
     pub entries : (pid v : ℕ) → entry_at m.tasks pid v ≡ entry_at x.tables pid v
     pub ends : map frames_of_job m.jobs ≡ map (λ t. (t.from, t.to)) x.moves
 
-  -- what is left to do for accesses can be done meanwhile, and an empty list has room for their answers
+  -- what is due for accesses can be done during the run, and an empty list has room for their answers
   pub record CanAnswer (x : Flight) (all_due : Vec (Left A) A) (answers : Vec (Given A) A) : Type 0 where
     pub can : AllByRecursion (CanDo x.spaces.place x.frames.frames) (map pending_shown all_due.items)
     pub room : AllByRecursion HasRoom all_due.items

@@ -1,4 +1,4 @@
--- A worked example: one page moves, and three accesses are made meanwhile.
+-- A worked example: one page moves, and three accesses are made during its run.
 use Rattle.std.specs.Prelude.{◌≡◌, ℕ, false, List, [], ◌∷◌, ◌++◌, map, replicate, Option, Some, None, Bool}
 use Rattle.std.specs.Option.{option_map}
 use Rattle.nm_types.specs.Map.{get, page_cmp, with_values, Map}

@@ -16,8 +16,7 @@ use std::alloc::Allocator;
 use std::marker::Model;
 
 /// The frames of all nodes while the bytes of some are out, in the jobs of a run. Those of the others are home, and can
-/// be read and overwritten meanwhile. Contracts see as room how many frames the list of those that pages have left has
-/// room for.
+/// be read and overwritten. Contracts see as room how many frames the list of those that pages have left has room for.
 #[derive(Drop)]
 pub struct FramesInFlight<A: Allocator + Copy> {
     pub(super) parts: Box<FrameParts<A>, A>,

@@ -96,7 +96,7 @@ removed es now k h =
     h q ∙ ap (λ o. cond (nat_eq k q) None o) (by_pid_get es q) ∙ ap (λ b. cond b None (get nat_cmp (by_pid es) q)) (unsigned_ties k q)
     ∙ sym (lookup-remove_entry (eq_by_cmp_equiv nat_cmp_total) (is_at (nat_cmp k)) (λ x y t. ap is_eq (nat_cmp_total.congr k x y (equal _ t))) q (by_pid es) (IsDistinct-from_sorted nat_cmp (keys_of (by_pid es)) (by_pid_sorted es))))
 
--- what a process becomes, told by what is found
+-- what a process becomes, by what is found
 pub rewritten : (es after : List (ℕ × Task)) (now : Map ℕ Task) (k : ℕ) (w : Task) → by_pid es ≡ now → IsSome (lookup (nat_eq k) es) → ((q : ℕ) → lookup (nat_eq q) after ≡ cond (nat_eq k q) (Some w) (lookup (nat_eq q) es)) → by_pid after ≡ replace nat_cmp now k w
 rewritten es after now k w same there h =
     by_look_ups after (replace nat_cmp (by_pid es) k w) (subst (IsStrictlySortedBy nat_cmp) (sym (keys-replace nat_cmp (by_pid es) k w)) (by_pid_sorted es)) (λ q.

@@ -40,7 +40,7 @@ both_yes true b f g = sym (f refl)
 both_yes false true f g = g refl
 both_yes false false f g = refl
 
--- numbers told apart by == and by order
+-- == and the order of numbers agree
 same_equal : nat_eq ≡ eq_by_cmp nat_cmp
 same_equal = λ i a b. unsigned_ties a b i
 

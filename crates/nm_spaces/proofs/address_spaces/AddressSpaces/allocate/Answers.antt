@@ -17,9 +17,9 @@ use Rattle.nm_spaces.proofs.Tied.Touches.{task_at, process_at, unmapped_at, page
 use Rattle.nm_spaces.proofs.address_spaces.AddressSpaces.allocate.Given.{Over}
 use Rattle.nm_spaces.proofs.address_spaces.AddressSpaces.allocate.Goals as goal
 
--- the page has a frame meanwhile
-placed_meanwhile : (m n : Mapping) (p : Page) (f : ℕ) → n ≡ with_frame m p f → IsSome (get page_cmp n.place p)
-placed_meanwhile m n p f is = subst IsSome (sym (ap (λ (n : Mapping). get page_cmp n.place p) is ∙ place_new m.place p f)) refl
+-- the page has a frame before its bytes are written
+is_placed : (m n : Mapping) (p : Page) (f : ℕ) → n ≡ with_frame m p f → IsSome (get page_cmp n.place p)
+is_placed m n p f is = subst IsSome (sym (ap (λ (n : Mapping). get page_cmp n.place p) is ∙ place_new m.place p f)) refl
 
 -- the page again has none
 areas_undone : (y : AddressSpacesView) (tasks : Map ℕ Task) (m n k : Mapping) (r : Mappers) (p : Page) (f : ℕ) → spaces_view tasks m r ≡ y → IsTied tasks m r → get page_cmp y.place p ≡ None → n ≡ with_frame m p f → k ≡ without_frame n p → k ≡ m
@@ -27,10 +27,10 @@ areas_undone y tasks m n k r p f is h none given taken =
     taken ∙ ap (λ (n : Mapping). without_frame n p) given ∙ place_undone m p f h.places (ap (λ (y : AddressSpacesView). get page_cmp y.place p) is ∙ none)
 
 pub drop_frame-requires : goal.drop_frame-requires
-drop_frame-requires g c = placed_meanwhile c.deref_mut-parts.result.now.areas c.set_frame.new.self c.args.page c.args.frame c.in_ok-set_frame.ensures.ok
+drop_frame-requires g c = is_placed c.deref_mut-parts.result.now.areas c.set_frame.new.self c.args.page c.args.frame c.in_ok-set_frame.ensures.ok
 
 pub drop_frame-requires-in-Err-set : goal.drop_frame-requires-in-Err-set
-drop_frame-requires-in-Err-set g c = placed_meanwhile c.deref_mut-parts.result.now.areas c.set_frame.new.self c.args.page c.args.frame c.in_ok-set_frame.ensures.ok
+drop_frame-requires-in-Err-set g c = is_placed c.deref_mut-parts.result.now.areas c.set_frame.new.self c.args.page c.args.frame c.in_ok-set_frame.ensures.ok
 
 pub set-requires : goal.set-requires
 set-requires g c =
