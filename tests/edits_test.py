@@ -192,6 +192,10 @@ def main():
             "--edit", "next_is_one_too_many", "--edit", "nothing_is_next", "--edit", "half_is_more"])
         words = ["--anew", "--proved", "--function", "next", "--edit", "next_is_one_too_many"]
         plain.expect(0, "edits: 1 of 1 are refused for their meaning", words=words)
+        # (with stand-ins for the proofs of what is not edited)
+        words = ["--anew", "--proved", "--edit", "half_is_all", "--edit", "nothing_is_next", "--edit", "first_is_lost"]
+        plain.expect(1, "numbers/half_is_all: LET THROUGH (lower)", "numbers/first_is_lost: LET THROUGH (after_next)",
+                     "edits: 1 of 3 are refused for their meaning; 2 rounds", words=words)
         plain.expect(1, "no edit changes a function last", words=["--function", "last"])
         plain.expect(1, "letters is no crate with edits", words=["letters"])
         plain.plant("whole_is_lost")

@@ -9,6 +9,7 @@ import sys
 import tempfile
 
 from rounds.logs import Log
+from rounds.standins import put
 from rounds.texts import reader
 
 ROOT = os.path.dirname(os.path.dirname(os.path.dirname(os.path.abspath(__file__))))
@@ -143,36 +144,40 @@ class Checks:
         are_built = all(os.path.isdir(each.rlib) for each in self.below())
         return are_built and (all(noted is None for noted, _ in stamps) or all(noted == stamp for noted, stamp in stamps))
 
-    def check(self, texts, only=(), name="plain", edits=()):
-        """The log of a check with these texts: of these functions and those that they call alone, if there are any. Its name and that of
-        its edits are for people who keep logs."""
+    def check(self, texts, only=(), stands=(), name="plain", edits=()):
+        """The log of a check with these texts: of these functions and those that they call alone, if there are any, and with stand-ins for
+        proofs in these folders. Its name and that of its edits are for people who keep logs."""
         with tempfile.TemporaryDirectory(prefix="try-", dir=self.room) as room:
             copy, kept = os.path.join(room, "copy"), os.path.join(room, "kept")
             shutil.copytree(self.plain, copy)
             for path, text in texts.items():
                 with open(os.path.join(copy, path), "w", encoding="utf-8") as file:
                     file.write(text)
+            put(self.name, copy, stands)
             if self.seed:
                 linked(self.seed, kept)
             else:
                 os.mkdir(kept)
-            log = self.run(copy, kept, only)
+            log = self.run(copy, kept, [*(word for path in only for word in ("--only", path)), *["--allow-holes"] * bool(stands)])
             self.keep(log, name, edits)
-            if not self.seed and log.has_verdict():
-                self.seed = os.path.join(self.room, "seed")
-                os.rename(kept, self.seed)
+            # (what a check of a part keeps is not all that the next one needs, which needs another part)
+            if log.has_verdict() and (only or not self.seed):
+                seed = os.path.join(self.room, "seed")
+                shutil.rmtree(seed, ignore_errors=True)
+                os.rename(kept, seed)
+                self.seed = seed
             return log
 
     def command(self, copy):
         """What checks a copy, and where."""
         return self.crate.words(["--jobs", "1"], keeps=False), copy
 
-    def run(self, copy, kept, only):
-        """The log of a check of a copy; one that is killed is run again once, since the memory that it lacked may be free then."""
+    def run(self, copy, kept, more):
+        """The log of a check of a copy, with more words; one that is killed is run again once, since the memory that it lacked may be free
+        then."""
         words, folder = self.command(copy)
-        words += [word for path in only for word in ("--only", path)]
         for _ in range(2):
-            ran = Ran([*self.rt.rtlib.guarded(), self.rt.rtlib.RATTLE, "check", *words, "--incremental", kept, "--progress"], folder)
+            ran = Ran([*self.rt.rtlib.guarded(), self.rt.rtlib.RATTLE, "check", *words, *more, "--incremental", kept, "--progress"], folder)
             self.seconds += ran.seconds
             if ran.status != -signal.SIGKILL:
                 break

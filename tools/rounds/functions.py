@@ -72,6 +72,7 @@ class Function:
     def __init__(self, file, path, owner, name, start, header):
         self.file, self.modules, self.owner, self.name, self.start = file, path, owner, name, start
         self.is_public = bool(re.search(r"\bpub\s+(?:(?:const|unsafe|final|default|extern\s+\S+)\s+)*fn\b", header)) or bool(owner.trait)
+        self.is_in_cycle = bool(re.search(r"#\[cycle\b", header))
         self.body = self.end = None
 
     @property

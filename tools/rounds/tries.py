@@ -1,11 +1,8 @@
 """The edits of one crate, tried by rounds: in each, at most one edit of a function, all of them in one check."""
-from rounds import logs
+from rounds import logs, standins
 from rounds.checks import Fault
 from rounds.functions import Sources, names_of
 from rounds.logs import BY_NAME, LET_THROUGH, NOT_JUDGED, REFUSED, WAITS
-
-# For so many rounds no check comes first in which nothing is edited.
-FEW = 2
 
 
 class Try:
@@ -31,7 +28,8 @@ class Tries:
         self.checks, self.sources, self.rounds = checks, Sources(checks.text_of), 0
         self.tries, self.names = [], {}
         # Whether a round checks only what is edited, and what that calls: so it is where nothing is kept that the rest could be taken from.
-        self.is_partial = False
+        # Then stand-ins are put for all other proofs, in these folders of each function, unless the prover refuses them.
+        self.is_partial, self.has_stand_ins, self.places = False, True, None
         # (a round that cannot be read as a whole is halved)
         self.most = len(edits)
         for edit in edits:
@@ -67,17 +65,12 @@ class Tries:
             chosen, texts = left[:1], left[0].edit.applied(self.checks.text_of)[0]
         return chosen, texts
 
-    def planned(self):
-        """How many rounds there will be at least."""
-        ours = [each for one in self.left() if not one.is_alone for each in one.functions]
-        return max((ours.count(each) for each in ours), default=0) + sum(one.is_alone for one in self.left())
-
     def base(self, is_proved):
-        """Sees that the crate is proved without an edit, unless that is known: then the first round is made from nothing, and what it
-        keeps serves the others, but where there are many rounds a check without an edit comes first, which serves them better."""
+        """Sees that the crate is proved without an edit, unless that is known: then a round checks only what it edits; but a check without an
+        edit comes first where some edits change more than the bodies of functions, which a check of the whole crate has to tell of."""
         if not is_proved or not self.checks.is_ready():
             self.checks.prove()
-        elif self.planned() > FEW:
+        elif any(one.is_alone for one in self.left()):
             log = self.checks.check({})
             if log.status:
                 raise Fault(f"it is not proved without an edit: {log.why_none() if not log.has_verdict() else log.last}")
@@ -92,23 +85,36 @@ class Tries:
         known = [[name for name in self.names.get(each, ()) if "::fn::" not in name] or [each.path()] for each in ours]
         return [] if [None] in known else list(dict.fromkeys(path for paths in known for path in paths))
 
+    def stands(self, chosen, only):
+        """The folders below proofs/ where a round puts stand-ins: those of all functions that it does not edit."""
+        if not only or not self.has_stand_ins:
+            return []
+        if self.places is None:
+            self.places = standins.places(self.checks.name, self.checks.plain, self.sources, self.checks.files())
+        edited = {each for one in chosen for each in one.functions}
+        return [path for each, paths in self.places.items() if each not in edited for path in paths]
+
     def run(self, say):
         """Tries all."""
         while self.left():
             chosen, texts = self.next_round()
             self.rounds += 1
             only = self.only(chosen)
-            log = self.checks.check(texts, only, f"round-{self.rounds}", [one.edit.name for one in chosen])
+            stands = self.stands(chosen, only)
+            log = self.checks.check(texts, only, stands, f"round-{self.rounds}", [one.edit.name for one in chosen])
             why = ""
-            if only and not log.has_verdict() and not log.broken:
+            if stands and not log.has_verdict() and not log.broken:
+                # (a folder is for no function)
+                self.has_stand_ins, why = False, f", without stand-ins, since {log.why_none()}"
+            elif only and not log.has_verdict() and not log.broken:
                 # (a path fits no function, or several)
                 self.is_partial, why = False, ", without --only"
             elif not log.has_verdict():
                 why = self.read_broken(log, chosen)
             elif len(chosen) == 1:
-                self.read_alone(log, chosen[0])
+                self.read_alone(log, chosen[0], stands)
             else:
-                why = self.read(log, chosen)
+                why = self.read(log, chosen, stands)
             again = sum(not one.verdict for one in chosen)
             if len(chosen) > 1:
                 say(f"{self.checks.name}: round {self.rounds}: {len(chosen)} edits at once" + (f", {again} of them once more{why}" if again else ""))
@@ -118,7 +124,7 @@ class Tries:
         found = []
         while self.left():
             chosen, texts = self.next_round()
-            log = self.checks.check(texts, [""], f"compile-{len(found)}", [one.edit.name for one in chosen])
+            log = self.checks.check(texts, [""], name=f"compile-{len(found)}", edits=[one.edit.name for one in chosen])
             if log.broken:
                 self.read_broken(log, chosen)
             elif log.status in (0, 1):
@@ -148,12 +154,15 @@ class Tries:
     def has_line(self, one, file, line):
         return one.functions is not None and self.sources.at_line(file, line) in one.functions
 
-    def read(self, log, chosen):
+    def read(self, log, chosen, stands):
         """What a log says of several edits; returns why all of them are tried again, if they are."""
         self.names = names_of(self.checks.name, self.sources.all(self.checks.files()), log.of)
         edited = {each for one in chosen for each in one.functions}
         theirs = {name for each in edited for name in self.names.get(each, ())}
         strange = [name for name, text in log.of.items() if name not in theirs and logs.is_open(name, text)]
+        if strange and stands:
+            self.has_stand_ins = False
+            return f", without stand-ins, since {strange[0]} is not proved either: {log.of[strange[0]][:90]}"
         if strange:
             self.halve(chosen)
             return f", half as many at a time, since {strange[0]} is not proved either: {log.of[strange[0]][:90]}"
@@ -161,20 +170,27 @@ class Tries:
             self.read_one(log, one)
         return ""
 
-    def read_alone(self, log, one):
-        """What a log says of the one edit."""
-        ours = names_of(self.checks.name, self.sources.all(self.checks.files()), log.of)
-        if all(ours[each] for each in one.functions or ()):
-            one.judge(*logs.of_crate(log))
-        else:
+    def read_alone(self, log, one, stands):
+        """What a log says of the one edit: all that it says counts, unless stand-ins are in it."""
+        self.names = names_of(self.checks.name, self.sources.all(self.checks.files()), log.of)
+        if not all(self.names[each] for each in one.functions or ()):
             one.judge(NOT_JUDGED, "the check's log has no line of its function")
+        elif stands:
+            verdict, why = self.said_of(log, one)
+            one.judge(*(NOT_JUDGED, f"it waits for {why[0]}") if verdict == WAITS else (verdict, why))
+        else:
+            one.judge(*logs.of_crate(log))
+
+    def said_of(self, log, one):
+        """The verdict on one edit by the lines of its functions, and why."""
+        names = [name for each in one.functions for name in self.names[each]]
+        spans = [(each.file, *self.sources.span(each)) for each in one.functions]
+        one.seconds = sum(log.took.get(name, 0) for name in names)
+        return logs.of_functions(log, names, self.checks.name, spans)
 
     def read_one(self, log, one):
         """What a log says of one of several edits."""
-        names = [name for each in one.functions for name in self.names[each]]
-        spans = [(each.file, *self.sources.span(each)) for each in one.functions]
-        verdict, why = logs.of_functions(log, names, self.checks.name, spans)
-        one.seconds = sum(log.took.get(name, 0) for name in names)
+        verdict, why = self.said_of(log, one)
         if verdict == WAITS:
             one.waits.update(why)
         elif verdict in (REFUSED, LET_THROUGH):
