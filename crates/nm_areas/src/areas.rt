@@ -65,9 +65,9 @@ impl<A: Allocator + Copy> Areas<A> {
         Some(line_of(&self.table.segments, first, area))
     }
 
-    /// The same as it is kept, with its first page number: for callers to whom it is all one whether its segment is
-    /// shared, which this does not look up. The result holds for all of the area's page numbers, so callers may keep it
-    /// for those.
+    /// The area of a process that covers a page number, as it is kept, with its first page number. Unlike `find`, this
+    /// does not look up whether its segment is shared. The result holds for all of the area's page numbers, so callers
+    /// may keep it for those.
     pub fn over(&self, pid: Pid, vpn: Vpn) -> Option<(Vpn, nm_types::Area)>
         ensures found { option_map {U = PlacedArea} (λ found. ((pid, found.0), found.1)) result
             ≡ area_over self.now.areas pid vpn }

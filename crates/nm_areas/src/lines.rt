@@ -30,7 +30,7 @@ pub struct Area {
 
 impl<A: Allocator + Copy> Areas<A> {
     /// The areas of a process, in address order. Empty if it has none, or if there is no such process. An error means
-    /// that the host is out of memory; an empty list takes none.
+    /// that the host is out of memory; an empty list needs none.
     pub fn lines(&self, pid: Pid) -> Result<Vec<Area, A>, AllocError>
         ensures lines { IfOk result
             (λ lines. lines.items ≡ lines_of self.now.segments self.now.areas pid) }

@@ -46,7 +46,7 @@ impl<A: Allocator + Copy> Areas<A> {
     }
 
     /// The frames of all pages that have one, in page order. An error means that the host is out of memory; if no page
-    /// has a frame, the list takes none.
+    /// has a frame, the list needs none.
     pub fn frames(&self) -> Result<Vec<FrameId, A>, AllocError>
         ensures frames { IfOk result (λ frames. frames.items ≡ values_of self.now.place) }
         ensures allocates { OnErr result (0 < length self.now.place) }
@@ -55,7 +55,7 @@ impl<A: Allocator + Copy> Areas<A> {
     }
 
     /// The pages that have a frame, each with its frame, by segment and index. An error means that the host is out of
-    /// memory; if no page has a frame, the list takes none.
+    /// memory; if no page has a frame, the list needs none.
     pub fn placed(&self) -> Result<Vec<(Page, FrameId), A>, AllocError>
         ensures placed { IfOk result (λ placed. placed.items ≡ self.now.place) }
         ensures allocates { OnErr result (0 < length self.now.place) }

@@ -15,9 +15,9 @@ impl<A: Allocator + Copy> Hand<A> {
         self.shares
     }
 
-    /// Whether it tried to draw when no job was left, or a hand did that it was split off from or that was joined into
-    /// it. A hand with all shares that is past the end has drawn each ticket once. No hand draws a ticket twice, and it
-    /// has given back each ticket that it drew or still has it out.
+    /// Whether it tried to draw when no job was left, or a hand did from which it was split off, or which was joined
+    /// into it. A hand with all shares that is past the end has drawn each ticket once. No hand draws a ticket twice,
+    /// and each hand has given back every ticket that it drew or still has it out.
     pub fn past_end(&self) -> bool
         // In any case
         ensures value { result ≡ self.now.past_end }

@@ -11,7 +11,7 @@ use std::alloc::{AllocError, Allocator};
 use std::snapshot::Snapshot;
 
 /// Moves the jobs into a list of slots, in order. The list that they came in keeps its capacity. An error means that
-/// the host is out of memory; a list without jobs takes none.
+/// the host is out of memory; a list without jobs needs none.
 pub(crate) fn into_slots<A: Allocator + Copy>(
     alloc: A,
     room: &mut Vec<CopyJob<A>, A>,

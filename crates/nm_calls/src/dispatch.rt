@@ -92,8 +92,8 @@ fn query<A: Allocator + Copy + Send + Sync>(
 
 impl<A: Allocator + Copy + Send + Sync> System<A> {
     /// Makes a call that is given as a value. It returns the same errors as the method of the same name, and leaves the
-    /// same state if the host is out of memory. The crew makes the moves of a call that moves pages. Allocates only
-    /// where `MayAllocate` holds: there is something to unmap, move, set or list, say.
+    /// same state if the host is out of memory. In a call that moves pages, the crew looks at them and copies them.
+    /// Allocates only where `MayAllocate` holds: for example, where there is something to unmap, move, set or list.
     pub fn call<C: RunCrew<A>>(&mut self, crew: &C, call: &Call<A>) -> Result<Answer<A>, CallError>
         ensures done { Does answer_of result self.old self.new (call_of call.now) }
         ensures allocates { AllocatesOnlyIf result (MayAllocate self.old.state (call_of call.now)) }

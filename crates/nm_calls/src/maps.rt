@@ -236,7 +236,7 @@ fn area_text<A: Allocator + Copy + Send + Sync>(
     Ok(line)
 }
 
-/// A process's areas as text. An error means that the host is out of memory; no areas take none.
+/// A process's areas as text. An error means that the host is out of memory; without areas it needs none.
 pub(crate) fn areas_text<A: Allocator + Copy + Send + Sync>(
     alloc: A,
     machine: &Machine<A>,

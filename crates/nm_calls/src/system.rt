@@ -34,7 +34,8 @@ use nm_types::{Errno, FrameId, Geometry, NodeId, Pid, Vpn};
 use std::alloc::{AllocError, Allocator};
 use std::marker::Model;
 
-/// Entries in the form that `pagemap` returns. An error means that the host is out of memory; no entries take none.
+/// Entries in the form that `pagemap` returns. An error means that the host is out of memory; without entries it needs
+/// none.
 fn mapped_of<A: Allocator + Copy>(
     alloc: A,
     entries: &[(Vpn, Entry)],
@@ -240,11 +241,11 @@ impl<A: Allocator + Copy + Send + Sync> System<A> {
     /// target's number, and the page moves. -16 and -12 count as failed. A frame that a run leaves becomes free when
     /// the run ends.
     ///
-    /// Each access of `during` is made during the run with its number, from 0: those of a run in order,
-    /// after its frames are reserved and before those that its pages left are free. An access to a page that its run
+    /// Each access of `during` is made during the run that it names by number, from 0: those of one run in order, after
+    /// the run has taken its frames and before those that its pages left are free. An access to a page that its run
     /// moves is held: it reads and writes nothing, and takes no frame. On Linux it would find a migration entry, and
-    /// wait (the kernel's Documentation/mm/page_migration.rst). Held comes after ESRCH, EINVAL and EFAULT, and before
-    /// ENOMEM. Any other access does what `read` or `write` would, with the same answer.
+    /// wait (the kernel's Documentation/mm/page_migration.rst). ESRCH, EINVAL and EFAULT come before that, and ENOMEM
+    /// after it. Any other access does what `read` or `write` would, with the same answer.
     ///
     /// Returns the statuses in the order of the list, the number of entries that failed, and the answers to the
     /// accesses in the order of `during`. An access of a run that the call does not make has none: `run_count` returns

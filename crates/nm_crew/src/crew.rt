@@ -4,8 +4,8 @@ use crate::jobs::Jobs;
 
 /// Those who do jobs of one type: the caller, and threads if the crew has any.
 pub trait Crew<J: Jobs> {
-    /// What holds of a crew, of jobs that it has done, and of what `work` returned. Whoever takes any crew
-    /// learns it from `copy_while` alone.
+    /// What holds of a crew, of jobs that it has done, and of what `work` returned. Code that takes any crew knows it
+    /// from `copy_while` alone.
     ghost has_done: { Self → J → (X : Type 0) → X → Type 0 };
 
     /// The caller has come to the access in flight with this number, counted from 0 in each run. The access is made once

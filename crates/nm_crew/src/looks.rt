@@ -7,10 +7,10 @@ use nm_runs::{Class, Run};
 use nm_types::{Geometry, PageView};
 use std::alloc::{AllocError, Allocator};
 
-/// Those who look at a view of one type, at what runs in memory of one allocator ask for.
+/// Those who look up, in a view of one type, what runs ask for. The runs are in memory of one allocator.
 pub trait Looks<A: Allocator + Copy, V: PageView> {
     /// What to do with each request of a run, in order, from a look at what it names. The view must show frames of this
-    /// machine only. An error means that the host is out of memory; a run without requests takes none. The target's
+    /// machine only. An error means that the host is out of memory; a run without requests needs none. The target's
     /// number is also used as a status, so it must be below 2^31.
     fn classify(
         &self,

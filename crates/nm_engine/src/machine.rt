@@ -191,9 +191,9 @@ impl<A: Allocator + Copy + Send + Sync> Machine<A> {
     /// target's number if the page is there already; -13 (EACCES) if another process sees the page and the request does
     /// not ask for all; -16 (EBUSY) if the page has a pin; -12 (ENOMEM) if the target has no free frame. A page that
     /// moves takes the front of the target's free list. The frames that pages leave become free when the run ends, in
-    /// the order of the moves. The totals count the moves, and the requests with -16 or -12. All requests must move
-    /// pages that other processes see, as those by page do, or none: their classes at the run's start are then those
-    /// that they have one after another. An error means that the host is out of memory, and that nothing has changed.
+    /// the order of the moves. The totals count the moves, and the requests with -16 or -12. Either all requests move a
+    /// page even if other processes see it, as those by page do, or none does: then the classes at the run's start are
+    /// enough to decide one after another. An error means that the host is out of memory, and that nothing has changed.
     ///
     /// While the pages are copied, processes make accesses, one after another. Each is answered as it would be outside
     /// a run, except that an access to a page that moves in this run is held, as it has to wait in the kernel's
@@ -217,7 +217,7 @@ impl<A: Allocator + Copy + Send + Sync> Machine<A> {
             (λ landed. ran_by self.new landed ≡ result_of_run self.old (asked_by requests.now accesses.now)) }
         ensures failed { IfOk result (λ landed. landed.failed ≡ failures landed.statuses.items) }
 
-        // Events that lead to it, with jobs that the crew has done, and beside them entries held and these answers given
+        // Events of the run machine that lead to it, for jobs that the crew has done and the run that `work` returned
         ensures events { IfOk result
             (λ landed. (x : Flight) × (jobs : Vec (CopyJob _) _)
             × C.has_done crew.now jobs (Flight × Vec (Given _) _) (x, landed.answers)
@@ -231,7 +231,7 @@ impl<A: Allocator + Copy + Send + Sync> Machine<A> {
         ensures err { OnErr result (self.new ≡ self.old) }
         ensures allocates { OnErr result (0 < length requests.now.wanted.items + length accesses.now) }
     {
-        // For `orders`: `events` speaks of one order, and this law of all.
+        // For the clause `ends`: the clause `events` is about one order of events, and this law about every order.
         interleavings();
         let plan = self.plan(crew, requests)?;
         let answers = Vec::with_capacity(self.alloc, accesses.len())?;

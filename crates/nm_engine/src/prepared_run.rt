@@ -21,8 +21,8 @@ use nm_types::{NodeMask, PageMove, Pid, Vpn};
 use std::alloc::Allocator;
 use std::marker::Model;
 
-/// A machine in which a run is prepared: frames that its pages take belong to the run, and accesses that come while the
-/// pages are on their way have been touched. Contracts see a state, and the frames that the run has.
+/// A machine in which a run is prepared: the frames that its pages take belong to the run, and the accesses that come
+/// while the pages are on their way have made their touches. Contracts see a state, and the frames that the run has.
 #[derive(Drop)]
 pub(crate) struct PreparedRun<A: Allocator + Copy> {
     pub(crate) spaces: AddressSpaces<A>,
@@ -64,7 +64,7 @@ impl<A: Allocator + Copy + Send + Sync> PreparedRun<A> {
         }
     }
 
-    /// The machine, where the run has no frames.
+    /// Gives back the machine. The run must have no frames.
     pub(crate) fn into_machine(self) -> Machine<A>
         requires none { self.left ≡ [] }
         ensures { result ≡ self.state }
@@ -95,7 +95,7 @@ impl<A: Allocator + Copy + Send + Sync> PreparedRun<A> {
             state_in_flight result.0 result.1.items
             ≡ with_moves (with_fronts self.state target (frames_taken moves.now)) target moves.now }
 
-        // The run machine that has begun the same run
+        // A run machine that begins the same run is then at the same moment
         ensures event { BeginsSo self moves.now result.0 result.1.items }
 
         // Its jobs

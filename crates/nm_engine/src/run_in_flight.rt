@@ -21,10 +21,10 @@ use nm_types::{Errno, FrameId, NodeMask, Page, PageMove, Pid, Vpn};
 use std::alloc::Allocator;
 use std::marker::Model;
 
-/// A run whose pages are on their way to other frames, with the whole machine. Whoever maps such a page, its entry is
-/// held, as it is in the kernel (Documentation/mm/page_migration.rst); the bytes of both frames of each move are out, in
-/// the jobs of the crew. Contracts see the page tables, what the address spaces are once the pages have arrived, and the
-/// frames with the bytes that are home.
+/// A run whose pages are on their way to other frames, with the whole machine. Every entry for such a page is held, as
+/// migration entries are in the kernel (Documentation/mm/page_migration.rst); the bytes of both frames of each move are
+/// out, in the jobs of the crew. Contracts see the page tables, what the address spaces are once the pages arrived, and
+/// the frames with the bytes that are home.
 #[derive(Drop)]
 pub(crate) struct RunInFlight<'m, A: Allocator + Copy> {
     pub(crate) spaces: HeldSpaces<A>,
@@ -47,7 +47,7 @@ impl<'m, A: Allocator + Copy> Model for RunInFlight<'m, A> {
 }
 
 impl<'m, A: Allocator + Copy> RunInFlight<'m, A> {
-    /// Does what is left to do for an access, whose touch is made, to a page that is not on its way. Does not allocate.
+    /// Does what is due for an access. The page that it reads or writes, if any, is not on its way. Does not allocate.
     fn access(&mut self, due: PendingAccess<'_, A>) -> AccessAnswer<A>
         requires due { CanDo self.old.spaces.place self.old.frames.frames (pending_shown due) }
         requires room { HasRoom due }
@@ -115,7 +115,7 @@ impl<'m, A: Allocator + Copy> RunInFlight<'m, A> {
 
 impl<'m, A: Allocator + Copy + Send + Sync> RunInFlight<'m, A> {
     /// Has a crew make the copies of the run, and at the same time does what is due for accesses. The answers go into a
-    /// list that has room for them. Returns the run, the jobs, done, and the answers.
+    /// list that has room for them. Returns the run, the jobs, which are done, and the answers.
     pub(crate) fn copy_beside<C: RunCrew<A>>(
         self,
         crew: &C,

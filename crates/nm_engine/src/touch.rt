@@ -63,8 +63,8 @@ impl TouchOutcome {
 
 impl ResolvedAddress {
     /// What a read or a write does before it reaches the bytes. Returns the frame of the page that the process then sees,
-    /// and how to undo what was done. If it sees a page before, or reads the page of zeros, nothing is refused. Allocates
-    /// only if it is not refused.
+    /// and how to undo what was done. If the process already sees a page, or reads the page of zeros that it sees, it
+    /// does not fail. Allocates only if it is not refused.
     pub(crate) fn touch<A: Allocator + Copy>(
         self,
         spaces: &mut AddressSpaces<A>,

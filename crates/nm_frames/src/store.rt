@@ -33,7 +33,7 @@ impl<A: Allocator + Copy> Model for FrameStore<A> {
 
 impl<A: Allocator + Copy> FrameStore<A> {
     /// Makes a store of `frames` frames that read as zeros, all home and with their buffers. An error means that the host
-    /// is out of memory; a store of no frames takes none.
+    /// is out of memory; a store of no frames needs none.
     pub fn new(alloc: A, frames: usize) -> Result<Self, AllocError>
         ensures ok { IfOk result (λ store. store ≡ frames_of_zeros frames true) }
         ensures allocates { OnErr result (0 < frames) }
@@ -47,7 +47,7 @@ impl<A: Allocator + Copy> FrameStore<A> {
     }
 
     /// Makes a store of `frames` frames that read as zeros, all home and without their buffers. An error means that the
-    /// host is out of memory; a store of no frames takes none.
+    /// host is out of memory; a store of no frames needs none.
     pub fn without_buffers(alloc: A, frames: usize) -> Result<Self, AllocError>
         ensures ok { IfOk result (λ store. store ≡ frames_of_zeros frames false) }
         ensures allocates { OnErr result (0 < frames) }

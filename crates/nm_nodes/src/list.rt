@@ -31,7 +31,7 @@ impl<A: Allocator + Copy> Model for FreeList<A> {
 impl<A: Allocator + Copy> FreeList<A> {
     /// Makes the list of all frames of a node that owns `size` frames from `first` on, in ascending order. The last
     /// must be at most 65,535, as a frame's number has 16 bits. An error means that the host is out of memory; a node
-    /// without frames takes none.
+    /// without frames needs none.
     pub fn upwards(alloc: A, first: u32, size: u32) -> Result<Self, AllocError>
         requires { first + size ≤ 2 ^ 16 }
         ensures ok { IfOk result (λ l. l ≡ (size, up_from first size)) }

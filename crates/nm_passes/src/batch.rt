@@ -53,9 +53,9 @@ pub fn run_count(nodes: &[u32], limit: usize) -> usize
 }
 
 /// Makes runs one after another, with a crew that copies their pages, and puts the statuses into a list that has room
-/// for them. Each access is made during the run with its number. Allocates before the first run starts,
-/// except for what a run itself needs. An error means that the host is out of memory, and says after how many runs; no
-/// runs and no accesses take none.
+/// for them. Each access is made during the run with its number. Allocates before the first run starts, except for what
+/// a run itself needs. An error means that the host is out of memory, and says after how many runs; without runs and
+/// accesses there is no error.
 pub fn move_runs<A: Allocator + Copy + Send + Sync, C: RunCrew<A>>(
     crew: &C,
     alloc: A,
@@ -99,7 +99,7 @@ pub fn move_runs<A: Allocator + Copy + Send + Sync, C: RunCrew<A>>(
 /// Moves the pages of a request, whose batch goes to nodes of the machine, run after run, with at most `limit` entries
 /// in each run. The runs and lists are made before the first run starts, so that memory for them cannot be refused
 /// halfway. An error means that the host is out of memory, and says after how many runs; a batch of no pages and no
-/// accesses takes none.
+/// accesses needs none.
 pub fn move_batch<A: Allocator + Copy + Send + Sync, C: RunCrew<A>>(
     crew: &C,
     alloc: A,
@@ -136,7 +136,7 @@ pub fn move_batch<A: Allocator + Copy + Send + Sync, C: RunCrew<A>>(
 }
 
 /// The accesses of each of the first `count` runs, each run's in order. An error means that the host is out of memory;
-/// no runs take none.
+/// without runs it needs none.
 pub(crate) fn by_run<'d, A: Allocator + Copy + Send + Sync>(
     alloc: A,
     during: &'d [InFlight<A>],

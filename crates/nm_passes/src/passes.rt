@@ -28,7 +28,7 @@ use std::alloc::{AllocError, Allocator};
 
 /// Makes runs, one after another, and returns the status of each request, in order. `count` is how many requests they
 /// have. Allocates before the first run starts, except for what a run itself needs. An error means that the host is out
-/// of memory; no runs take none.
+/// of memory; without runs it needs none.
 pub(crate) fn make_runs<A: Allocator + Copy + Send + Sync, C: RunCrew<A>>(
     crew: &C,
     alloc: A,

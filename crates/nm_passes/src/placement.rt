@@ -107,7 +107,8 @@ fn nodes_tried<A: Allocator + Copy + Send + Sync>(
     }
 }
 
-/// How pages move to where a policy wants them. An error means that the host is out of memory; no pages take none.
+/// How pages move to where a policy wants them. An error means that the host is out of memory; without pages it needs
+/// none.
 pub fn way_of<A: Allocator + Copy + Send + Sync>(
     alloc: A,
     machine: &Machine<A>,

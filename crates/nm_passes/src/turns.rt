@@ -78,7 +78,7 @@ fn first_run<A: Allocator + Copy>(
 
 /// The runs of pages of a process that each go to a node of their own, under a limit of at least 1: the longest
 /// stretches of pages for one node, each cut from its front into runs of at most `limit` pages. An error means that the
-/// host is out of memory; no pages take none.
+/// host is out of memory; without pages it needs none.
 fn cut_sent<A: Allocator + Copy>(
     alloc: A,
     pid: Pid,
@@ -104,7 +104,7 @@ fn cut_sent<A: Allocator + Copy>(
 }
 
 /// Moves pages of a process, each to a node of its own, in runs of at most `limit` pages, and returns the status of
-/// each page, in order. An error means that the host is out of memory; no pages take none.
+/// each page, in order. An error means that the host is out of memory; without pages it needs none.
 pub(crate) fn make_turns<A: Allocator + Copy + Send + Sync, C: RunCrew<A>>(
     crew: &C,
     alloc: A,

@@ -14,8 +14,8 @@ use std::alloc::{AllocError, Allocator};
 
 /// Decides one request after these moves: a page that moves takes the first frame that none of them has taken. The
 /// number of moves so far is the index of that frame in `free_front`, so no free list changes before the plan is
-/// complete. An error means that the host is out of memory; none is asked for after fewer than eight moves, or if the
-/// request moves no page.
+/// complete. An error means that the host is out of memory, which happens only after at least eight moves, and only if
+/// the request moves a page.
 fn choose<A: Allocator + Copy>(
     class: Class,
     free_front: &[FrameId],
@@ -96,7 +96,7 @@ fn shortage_of(classes: &[Class], statuses: &[i32]) -> Option<usize>
 /// The plan of a run with these classes, where the target has these free frames, front first. The requests are decided
 /// one after another, since each depends on those before it: a page that is to move takes the first frame that no page
 /// has taken yet, or gets -12 (ENOMEM) if there is none; a page that is named again stays where it went. An error means
-/// that the host is out of memory; a run without requests takes none.
+/// that the host is out of memory; a run without requests needs none.
 pub fn plan<A: Allocator + Copy>(
     alloc: A,
     classes: &[Class],

@@ -15,7 +15,7 @@ pub struct Destination {
     pub to: NodeId,
 }
 
-/// The nodes of a set, in ascending order. An error means that the host is out of memory; an empty set takes none.
+/// The nodes of a set, in ascending order. An error means that the host is out of memory; an empty set needs none.
 fn nodes_of<A: Allocator + Copy>(alloc: A, set: NodeMask) -> Result<Vec<NodeId, A>, AllocError>
     ensures nodes { IfOk result (λ nodes. nodes.items ≡ set) }
     ensures allocates { OnErr result (0 < length set) }
@@ -29,7 +29,7 @@ fn nodes_of<A: Allocator + Copy>(alloc: A, set: NodeMask) -> Result<Vec<NodeId, 
 }
 
 /// Each page of a list with the node whose turn it is, in the order of the list. An error means that the host is out of
-/// memory; an empty list takes none.
+/// memory; an empty list needs none.
 fn pages_with_turns<A: Allocator + Copy>(
     alloc: A,
     nodes: &[NodeId],
@@ -52,7 +52,7 @@ fn pages_with_turns<A: Allocator + Copy>(
 }
 
 /// Appends the pages that go to a node to a list. An error means that the host is out of memory; if there is no page, it
-/// takes none.
+/// needs none.
 fn append_for<A: Allocator + Copy>(
     node: NodeId,
     dealt: &[Destination],
@@ -74,7 +74,7 @@ fn append_for<A: Allocator + Copy>(
 /// order by the page's index in its segment, as MPOL_INTERLEAVE wants, and the pages go in the order of nodes and then
 /// of the list. A set of one node takes all pages in the order of the list, as MPOL_PREFERRED and each pass of
 /// MPOL_BIND want. If the set is empty, no page goes anywhere. An error means that the host is out of memory; if the
-/// set or the list is empty, it takes none.
+/// set or the list is empty, it needs none.
 pub fn mbind_targets<A: Allocator + Copy>(
     alloc: A,
     nodes: NodeMask,

@@ -41,8 +41,8 @@ struct FrameParts<A: Allocator + Copy> {
     vacated: Vec<FrameId, A>,
 }
 
-/// The frames of all nodes with their bytes, each node's free frames, and the frames that a run's pages have left and
-/// that become free when it ends. All but the list of jobs is in one box, so that a move copies little.
+/// The frames of all nodes with their bytes, each node's free frames, and those of a run: the frames taken for its
+/// pages, then those that its pages left. All but the list of jobs is in one box, so passing it by value copies little.
 #[derive(Drop)]
 pub struct FramePool<A: Allocator + Copy> {
     parts: Box<FrameParts<A>, A>,
@@ -289,8 +289,8 @@ impl<A: Allocator + Copy> FramePool<A> {
         self.jobs.reserve(parts.vacated.len() + count)
     }
 
-    /// Takes `count` frames from the front of a node's list, or all if there are fewer: they belong to a run until its
-    /// pages are in them. Does not allocate.
+    /// Takes `count` frames from the front of a node's list, or all if there are fewer. They belong to a run, and are
+    /// in `vacated` until `vacate_each` or `give_back`. Does not allocate.
     pub fn take_for_run(&mut self, node: NodeId, count: usize)
         requires node { node < node_count self.old.layout }
         requires room { length self.old.vacated + count ≤ self.old.room }
@@ -324,7 +324,7 @@ impl<A: Allocator + Copy> FramePool<A> {
         return_tos(&mut parts.nodes, node, moves);
     }
 
-    /// Lets the pages of these moves leave their frames, which become free when the run ends, for those taken for them.
+    /// Makes `vacated` the frames that the pages of these moves leave. They become free when the run ends.
     pub fn vacate_each(&mut self, moves: &[PageMove])
         requires room { length moves.now ≤ self.old.room }
         requires populated { AllByRecursion (IsPopulated self.old.frames) (frames_left moves.now) }

@@ -92,7 +92,7 @@ impl<A: Allocator + Copy> Mappings<A> {
         }
     }
 
-    /// A list of them, in order. An error means that the host is out of memory; an empty list takes none.
+    /// A list of them, in order. An error means that the host is out of memory; an empty list needs none.
     pub(crate) fn list(&self, alloc: A) -> Result<Vec<(Pid, Vpn), A>, AllocError>
         ensures all { IfOk result (λ mappings. mappings.items ≡ self.now) }
         ensures allocates { OnErr result (0 < length self.now) }

@@ -37,7 +37,7 @@ impl<A: Allocator + Copy> Model for ReverseMap<A> {
 
 impl<A: Allocator + Copy> ReverseMap<A> {
     /// Makes a map of `frames` frames without mappers and pins. An error means that the host is out of memory; a map of
-    /// no frames takes none.
+    /// no frames needs none.
     pub fn new(alloc: A, frames: usize) -> Result<Self, AllocError>
         ensures ok { IfOk result (λ map. map ≡ new_map frames) }
         ensures allocates { OnErr result (0 < frames) }
@@ -77,7 +77,7 @@ impl<A: Allocator + Copy> ReverseMap<A> {
     }
 
     /// The mappers of a frame, by pid and then by page number. An error means that the host is out of memory; a frame
-    /// without mappers takes none.
+    /// without mappers needs none.
     pub fn mappers(&self, frame: FrameId) -> Result<Vec<(Pid, Vpn), A>, AllocError>
         requires { frame < length self.now.mappings }
         ensures all { IfOk result (λ mappings. mappings.items ≡ mappers_of self.now frame) }

@@ -102,8 +102,8 @@ fn known_class(last: &Option<(Wanted, Class)>, wanted: &Wanted) -> Option<Class>
     }
 }
 
-/// A request and what to do with it. `last` is the same of the request before: what is asked again is not looked up
-/// again.
+/// A request, and what to do with it. `last` is the request before it, and what to do with that: if the two are equal,
+/// nothing is looked up.
 fn classify_next<A: Allocator + Copy, V: PageView>(
     geometry: &Geometry<A>,
     view: &V,
@@ -127,8 +127,8 @@ fn classify_next<A: Allocator + Copy, V: PageView>(
 }
 
 /// What to do with each request, in order, from a look at what it names, by the calling thread. The view must show frames
-/// of this machine only. An error means that the host is out of memory; no requests take none. The target's number is
-/// also used as a status, so it must be below 2^31.
+/// of this machine only. An error means that the host is out of memory; without requests it needs none. The target's
+/// number is also used as a status, so it must be below 2^31.
 pub fn classes_of<A: Allocator + Copy, V: PageView>(
     alloc: A,
     geometry: &Geometry<A>,

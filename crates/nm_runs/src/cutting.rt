@@ -58,7 +58,7 @@ fn first_run<A: Allocator + Copy>(alloc: A, requests: &[Request]) -> Result<Run<
 /// The runs of a batch under a limit of at least 1, in order: its longest stretches of requests for one node, each cut
 /// from its front into runs of at most `limit` requests. A batch without requests has no runs. The caller has all runs
 /// before it starts the first, so memory for the list of a later run cannot be refused after pages have moved. An error
-/// means that the host is out of memory; a batch without requests takes none.
+/// means that the host is out of memory; a batch without requests needs none.
 pub fn cut<A: Allocator + Copy>(
     alloc: A,
     requests: &[Request],
@@ -154,7 +154,7 @@ fn first_pages<A: Allocator + Copy>(
 
 /// The runs of a batch of pages of a process under a limit of at least 1, as `cut` cuts their requests. The pages
 /// are named by an address in each, and each goes to the node at the same index. An error means that the host is out of
-/// memory; no pages take none.
+/// memory; without pages it needs none.
 pub fn cut_pages<A: Allocator + Copy>(
     alloc: A,
     pid: Pid,

@@ -9,14 +9,14 @@ use rayon::prelude::*;
 use std::alloc::{AllocError, Allocator};
 use std::thread::Threads;
 
-/// The fewest requests for which a thread of their own is worth its start.
+/// The fewest requests that are worth starting a thread for.
 const PIECE: usize = 4096;
 
 /// What to do with each request of a run, in order, from a look at what it names. Up to `workers` threads each look at a
 /// piece of the run, if it is long enough for two pieces of 4,096 requests or more. A shorter run is looked at by the
 /// calling thread, and so is one whose first and last pages are as close as those of one array, since looks at pages close
 /// together cost less than threads. The view must show frames of this machine only. An error means that the host is out of
-/// memory; a run without requests takes none. The target's number is also used as a status, so it must be below 2^31.
+/// memory; a run without requests needs none. The target's number is also used as a status, so it must be below 2^31.
 pub fn classify<R: Threads + Sync, A: Allocator + Copy + Send + Sync, V: PageView + Sync>(
     rt: &R,
     workers: usize,
@@ -44,8 +44,8 @@ pub fn classify<R: Threads + Sync, A: Allocator + Copy + Send + Sync, V: PageVie
     join_parts(alloc, pieces.as_slice(), wanted.len())
 }
 
-/// The most page numbers for each request of a run whose pages are close together: an eighth of those of one leaf of a
-/// page table.
+/// A run's pages are close together if the first and the last are fewer page numbers apart than this many for each
+/// request: an eighth of those of one leaf of a page table.
 const CLOSE: u64 = 64;
 
 /// Whether the first request and the last are for page numbers of one process, close together for so many requests. It is

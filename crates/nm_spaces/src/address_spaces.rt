@@ -43,7 +43,7 @@ pub struct AddressSpaces<A: Allocator + Copy> {
     parts: Box<SpaceParts<A>, A>,
 }
 
-/// What address spaces are made of. It is in one box, so that a move of address spaces copies a pointer.
+/// What address spaces are made of. It is in one box, so that passing address spaces by value copies a pointer.
 #[derive(Drop)]
 pub(crate) struct SpaceParts<A: Allocator + Copy> {
     pub(crate) tasks: ProcessTable<A>,

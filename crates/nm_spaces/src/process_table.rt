@@ -207,10 +207,10 @@ fn task_of<A: Allocator + Copy>(
     Some(&tasks[place])
 }
 
-/// Where the process with this pid stands among the others, if there is one. Mostly pids are given one after another,
-/// and processes stand in the order in which they came: so this looks there first, then one place further, where it
-/// stands if one other came out of turn. Whoever goes through the processes that see a page mostly asks for one after
-/// another: so this looks at the next one as well, and only then hashes the pid.
+/// The index of the process with this pid in the table, if there is one. Pids are mostly given one after another, and
+/// the table has processes in the order in which they came. So this looks first as far behind the first process as the
+/// pid is above its pid, then one further, in case another one came out of order. A walk over the processes that see a
+/// page mostly asks for one after another, so this looks at `next` too, and only then hashes the pid.
 #[inline]
 fn place_of<A: Allocator + Copy>(tasks: &Tasks<A>, next: usize, pid: Pid) -> Option<usize>
     ensures within { IfSome result (λ i. i < length tasks.now.entries) }

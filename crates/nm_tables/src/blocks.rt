@@ -323,7 +323,7 @@ impl<A: Allocator + Copy> Blocks<A> {
     }
 
     /// Appends the entries from one page number to another, both included, to a list, in ascending order. An error means
-    /// that only some first ones of them were appended, or none.
+    /// that only the first few of them were appended, or none.
     pub(crate) fn list_within(
         &self,
         first: Vpn,

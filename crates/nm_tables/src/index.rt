@@ -85,7 +85,7 @@ impl<A: Allocator + Copy> Index<A> {
     }
 
     /// Appends the entries that the blocks have from one page number to another, both included, to a list, in ascending
-    /// order. The slots name leaves of `leaves`. An error means that only some first ones of them were appended, or
+    /// order. The slots name leaves of `leaves`. An error means that only the first few of them were appended, or
     /// none.
     pub(crate) fn list_within(
         &self,

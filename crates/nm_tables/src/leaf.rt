@@ -98,7 +98,7 @@ pub(crate) fn first_in(leaf: &Places, at: Vpn) -> Option<(Vpn, Entry)>
 }
 
 /// Appends the entries of a leaf from one page number to another, both included, to a list, in ascending order. An error
-/// means that only some first ones of them were appended, or none.
+/// means that only the first few of them were appended, or none.
 pub(crate) fn list_leaf<A: Allocator + Copy>(
     leaf: &Places,
     first: Vpn,

@@ -66,7 +66,7 @@ pub(crate) trait Subtree<A: Allocator + Copy>: Drop {
         ensures none { IfNone result ((v : ℕ) → at ≤ v → get nat_cmp (slots self.now) v ≡ None) };
 
     /// Appends the entries that its blocks have from one page number to another, both included, to a list, in ascending
-    /// order. Its slots name leaves of `leaves`. An error means that only some first ones of them were appended, or
+    /// order. Its slots name leaves of `leaves`. An error means that only the first few of them were appended, or
     /// none.
     fn list_within(
         &self,

@@ -110,7 +110,7 @@ impl<A: Allocator + Copy> PageTable<A> {
 
     /// Appends the entries at page numbers from `first` up to but not including `end` to a list, in ascending order.
     /// Takes time for the blocks and entries in that range, and allocates for the list alone. An error means that the
-    /// host is out of memory, and that only some first ones of these entries were appended, or none.
+    /// host is out of memory, and that only the first few of these entries were appended, or none.
     pub fn list_between(
         &self,
         first: Vpn,
@@ -136,7 +136,7 @@ impl<A: Allocator + Copy> PageTable<A> {
     }
 
     /// All entries with their page numbers, in ascending order. An error means that the host is out of memory; a table
-    /// without entries takes none.
+    /// without entries needs none.
     pub fn entries(&self) -> Result<Vec<(Vpn, Entry), A>, AllocError>
         ensures all { IfOk result (λ entries. entries.items ≡ self.now) }
         ensures allocates { OnErr result (0 < length self.now) }

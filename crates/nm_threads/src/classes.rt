@@ -17,7 +17,7 @@ struct Leave<R: Threads> {
 }
 
 impl<R: Threads> Leave<R> {
-    /// That of a runtime.
+    /// The stand-in for a runtime.
     fn of(_rt: &R) -> Self {
         Leave { of: PhantomData }
     }
@@ -25,8 +25,8 @@ impl<R: Threads> Leave<R> {
 
 impl<R: Threads> Threads for Leave<R> {}
 
-/// What to do with each request of a run, in order, from a look at what it names: that of `nm_runs`, for a runtime that
-/// threads need not share.
+/// What to do with each request of a run, in order, from a look at what it names: `classify` of `nm_runs`, but for a
+/// runtime that need not be `Sync`.
 pub fn classify<R: Threads, A: Allocator + Copy + Send + Sync, V: PageView + Sync>(
     rt: &R,
     workers: usize,

@@ -57,8 +57,8 @@ pub fn copy_while<
     }
 }
 
-/// How many workers to use besides the caller to copy these jobs: none if they have fewer bytes to copy than make it worth
-/// it, and never more than there are jobs.
+/// How many workers to use besides the caller to copy these jobs: none if there are fewer than `worth_from` bytes to
+/// copy, and never more than there are jobs.
 fn others<A: Allocator + Copy>(jobs: &[CopyJob<A>], worth_from: usize, workers: usize) -> usize
     requires { 0 < workers }
     ensures { (size : ℕ) × IsSizeOfAll jobs.now size
@@ -71,7 +71,7 @@ fn others<A: Allocator + Copy>(jobs: &[CopyJob<A>], worth_from: usize, workers: 
     }
 }
 
-/// How many bytes there are to copy, at most the greatest `usize`.
+/// How many bytes there are to copy, or the greatest `usize` if they are more.
 fn size_of<A: Allocator + Copy>(jobs: &[CopyJob<A>]) -> usize
     ensures { IsSizeOfAll jobs.now result }
 {

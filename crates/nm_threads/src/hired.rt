@@ -69,7 +69,7 @@ impl<'a, R: Threads + Wait> Looks<Global, AddressSpaces<Global>> for Hired<'a, R
     }
 }
 
-/// An allocator that refuses.
+/// An allocator over `Global` that may refuse.
 type Heap<'h> = &'h Refusing<Global>;
 
 impl<'a, 'h, R: Threads + Wait> Crew<Vec<CopyJob<Heap<'h>>, Heap<'h>>> for Hired<'a, R> {

@@ -83,10 +83,10 @@ pub(crate) fn play_calls<A: Allocator + Copy + Send + Sync, C: RunCrew<A>, W: Re
 /// Makes the calls of a trace on a system with the trace's limit on runs, and writes the report on them, some 64 KiB at
 /// a time. Returns the number of steps.
 ///
-/// `WriteFault` if the writer failed or took no byte: some first steps were made, and the report on them breaks off.
-/// `HostMemory(k)` if the host was out of memory in step k: the lines of the steps before it were written, and step k
-/// was made as far as its call says. The lines themselves need no memory. Which crew it is makes no
-/// difference to the report or to the system.
+/// `WriteFault` if the writer failed or took no byte: the steps up to some step were made, and the report on them
+/// breaks off. `HostMemory(k)` if the host was out of memory in step k: the lines of the steps before it were written,
+/// and step k was made as far as its call says. The lines themselves need no memory. The report and the system do not
+/// depend on the crew.
 pub fn play<A: Allocator + Copy + Send + Sync, C: RunCrew<A>, W: ReportingWriter>(
     crew: &C,
     alloc: A,

@@ -82,9 +82,9 @@ fn run_bytes<A: Allocator + Copy + Send + Sync, C: RunCrew<A>, W: ReportingWrite
 /// Reads a trace to its end, checks all of it, plays it on a new system with a crew, and writes the report. Also returns
 /// the system, for callers that want to look at it or to go on.
 ///
-/// What it promises is what `run_trace` does, of the system that it returns. With a fault, it also says how far the play
-/// came: at most 65,536 bytes of lines before the last step that was made were not written, and memory was refused in a
-/// step that asks for some.
+/// It promises what `run_trace` does, of the system that it returns. With a fault, it also says how far the play got:
+/// of the lines before those of the last step made, at most 65,536 bytes were not written, and a step that was refused
+/// memory is one that asks for some.
 pub fn run_on<
     A: Allocator + Copy + Send + Sync,
     C: RunCrew<A>,
@@ -104,7 +104,7 @@ pub fn run_on<
         trace (W.contents writer.old) (W.contents writer.new) result
         × ComesTo trace (W.contents writer.old) (W.contents writer.new) result }
 
-    // The writer fails with a write fault, and never else
+    // Afterwards the writer has failed if the result is a write fault, or if it had failed before, and only then
     ensures writes { W.has_failed writer.new ≡ (is_write_fault result || W.has_failed writer.old) }
 {
     let bytes = read_bytes(alloc, reader)?;
@@ -132,7 +132,7 @@ pub fn run_trace<
         × GivesTrace (R.remaining reader.old) (R.has_failed reader.old) (R.has_failed reader.new) (R.gave reader.old reader.new) trace
         × Runs (PlaysWhole (W.contents writer.old) (W.contents writer.new)) trace (W.contents writer.old) (W.contents writer.new) result }
 
-    // The writer fails with a write fault, and never else
+    // Afterwards the writer has failed if the result is a write fault, or if it had failed before, and only then
     ensures writes { W.has_failed writer.new ≡ (is_write_fault result || W.has_failed writer.old) }
 {
     let played = run_on(crew, alloc, heap, reader, writer)?;

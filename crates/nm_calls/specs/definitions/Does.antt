@@ -8,7 +8,7 @@ use Rattle.nm_calls.specs.definitions.Answers.{Answer, Refusal}
 use Rattle.nm_calls.specs.definitions.Systems.{SystemState}
 use Rattle.nm_calls.specs.definitions.Outcome.{refused_at_once, outcome, sets_policy, runs_of, after_runs}
 
--- a call that runs out of host memory would not have been refused, and leaves the system as it was, or as after some of
+-- a call that runs out of host memory is not refused at once, and leaves the system as it was, or as after some of
 -- its first runs with the policy set, but never after the last run
 abbrev pub HostLeaves : SystemState → Call → ℕ → Bool → SystemState → Type 0
 HostLeaves old call runs policy_set new =

@@ -4,7 +4,7 @@ use Rattle.nm_types.specs.State.{State}
 use Rattle.nm_model.specs.definitions.Sound.{IsSoundInFlight}
 use Rattle.nm_types.specs.Layout.{frame_count}
 
--- a state, the frames that a run's pages have left, and how many there is room for
+-- a state, the frames that belong to a run (of a prepared one, those taken for its pages), and its room for frames
 pub record RunState : Type 0 where
   pub state : State
   pub left : List ℕ

@@ -27,9 +27,9 @@ use std::collections::BTreeSet;
 
 impl<A: Allocator + Copy> PreparedRun<A> {
     /// Reserves all that the run allocates, takes the frames of moves to a node, and makes all touches of the accesses
-    /// that come while the pages are on their way. Returns what is then left to do for each access, none of which
-    /// allocates. An error means that the host is out of memory, and that nothing has changed but the room that there
-    /// is.
+    /// that come while the pages are on their way. Returns what is then due for each access, none of which allocates.
+    /// An error means that the host is out of memory, and that nothing has changed except how many moves there is room
+    /// for.
     pub(crate) fn prepare<'d>(
         &mut self,
         target: NodeId,

@@ -27,7 +27,7 @@ pub data Event : Type 0 where
   Draw : (worker : ℕ) → Event
   -- a worker gives a job back, copied
   Give : (worker ticket : ℕ) → Event
-  -- a process reads or writes
+  -- a process makes an access: its touch, and then its read or write
   Touch : (access : Access) → Event
   -- the run ends
   End : Event

@@ -27,7 +27,7 @@ pub record Job : Type 0 where
   pub target : Buffer
   pub stage : Stage
 
--- a run has not begun, is under way, or has ended
+-- a run has not begun, is in flight, or has ended
 pub data Phase : Type 0 where
   Ready : Phase
   Moving : Phase

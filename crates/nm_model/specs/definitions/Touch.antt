@@ -30,12 +30,12 @@ pub record AccessSite : Type 0 where
 abbrev pub shown_at : AccessSite → Page
 shown_at at = page_of at.area at.vpn
 
--- this place, or EFAULT: no area covers the page number
+-- the site with this area, or EFAULT: no area covers the page number
 abbrev pub site_over : ℕ → Process → ℕ → Option PlacedArea → Result AccessSite Errno
 site_over pid process v None = Err Efault
 site_over pid process v (Some area) = Ok (record { pid = pid; process = process; area = area; vpn = v })
 
--- this place, or the first refusal (ESRCH: no such process; EINVAL: no byte, or past the page's end; EFAULT: no area)
+-- this site, or the first refusal (ESRCH: no such process; EINVAL: no byte, or past the page's end; EFAULT: no area)
 abbrev pub site_of : State → Option Process → ℕ → ℕ → ℕ → Result AccessSite Errno
 site_of s None pid address len = Err Esrch
 site_of s (Some process) pid address len =
@@ -94,7 +94,7 @@ abbrev pub share_page : State → AccessSite → Option ℕ → Result State Err
 share_page s at (Some frame) = Ok (with_sight s at (Sees (shown_at at)))
 share_page s at None = fill_page s at
 
--- a touch uses an entry that shows a page; the page of zeros serves reads of private pages
+-- a touch changes nothing where a page is seen already, and gives a read of a private page the page of zeros
 abbrev pub touch_sight : State → AccessSite → Bool → Option Sight → Result State Errno
 touch_sight s at writes (Some (Sees page)) = Ok s
 touch_sight s at writes (Some ZeroPage) = if writes then fill_page s at else Ok s

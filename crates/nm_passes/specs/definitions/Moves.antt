@@ -21,8 +21,8 @@ states_from k s (r ∷ rs) accesses =
 abbrev pub states_of : State → List Stretch → List State
 states_of s rs = states_from 0 s rs []
 
--- what a call reports of runs: the statuses, how many failed, and the answers, in the order of accesses that name runs by
--- these numbers; and the state after them
+-- what a call reports of its runs, and the state after them: the statuses, how many failed, and the answers, in the
+-- order of the accesses, each of which names its run by one of these numbers
 abbrev pub Reports : {A : Type 0} → Moved A → State → List ℕ → RunResult → Type 0
 Reports moved new numbers made =
     (moved.statuses.items ≡ made.statuses) × (moved.failed ≡ failures made.statuses)

@@ -152,7 +152,7 @@ fn replace_each<A: Allocator + Copy>(
     }
 }
 
-/// The same for those of a set.
+/// Replaces the entry at each page number of a set by another one.
 fn replace_set<A: Allocator + Copy>(
     tasks: &mut ProcessTable<A>,
     mappings: &BTreeSet<(Pid, Vpn), A>,

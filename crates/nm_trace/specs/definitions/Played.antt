@@ -31,8 +31,8 @@ StopsAt s calls k t =
     let before = state_after s (take k calls) in
     (call : Call) × (slice_get calls k ≡ Some call) × MayAllocate before.state call × StopsIn before call t
 
--- the report on the first k calls breaks off; of the lines before those of the last of them, at most 65,536 bytes were
--- not written: after a write that fails no more calls are made than have so many bytes of lines
+-- the report on the first k calls breaks off, and of the lines of all but the last of them at most 65,536 bytes were
+-- not written: no more wait in a block, and once a write has failed no more calls are made
 abbrev pub BreaksOffAt : SystemState → List Call → ℕ → Option (List ℕ) → Option (List ℕ) → Type 0
 BreaksOffAt s calls k old new =
     BreaksOffSoon 65536 old new (report_from 0 s (take (k - 1) calls)) (report_from 0 s (take k calls))

@@ -11,9 +11,9 @@ IsTraceOf bytes (Err ReadFault) = ⊥
 IsTraceOf bytes (Err (HostMemory k)) = (k ≡ 0) × (0 < length bytes)
 IsTraceOf bytes trace = trace ≡ trace_of bytes
 
--- the trace that a reader gives, or why there is none, where it has these bytes left, if that is known, had failed or not before
--- and after, and gave so many bytes in between: a read fault has its cause; if the host has no memory, the reader gave at least
--- one byte; else the trace is that of all of its bytes, which are no more than a trace may have
+-- the trace that a reader gives, or why there is none, if it had these bytes left (where that is known), had failed or
+-- not before and after, and gave so many bytes: a read fault has its cause; if the host has no memory, the reader gave
+-- at least one byte; else the trace is that of all of its bytes, which are no more than a trace may have
 abbrev pub GivesTrace : Option (List ℕ) → Bool → Bool → (ℕ → Type 0) → Result TraceContents TraceError → Type 0
 GivesTrace remaining before now gave (Err ReadFault) = HasReadCause trace_limit now gave
 GivesTrace remaining before now gave (Err (HostMemory k)) = (k ≡ 0) × (now ≡ before) × ((n : ℕ) × (0 < n) × gave n)
