@@ -30,7 +30,7 @@ pub(crate) struct TouchOutcome {
 }
 
 impl TouchOutcome {
-    /// The process sees the page shown there, which got this frame, in place of nothing or of the page of zeros.
+    /// The process now sees the page shown there, which got this frame; it saw nothing, or the page of zeros, before.
     fn placed(pid: Pid, vpn: Vpn, zero: bool, page: Page, frame: FrameId) -> Self
         ensures { result ≡ touched_at pid vpn zero (Some frame) (Some (page, frame)) }
     {

@@ -1,4 +1,4 @@
--- What holds of the run machine while a run is under way.
+-- What holds of the run machine while its run is in flight.
 use Rattle.std.specs.Prelude.{◌≡◌, ℕ, ◌<◌, List, Bool, true, false, Option, Some, None, map, length, if◌then◌else◌}
 use Rattle.std.specs.Option.{is_some}
 use Rattle.std.specs.List.{AllByRecursion, list_any}

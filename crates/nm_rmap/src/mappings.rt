@@ -153,7 +153,7 @@ fn insert_in<A: Allocator + Copy>(
     Ok(())
 }
 
-/// Removes a page number of a process from a set, if it is there, and counts the process no more if it has no other one.
+/// Removes a page number of a process from a set, if it is there, and stops counting the process if it has no other.
 fn remove_from<A: Allocator + Copy>(
     tree: &mut BTreeSet<(Pid, Vpn), A>,
     processes: &mut usize,

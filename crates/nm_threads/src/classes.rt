@@ -10,7 +10,7 @@ use std::marker::PhantomData;
 use std::sync::atomic::AtomicPtr;
 use std::thread::Threads;
 
-/// Stands for a runtime of this type. It has no bytes, so every thread may have it.
+/// Stands in for a runtime of this type: leave to start its threads. It has no bytes, so every thread may have it.
 #[derive(Drop)]
 struct Leave<R: Threads> {
     of: PhantomData<AtomicPtr<R>>,

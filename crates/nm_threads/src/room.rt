@@ -2,7 +2,7 @@
 
 use std::marker::Brand;
 
-/// Names one board.
+/// A type that names one board. (It has nothing to do with the room of a list.)
 pub(crate) trait Room {
     ghost use Rattle.nm_board.specs.Shown.{Laying};
 

@@ -98,7 +98,7 @@ module _ {A : Type 0} where
     pub kept : IsSoundMachine (state_in_flight x jobs) x.frames.vacated x.spaces.frames
     pub populated : AllByRecursion (IsPopulated (with_jobs_back x.frames.frames (map job_after_copy jobs))) x.frames.vacated
 
-  -- a run machine whose run is under way, of these moves: it is read as the same state, and each process has the same entry
+  -- a run machine in the flight of these moves: it is read as the same state, and each process has the same entry
   -- at each page number
   pub record IsFlightOf (m : RunMachine) (x : Flight) (jobs : List (CopyJob A)) : Type 0 where
     pub in_flight : IsInFlight m (map (λ t. t.page) x.moves)

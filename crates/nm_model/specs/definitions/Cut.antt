@@ -14,7 +14,7 @@ abbrev pub requests_of : ℕ → Bool → List ℕ → List ℕ → List Request
 requests_of pid all addresses nodes =
     map (λ e. record { target = e.1; wanted = At pid (e.0 / 4096) all }) (zip addresses nodes)
 
--- the target and the requests of a run
+-- the target and the requests of a run, or of a longest stretch before the limit cuts it into runs
 pub record Stretch : Type 0 where
   pub target : ℕ
   pub wanted : List Wanted

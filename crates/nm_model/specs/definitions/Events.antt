@@ -189,6 +189,6 @@ abbrev pub job_holds : ℕ → Job → List Hold
 job_holds f job =
     (if job.source.0 == f then InJob job.stage ∷ [] else []) ++ (if job.target.0 == f then InJob job.stage ∷ [] else [])
 
--- all places that hold the buffer of a frame
+-- all that hold the buffer of a frame: the store, and jobs at some stage
 abbrev pub hands : RunMachine → ℕ → List Hold
 hands m f = home_hold (slice_index_or m.buf f None) ++ flat_map (job_holds f) m.jobs

@@ -25,14 +25,14 @@ code e = negsuc (number_of e - 1)
 abbrev pub others_see : State → ℕ → Page → Bool
 others_see s pid p = list_any (λ user. not (user == pid)) (users s.processes p)
 
--- a page with this frame: it is on the target, may not move because of other processes or a pin, or is to move
+-- a page with this frame: it is on the target, may not move because of other processes (`kept`) or a pin, or is to move
 abbrev pub page_status : State → ℕ → Bool → Page → Option ℕ → Class
 page_status s target kept p None = Status (code Enoent)
 page_status s target kept p (Some frame) =
     if node_of s.layout frame == target then Status (pos target)
     else (if kept then Status (code Eacces) else (if is_pinned s p then Status (code Ebusy) else Move p frame))
 
--- what is seen: no page, and why not, or a page, which stays for other processes unless `all` is set
+-- what is seen: no page, and why not, or a page, which stays if other processes see it too, unless `all` is set
 abbrev pub seen_status : State → ℕ → ℕ → Bool → Result Page Errno → Class
 seen_status s target pid all (Err e) = Status (code e)
 seen_status s target pid all (Ok p) = page_status s target (others_see s pid p && not all) p (get page_cmp s.place p)

@@ -89,7 +89,7 @@ fill_page s at =
     let order = first_touch_order s.layout s.online process.home process.allowed at.area.1.policy (shown_at at).index in
     allocate_page s at (first_free s.free order)
 
--- a page that others may show keeps its frame, or gets one
+-- a page of a shared segment keeps its frame, or gets one if it has none, and the process sees it
 abbrev pub share_page : State → AccessSite → Option ℕ → Result State Errno
 share_page s at (Some frame) = Ok (with_sight s at (Sees (shown_at at)))
 share_page s at None = fill_page s at
