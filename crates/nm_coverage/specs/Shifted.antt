@@ -1,4 +1,4 @@
--- Numbers of steps that grow or fall. They wrap around at 2^64.
+-- How the numbers of areas in steps grow and fall. They wrap around at 2^64.
 use Rattle.std.specs.Prelude.{ℕ, ◌+◌, ◌-◌, ◌^◌, ◌%◌, ◌==◌, nat_lt, nat_le, Bool, true, false, ◌&&◌, not, if◌then◌else◌}
 use Rattle.std.specs.Ordering.{is_le}
 use Rattle.nm_types.specs.declared.page.Page.{Page}
@@ -22,10 +22,10 @@ is_between segment first past p = (segment == p.segment) && (nat_le first p.inde
 abbrev pub shifted_in : ℕ → ℕ → ℕ → Bool → Page → Step → Step
 shifted_in segment first past up p step = if is_between segment first past p then shift_step up step else step
 
--- whether a page comes from one page on and before another
+-- whether a page is at or after one page and before another
 abbrev pub is_page_within : Page → Page → Page → Bool
 is_page_within from to p = is_le (page_cmp from p) && not (is_le (page_cmp to p))
 
--- a number more for a step
+-- the step with a number added to how many areas cover its page
 abbrev pub with_add : ℕ → Step → Step
 with_add n step = record step { covers = (step.covers + n) % 2 ^ 64 }

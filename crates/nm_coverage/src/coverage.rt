@@ -17,8 +17,8 @@ use std::alloc::{AllocError, Allocator};
 use std::collections::BTreeMap;
 use std::marker::Model;
 
-/// Steps at pages. Contracts see a map. The pages are in parts, each with a number that is added to how many areas its
-/// steps say cover their pages, so a stretch of many parts changes without a look at their steps.
+/// Steps at pages. Contracts see a map. The steps are in parts. Each part has a number that is added to how many areas
+/// cover the pages of its steps, so a stretch of many parts changes without visiting their steps.
 #[derive(Drop)]
 pub struct Coverage<A: Allocator + Copy> {
     stored: BTreeMap<Page, Step, A>,
@@ -178,7 +178,7 @@ fn put<A: Allocator + Copy>(stored: &mut BTreeMap<Page, Step, A>, page: Page, st
     }
 }
 
-/// Counts one more area, or one fewer, in each step from a page on and before another.
+/// Counts one more area, or one fewer, in each step at or after one page and before another.
 fn shift_stored<A: Allocator + Copy>(
     stored: &mut BTreeMap<Page, Step, A>,
     from: Page,

@@ -15,8 +15,8 @@ use nm_types::Page;
 use std::alloc::Allocator;
 use std::collections::BTreeMap;
 
-/// How many steps a part has at most, unless memory is refused, and how many its first half keeps. As long as there are
-/// no more steps than that there are no parts.
+/// The most steps of a part, unless memory is refused, and how many of them its first half keeps when it is divided.
+/// There are no parts until there are more steps than that.
 const MOST: u64 = 512;
 
 const HALF: usize = 256;
@@ -56,8 +56,8 @@ fn part_of<A: Allocator + Copy>(parts: &BTreeMap<Page, Part, A>, page: Page) -> 
     }
 }
 
-/// Begins a part at a page, or only notes how many steps the part has that begins there. Changes no number that is
-/// added. False if memory was refused.
+/// Begins a part at a page, or, if one begins there already, only sets how many steps it has. Changes no number that is
+/// added. Returns false if memory was refused.
 fn begin_part<A: Allocator + Copy>(
     parts: &mut BTreeMap<Page, Part, A>,
     start: Page,
@@ -176,7 +176,7 @@ fn is_before(page: Page, other: Page) -> bool
     page < other
 }
 
-/// The page of a step, so many steps after the first one from a page on.
+/// The page of the step that comes `count` steps after the first one from a page on. None if there is none.
 fn step_after<A: Allocator + Copy>(
     stored: &BTreeMap<Page, Step, A>,
     start: Page,
@@ -188,7 +188,8 @@ fn step_after<A: Allocator + Copy>(
     }
 }
 
-/// Where the first and the last part begin that begin from one page up to another. None if no part does.
+/// Of the parts that begin from one page up to and with another, the pages at which the first and the last begin. None
+/// if no part begins there.
 pub(crate) fn parts_within<A: Allocator + Copy>(
     parts: &BTreeMap<Page, Part, A>,
     from: Page,

@@ -43,7 +43,7 @@ pub(crate) fn with_add(step: Step, add: u64) -> Step
     }
 }
 
-/// The number that `add` more makes another number. Wraps around.
+/// The number that gives `number` when `add` is added to it. Wraps around.
 pub(crate) fn minus(number: u64, add: u64) -> u64
     ensures { (result + add) % 2 ^ 64 ≡ number }
 {

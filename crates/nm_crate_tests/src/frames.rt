@@ -6,7 +6,7 @@ use nm_types::FrameId;
 use std::alloc::{AllocError, Global};
 use std::test::Fail;
 
-/// Whether a new store of three frames has its memory if one allocation is refused, and whether that was asked for.
+/// Whether a new store of three frames is made if one allocation is refused, and whether that allocation was reached.
 fn made_without(heap: &Refusing<Global>, number: u64) -> (bool, bool) {
     heap.refuse(number);
     let made = match FrameStore::new(heap, 3) {
@@ -74,8 +74,8 @@ fn sizes(alloc: Global, is_clear: bool, at: usize) -> Result<[usize; 2], AllocEr
     Ok([before, job.size()])
 }
 
-/// A frame that was cleared has nothing to copy, and neither has one over which it was copied. Of another, what lies
-/// between the bytes at both ends is copied only as far as the other frame was written.
+/// A cleared frame is copied only as far as the target was written, and then nothing is left to copy. Of a frame with a
+/// byte at each end, what lies between them is copied only as far as the target was written.
 #[test]
 fn bytes_to_copy(rt: HostRuntime) -> Result<(), Fail> {
     assert!(rt; sizes(rt.alloc(), true, 94)? == [96, 0]);

@@ -17,7 +17,7 @@ fn set_of(first: u32, second: u32) -> NodeMask
     set
 }
 
-/// Whether nodes stand in the order of their distances, those of a first touch among the policy's nodes.
+/// Whether nodes are in the order of their distances, and a first touch tries only the policy's nodes, in that order.
 fn stand_by_distance<'h>(
     heap: &'h Refusing<Global>,
     geometry: &Geometry<&'h Refusing<Global>>,

@@ -2,7 +2,7 @@ use nm_refusing_alloc::Refusing;
 use std::alloc::Global;
 use std::test::Fail;
 
-/// Whether a box gets its memory, and how many allocations were asked for since the second was to be refused.
+/// Whether a box gets its memory, and how many allocations there were since the second was to be refused.
 fn makes_box(heap: &Refusing<Global>) -> (bool, u64) {
     let made = Box::new(heap, 7u8).is_ok();
     (made, heap.asked_since(2))

@@ -35,7 +35,7 @@ const FIRSTS: [u64; 5] = [511, 0, 512, 134_217_727, LAST];
 
 const BEFORE: [u64; 5] = [262_144, 0, 512, LAST, u64::MAX];
 
-/// What these lists have together.
+/// The page numbers of all these lists together.
 const BETWEEN: [u64; 6] = [511, 512, 262_143, 134_217_727, 134_217_728, LAST];
 
 /// Sets an entry at each of the ends, in their order.

@@ -91,7 +91,7 @@ struct Turns {
 }
 
 impl Turns {
-    /// Those of worker 1 and another.
+    /// Makes the turns of worker 1 and another.
     fn of(number: usize, least: u64) -> Turns {
         Turns {
             one: AtomicU64::new(0),
@@ -187,7 +187,7 @@ fn hired_workers_copy(rt: HostRuntime) -> Result<(), Fail> {
     Ok(())
 }
 
-/// From 8 MiB on an open gate lets a second worker start: two jobs are copied without allocating.
+/// An open gate lets a second worker start only from 8 MiB on, so two jobs are copied without allocating.
 #[test]
 fn no_memory_for_two_jobs(rt: HostRuntime) -> Result<(), Fail> {
     let heap = Refusing::new(rt.alloc());
@@ -197,8 +197,8 @@ fn no_memory_for_two_jobs(rt: HostRuntime) -> Result<(), Fail> {
     Ok(())
 }
 
-/// Whether three jobs are copied while the host refuses one allocation, and by the caller alone if that was met; and
-/// whether it was.
+/// Whether three jobs are copied while the host refuses one allocation, and by the caller alone if that allocation was
+/// reached; and whether it was.
 fn copied_without(
     rt: &(impl Threads + Wait + Sync),
     heap: &Refusing<Global>,

@@ -14,7 +14,7 @@ FitsFrame gap = (gap.first ≤ gap.end) × (gap.end ≤ 4096)
 abbrev pub IsZeroIn : List ℕ → Gap → Type 0
 IsZeroIn bytes gap = (i : ℕ) → IsInGap gap i → slice_index bytes i ≡ 0
 
--- but for so many, a frame's 4,096 bytes are zero, in one stretch, and those of the other frame there as well
+-- all but `size` of a frame's 4,096 bytes are zero, in one stretch, and so are the other frame's bytes there
 abbrev pub AreZeroBut : (bytes other : List ℕ) → ℕ → Type 0
 AreZeroBut bytes other size =
     (gap : Gap) × FitsFrame gap × IsZeroIn bytes gap × IsZeroIn other gap × (size + (gap.end - gap.first) ≡ 4096)

@@ -22,11 +22,11 @@ sources jobs = map (λ job. job.source.0) jobs
 abbrev pub targets : List Job → List ℕ
 targets jobs = map (λ job. job.target.0) jobs
 
--- a given job is copied
+-- each job that is given back is copied
 abbrev pub AreCopied : List Job → Type 0
 AreCopied jobs = AllByRecursion (λ job. is_given job.stage ≡ true → job.target.1 ≡ job.source.1) jobs
 
--- whether a page in this frame, if it has one, is the source of a job
+-- whether a job copies out of this frame; false if there is no frame
 abbrev pub is_source : List Job → Option ℕ → Bool
 is_source jobs None = false
 is_source jobs (Some f) = is_some (job_from jobs f)

@@ -86,13 +86,13 @@ byte_after_access areas q at byte (Write pid address new) Done =
     if includes_byte areas pid address (length new) q at then Some (slice_index new (at % 4096 - address % 4096)) else byte
 byte_after_access areas q at byte a answer = byte
 
--- the byte after one access after another
+-- the byte after these accesses, made one after another
 abbrev pub all_written : Map (ℕ × ℕ) Area → ℕ → ℕ → Option ℕ → List Access → List AccessAnswer → Option ℕ
 all_written areas q at byte (a ∷ accesses) (answer ∷ answers) =
     all_written areas q at (byte_after_access areas q at byte a answer) accesses answers
 all_written areas q at byte accesses answers = byte
 
--- the byte after the accesses of one run after another, with runs numbered from k on
+-- the byte after the accesses of these runs, made one run after another and numbered from k on
 abbrev pub runs_written : Map (ℕ × ℕ) Area → ℕ → ℕ → Option ℕ → List (ℕ × Access) → ℕ → List (List AccessAnswer) → Option ℕ
 runs_written areas q at byte accesses k [] = byte
 runs_written areas q at byte accesses k (answers ∷ rest) =

@@ -21,7 +21,7 @@ use Rattle.nm_library.specs.Rooms.{at_front, FillsRoom}
 use Rattle.nm_library.specs.declared.entry.Entry.{Entry}
 use Rattle.nm_library.specs.declared.handle.OpenSession.{OpenSession}
 
--- this holds of a session that is there, before and after; without one, the argument is bad
+-- this holds of the session before and after the call; if there is none, the status is that of a bad argument
 abbrev pub OfSession : (ℤ → OpenSession → OpenSession → Type 0) → ℤ → Option OpenSession → Option OpenSession → Type 0
 OfSession Holds status None new = (status ≡ pos 1) × (new ≡ None)
 OfSession Holds status (Some old) None = ⊥
@@ -41,7 +41,7 @@ MakesCall V view call Shown Unwritten status old new =
     × MatchResult r (λ v. (status ≡ pos 0) × Shown v) (λ e. (status ≡ error_status e) × Unwritten)
     × (new.session.steps ≡ old.session.steps) × (new.lines ≡ old.lines)
 
--- a call that answers nothing else
+-- a call that returns nothing but its status
 abbrev pub Completes : Call → ℤ → OpenSession → OpenSession → Type 0
 Completes call = MakesCall (values.Answer Global) answer_of call (λ _. Unit {0}) (Unit {0})
 

@@ -45,7 +45,7 @@ fn way(home: NodeId, allowed: NodeMask, policy: Policy, index: u64) -> (NodeId, 
 /// distance from home, PREFERRED by distance from its node, and INTERLEAVE by distance from the node of its set whose
 /// turn it is, number (`index` mod the size of the set), counted from 0; all three use the allowed nodes only. BIND
 /// uses its own nodes only, by distance from home. This follows set_mempolicy(2) and mbind(2); the orders are this
-/// project's own. An error means that the host is out of memory; if no node is online, none is asked for.
+/// project's own. An error means that the host is out of memory; if no node is online, it needs none.
 pub fn first_touch_order<A: Allocator + Copy>(
     alloc: A,
     geometry: &Geometry<A>,

@@ -68,7 +68,7 @@ fn next_pair(pairs: &[Pair], remaining: NodeMask) -> Option<Pair>
 /// At first every node of `old` is still to be emptied, even one that keeps its pages. Of the pairs left, in ascending
 /// order of source, the next is the first whose target is not still to be emptied, or the last pair if there is none;
 /// its source is then emptied. So a chain of nodes is emptied from its end. There are no pairs if either set is empty.
-/// An error means that the host is out of memory; if `old` is empty, none is asked for.
+/// An error means that the host is out of memory; if `old` is empty, it needs none.
 pub fn pairs<A: Allocator + Copy>(
     alloc: A,
     old: NodeMask,

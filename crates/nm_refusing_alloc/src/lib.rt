@@ -27,8 +27,8 @@ impl<B: Allocator> Refusing<B> {
         self.left.store(number, Ordering::SeqCst);
     }
 
-    /// How many allocations were asked for since `refuse(number)`, including the refused one. If this is at least
-    /// `number`, and `number` is not 0, that one was refused.
+    /// How many allocations there were since `refuse(number)`, including the refused one. If this is at least `number`,
+    /// and `number` is not 0, that one was refused.
     pub fn asked_since(&self, number: u64) -> u64 {
         number.wrapping_sub(self.left.load(Ordering::SeqCst))
     }

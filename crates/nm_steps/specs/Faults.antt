@@ -1,4 +1,4 @@
--- Which bytes are which trace, and for the others the first fault.
+-- The trace that bytes are, or else their first fault.
 use Rattle.std.specs.Prelude.{◌≡◌, ℕ, suc, List, if◌then◌else◌, Option, None, is_some, Result, Ok, Err, codes}
 use Rattle.std.specs.Option.{ok_or}
 use Rattle.std.specs.Str.{is_utf8}

@@ -1,4 +1,4 @@
--- The form of a trace: which data are which machine, and which steps.
+-- The form of a trace: the machine and the steps that data describe.
 use Rattle.std.specs.Prelude.{ℕ, ◌^◌, ◌==◌, ◌&&◌, List, [], ◌∷◌, Bool, false, length, nat_lt, nat_le, if◌then◌else◌, Option, Some, None, option_and_then, option_map, codes}
 use Rattle.std.specs.List.{fold}
 use Rattle.std.specs.Str.{bytes_eq}

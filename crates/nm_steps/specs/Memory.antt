@@ -1,4 +1,4 @@
--- Which values are read into memory of the host.
+-- For which values reading takes memory of the host.
 use Rattle.std.specs.Prelude.{◌≡◌, ◌⊎◌, ℕ, ◌%◌, ◌^◌, ◌==◌, ◌<◌, List, length, Bool, true, false, ◌&&◌, ◌||◌, Option, Some, None, is_some, option_map, codes}
 use Rattle.std.specs.Str.{bytes_eq, is_utf8}
 use Rattle.json.specs.Lex.{tokens}
@@ -31,7 +31,7 @@ abbrev pub starts_at : {A : Type 0} → (Data → Option A) → Option Items →
 starts_at f None = false
 starts_at f (Some ds) = starts f ds
 
--- whether there is a first item, and it is such a one
+-- whether there is a first item, and it passes the test
 abbrev pub begins : (Data → Bool) → Items → Bool
 begins such no_items = false
 begins such (item d ds) = such d
@@ -46,11 +46,11 @@ abbrev pub has_pairs : Option (List ℕ) → Bool
 has_pairs None = false
 has_pairs (Some digits) = length digits % 2 == 0
 
--- whether a write is read up to its bytes, and has their digits in pairs
+-- whether a write can be read up to its bytes, and their digits are in pairs
 abbrev pub write_has_pairs : Data → Bool
 write_has_pairs d = is_some (place_at d) && has_pairs (text_at (codes "data") d)
 
--- whether the access with this name is such a write
+-- whether the access with this name is a write of that kind
 abbrev pub access_takes_memory : List ℕ → Data → Bool
 access_takes_memory op d = bytes_eq op (codes "write") && write_has_pairs d
 
@@ -72,7 +72,8 @@ move_takes_memory d = names_both d && batch_starts d
 abbrev pub query_takes_memory : Data → Bool
 query_takes_memory d = names_both d && starts_at u64_of (items_at (codes "pages") d)
 
--- whether the step with this name has the digits of its bytes in pairs, or is read up to the first item of a list
+-- whether the step with this name is a write whose digits are in pairs, or a batch or a query that can be read up to
+-- the first item of a list
 abbrev pub takes_memory : List ℕ → Data → Bool
 takes_memory op d =
     access_takes_memory op d
@@ -81,7 +82,7 @@ takes_memory op d =
 
 -- ---- items of lists: those that are read, and those whose reading takes memory
 
--- whether it is a row that is read, or one up to its first number
+-- whether an item is a row, or can be read as one up to its first number
 abbrev pub row_allocates : Data → Bool
 row_allocates d = is_some (row_of d) || starts_at (number_below (2 ^ 8)) (as_array d)
 
@@ -94,13 +95,13 @@ holds (Some b) = b
 abbrev pub names_run : ℕ → Data → Bool
 names_run runs d = is_some (number_at (codes "run") d >>= below runs)
 
--- whether it is an access in flight that is read, or one up to its bytes
+-- whether an item is an access in flight, or can be read as one up to its bytes
 abbrev pub flight_allocates : ℕ → Data → Bool
 flight_allocates runs d =
     is_some (during_of runs d)
     || (names_run runs d && holds (option_map (λ op. access_takes_memory op d) (text_at (codes "op") d)))
 
--- whether it is a step that is read, or one up to what takes memory
+-- whether an item is a step, or can be read as one up to what takes memory
 abbrev pub step_allocates : ℕ → Data → Bool
 step_allocates limit d =
     is_some (step_of limit d) || holds (option_map (λ op. takes_memory op d) (text_at (codes "op") d))
@@ -117,6 +118,7 @@ machine_takes_memory d =
           || (is_some (small_numbers_at (codes "nodes") m) && begins_at row_allocates (items_at (codes "distance") m))
     ]
 
--- whether a trace's limit is read, and its steps begin with one that is read, or one up to what takes memory
+-- whether a trace's limit can be read, and the first item of its steps is a step, or can be read as one up to what
+-- takes memory
 abbrev pub steps_take_memory : Data → Bool
 steps_take_memory d = holds (option_map (λ limit. begins_at (step_allocates limit) (items_at (codes "steps") d)) (limit_of d))

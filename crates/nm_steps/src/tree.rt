@@ -25,7 +25,7 @@ use std::alloc::Global;
 /// How deep lists and objects may nest.
 const MAX_DEPTH: usize = 127;
 
-/// As many digits as these write a number below 2^64.
+/// Every number of at most this many digits is below 2^64.
 const SHORT_DIGITS: usize = 19;
 
 /// The tree of all that a reader reads. `Bad` if that is not one value.
@@ -116,7 +116,7 @@ fn is_negative(number: &str) -> bool
     !bytes.is_empty() && bytes[0] == b'-'
 }
 
-/// The number that one to 19 digits write. None where the bytes are more, or something else.
+/// The number that one to 19 digits write. None if there are no bytes, more than 19, or any that is not a digit.
 fn short_of(bytes: &[u8]) -> Option<u64>
     ensures value { IfSome result (λ n. number_of bytes.now ≡ Some (unsigned n)) }
     ensures other { IfNone result (IsNumeral 10 bytes.now → 19 < length bytes.now) }
@@ -190,7 +190,7 @@ fn is_in_range(number: &str) -> bool
     }
 }
 
-/// Whether a value is a number of one to 19 digits. Such numbers are in range, and most of a trace's are such.
+/// Whether a value is a number of one to 19 digits, as most numbers of a trace are. Such numbers are in range.
 fn is_short_number(value: &Value<'_>) -> bool
     ensures is_some { result ≡ true → is_some (of_json (value_view value.now)) ≡ true }
     ensures other { result ≡ false

@@ -8,9 +8,9 @@ abbrev pub HasReadCause : ℕ → Bool → (ℕ → Type 0) → Type 0
 HasReadCause limit now gave =
     ((now ≡ true) × ((n : ℕ) × (n ≤ limit) × gave n)) ⊎ ((n : ℕ) × (limit < n) × (n ≤ limit + 16384) × gave n)
 
--- what a result says about the reader, given whether it had failed before and after, and how many bytes it gave in
--- between: a fault has its cause; with any other result the reader has not failed anew; with its bytes it gave no more than
--- the limit, and if the host is out of memory at least one
+-- what a result says about the reader, given whether it had failed before, whether it has failed now, and how many
+-- bytes it gave in between: a fault has its cause; with any other result no read has failed in between; if the bytes
+-- are returned, there are no more than the limit, and if the host is out of memory, the reader gave at least one
 abbrev pub ReportsRead : {X : Type 0} → ℕ → Bool → Bool → (ℕ → Type 0) → Result X ReadError → Type 0
 ReportsRead limit before now gave (Ok bytes) = (now ≡ before) × ((n : ℕ) × (n ≤ limit) × gave n)
 ReportsRead limit before now gave (Err Fault) = HasReadCause limit now gave

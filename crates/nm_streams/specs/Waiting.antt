@@ -19,13 +19,14 @@ block_room b = b.room
 abbrev pub BreaksOff : Option (List ℕ) → Option (List ℕ) → List ℕ → Type 0
 BreaksOff old new text = (front : List ℕ) × (rest : List ℕ) × (front ++ rest ≡ text) × (0 < length rest) × Appends old new front
 
--- the same, and of a front of the text at most so many bytes were not written
+-- the same, and of `before`, the front of the text, at most `most` bytes were not written
 abbrev pub BreaksOffSoon : ℕ → Option (List ℕ) → Option (List ℕ) → List ℕ → List ℕ → Type 0
 BreaksOffSoon most old new before text =
     (front : List ℕ) × (rest : List ℕ) × (front ++ rest ≡ text) × (0 < length rest) × Appends old new front
     × (length before ≤ length front + most)
 
--- what was put since a writer had the bytes old: it has a front of it, and the rest waits; or a write has failed, and it breaks off
+-- what became of a text that was put since the writer had the bytes `old`: the writer has a front of it, and the rest
+-- waits; or a write has failed, and the text breaks off
 abbrev pub Stands : Option (List ℕ) → Option (List ℕ) → Bool → List ℕ → List ℕ → Type 0
 Stands old new false waiting text = (front : List ℕ) × (front ++ waiting ≡ text) × Appends old new front
 Stands old new true waiting text = BreaksOff old new text
@@ -33,7 +34,7 @@ Stands old new true waiting text = BreaksOff old new text
 -- a text is put into a block before a writer
 pub record Puts {W A : Type 0} (contents : W → Option (List ℕ)) (failed : W → Bool)
     (w : W) (b : Block A) (v : W) (c : Block A) (text : List ℕ) : Type 0 where
-  -- after whatever was put there since whatever moment
+  -- this text follows what was put before, counted from any moment
   pub stands : (old : Option (List ℕ)) (so_far : List ℕ) →
       Stands old (contents w) (block_broken b) (block_waiting b) so_far →
       Stands old (contents v) (block_broken c) (block_waiting c) (so_far ++ text)

@@ -8,7 +8,7 @@ use crate::reporting::ReportingWriter;
 use crate::stream_error::WriteError;
 use std::alloc::Allocator;
 
-/// Writes bytes whole, or a prefix of them and a fault: the writer failed, or took no byte.
+/// Writes all of the bytes; or, if the writer fails or takes no byte, writes a prefix of them and returns an error.
 pub fn write_lines<W: ReportingWriter>(writer: &mut W, lines: &[u8]) -> Result<(), WriteError>
     ensures whole { OnOk result (Appends (W.contents writer.old) (W.contents writer.new) lines.now) }
     ensures broken { OnErr result

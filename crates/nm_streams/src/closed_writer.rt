@@ -13,7 +13,7 @@ use std::io::{ErrorKind, Write};
 pub struct ClosedWriter {}
 
 impl ClosedWriter {
-    /// Another one.
+    /// Makes such a writer.
     pub fn new() -> ClosedWriter {
         ClosedWriter {}
     }

@@ -19,7 +19,7 @@ pub trait ReportingReader: Read {
     /// It gave this many bytes between an earlier moment and a later one.
     ghost gave: { Self → Self → ℕ → Type 0 };
 
-    /// Does what `read` does, and keeps the report.
+    /// Does what `read` does, and records how many bytes it gave and whether it failed.
     fn read_reporting(&mut self, buf: &mut [u8]) -> io::Result<usize>
         // What `read` does
         ensures bound { ReadsAtMost result buf.new }
@@ -42,7 +42,7 @@ pub trait ReportingWriter: Write {
     /// A write has failed: with an error, or it took no byte although there was one.
     ghost has_failed: { Self → Bool };
 
-    /// Does what `write` does, and keeps the report.
+    /// Does what `write` does, and records whether it failed.
     fn write_reporting(&mut self, buf: &[u8]) -> io::Result<usize>
         ensures bound { WritesAtMost result buf.now }
         ensures bytes { WriteAppends (Self.contents self.old)
@@ -56,7 +56,7 @@ pub trait FlushingWriter: ReportingWriter {
     /// Nothing that it took waits in it.
     ghost is_flushed: { Self → Type 0 };
 
-    /// Does what `flush` does, and keeps the report.
+    /// Does what `flush` does, and records whether it failed.
     fn flush_reporting(&mut self) -> io::Result<()>
         ensures bytes { Keeps (Self.contents self.old) (Self.contents self.new) }
         ensures flushed { OnOk result (is_flushed self.new) }

@@ -10,8 +10,8 @@ use nm_calls::{Call, System};
 use nm_trace::{RunCrew, Trace};
 use std::alloc::AllocError;
 
-/// Which call of a trace is refused memory, and from which call on the calls are made to look at the system that it
-/// leaves if it is broken off. Both are numbers of calls, from 0.
+/// Which call of a trace is refused memory, and the first of the calls that look at the system if that call is broken
+/// off. Both are numbers of calls, from 0.
 #[derive(Clone, Copy)]
 pub(crate) struct Probe {
     pub(crate) call: usize,

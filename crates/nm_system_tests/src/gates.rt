@@ -16,8 +16,8 @@ use std::sync::atomic::{AtomicBool, AtomicU64, Ordering};
 use std::test::Fail;
 use std::thread::{Threads, yield_now};
 
-/// Three pages of one process, written on node 0, moved to node 1 in one run and read there. Meanwhile one of them is
-/// read, and a fourth page gets its first byte.
+/// Three pages of one process, written on node 0, moved to node 1 in one run and read there. During the run one of them
+/// is read, and a fourth page gets its first byte.
 const TRACE: &str =
     "{\"version\":1,\"machine\":{\"nodes\":[4,4],\"distance\":[[10,20],[20,10]]},\"steps\":[
 {\"op\":\"spawn\",\"pid\":1,\"uid\":100,\"home\":0,\"allowed\":[0,1]},

@@ -134,7 +134,7 @@ const SHARED_UNASKED: Trail<'static> = Trail {
 
 /// The same page, which a third process may move.
 ///
-/// A page of two processes is where it was for both.
+/// If the run was refused, the page is where it was, for both processes.
 const SHARED_BY_ALL: Trail<'static> = Trail {
     trace: "{\"version\":1,\"machine\":{\"nodes\":[4,4],\"distance\":[[10,20],[20,10]]},\"steps\":[
 {\"op\":\"spawn\",\"pid\":1,\"uid\":100,\"home\":0,\"allowed\":[0,1]},

@@ -84,7 +84,7 @@ fn run_bytes<A: Allocator + Copy + Send + Sync, C: RunCrew<A>, W: ReportingWrite
 ///
 /// It promises what `run_trace` does, of the system that it returns. With a fault, it also says how far the play got:
 /// of the lines before those of the last step made, at most 65,536 bytes were not written, and a step that was refused
-/// memory is one that asks for some.
+/// memory is one that may allocate.
 pub fn run_on<
     A: Allocator + Copy + Send + Sync,
     C: RunCrew<A>,

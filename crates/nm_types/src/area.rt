@@ -31,7 +31,7 @@ pub struct Area {
     pub page: Page,
 }
 
-/// A run of pages that areas show.
+/// A stretch of pages that areas show.
 #[derive(Clone, Copy, Debug, PartialEq, Eq)]
 pub struct Segment {
     /// Its length in pages: at least 1, at most 2^35.

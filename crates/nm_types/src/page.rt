@@ -27,8 +27,8 @@ impl Ord for Page {
 
     ghost matches_eq = { Prim.search (comparing, rules) };
 
-    /// By segment, then by index. This is written out, and not derived, for the sake of searches: most pages that one
-    /// passes are lower ones of the same segment, and two comparisons tell that.
+    /// Compares by segment, then by index. This is written out rather than derived to make searches fast: most pages
+    /// that a search passes are lower ones of the same segment, and two comparisons are enough for those.
     fn cmp(&self, other: &Page) -> Ordering {
         if self.segment == other.segment {
             if self.index > other.index {

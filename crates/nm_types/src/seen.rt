@@ -25,7 +25,7 @@ pub enum Seen {
     },
 }
 
-/// What can be looked at, by page number and by page. A look changes nothing and does not allocate.
+/// What requests need to know of pages, by page number and by page. A look changes nothing and does not allocate.
 pub trait PageView {
     ghost use Rattle.std.specs.Prelude.{◌≡◌, ℕ, Bool, Option};
     ghost use Rattle.nm_types.specs.declared.page.Page.{Page};

@@ -108,8 +108,8 @@ fn move_there(heap: Global, system: &mut System<Global>) -> Result<(), CallError
     Ok(())
 }
 
-/// On a new machine, a process writes a byte to a page, and moves the page to node 1: there it is then, and reads as
-/// before. Nothing but a lack of memory of the host can come between.
+/// On a new machine, a process writes a byte to a page, and moves the page to node 1. The page is then on that node and
+/// reads as before. Only a lack of host memory can prevent this.
 fn move_page(heap: Global, system: &mut System<Global>) -> Result<(), CallError>
     requires { system.old ≡ new_system nodes_to_use }
     ensures done { OnOk result (system.new ≡ after_move) }

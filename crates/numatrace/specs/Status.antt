@@ -57,8 +57,8 @@ abbrev pub PrintsRefusal : ParseKind → Option (List ℕ) → Option (List ℕ)
 PrintsRefusal parse.OutOfMemory old new failed = WritesText old new failed memory_line
 PrintsRefusal kind old new failed = Unit {0}
 
--- ---- how the program ends, with a status, after words that are refused for some causes: what it leaves of the reader of the trace,
--- the writer of the report and that of faults
+-- ---- how the program ends, if its words are refused for these causes, or for none: its exit status, and what it
+-- leaves of the reader of the trace, of the writer of the report and of the writer of faults
 
 -- the words are refused for one of the causes, or the host has no memory for them: nothing is read and no report is written
 pub record RefusesWords {R W E : Type 0} (printed : E → Option (List ℕ)) (printing_failed : E → Bool) (refusals : Kinds) (status : ℕ)

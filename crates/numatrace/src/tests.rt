@@ -191,8 +191,8 @@ fn as_many_workers_as_asked(rt: HostRuntime) -> Result<(), Fail> {
     Ok(())
 }
 
-/// Whether a run that may have met a refusal reported it, after the lines of as many steps. A step that only looks may
-/// have managed with less memory, and then the report is whole.
+/// Whether a run that may have met a refusal reported it, with the number of the steps whose lines it wrote. A step
+/// that only looks may have managed with less memory, and then the report is whole.
 fn is_reported(status: u8, err: &[u8], out: &Narrow) -> bool {
     let mut text = *b"numatrace: host memory refused after 0 steps\n";
     text[37] = text[37].wrapping_add(out.lines); // the 0 before "steps"

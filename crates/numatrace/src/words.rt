@@ -144,7 +144,7 @@ pub(crate) fn run_words_by<
     run_with(&crew, alloc, heap, reader, out, err)
 }
 
-/// Does the same from where the words are read, with a crew.
+/// Does the same after the words are read, with a crew.
 fn run_with<
     A: Allocator + Copy + Send + Sync,
     C: RunCrew<A>,

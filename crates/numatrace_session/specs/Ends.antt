@@ -21,7 +21,8 @@ abbrev pub end_unopened : TraceError → End
 end_unopened (trace.HostMemory k) = HostMemory
 end_unopened fault = BadTop fault
 
--- a first line begins a session, or none for a fault; or the host is out of memory, which only a text with a byte needs
+-- a first line begins a session, or none for a fault; or the host is out of memory, but never for a line that is empty
+-- or not UTF-8
 abbrev pub Begins : Result SessionState End → List ℕ → Type 0
 Begins (Ok s) top = session_of top ≡ Ok s
 Begins (Err (BadTop fault)) top = session_of top ≡ Err fault

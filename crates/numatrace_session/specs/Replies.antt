@@ -1,4 +1,4 @@
--- What the reply to a line makes of a session, and of what is written.
+-- How the reply to a line changes the session, and what is written of it.
 use Rattle.std.specs.Prelude.{◌≡◌, ◌==◌, ℕ, ◌-◌, ◌<◌, ◌≤◌, ◌⊎◌, Bool, true, List, [], ◌∷◌, ◌++◌, length, take, codes, decimal, Option, Some, None, IfSome, Result, Ok, Err, OnOk}
 use Rattle.std.specs.List.{AllByRecursion, list_any}
 use Rattle.std.specs.Io.{StopsAt}
@@ -123,8 +123,8 @@ ReadsBeyond left left_then lines = (between : Option (List ℕ)) × ReadsLines l
 abbrev pub but_last : List (List ℕ) → List (List ℕ)
 but_last lines = take (length lines - 1) lines
 
--- after lines that are read: the reader has failed, and all replies to them are written; or the writer has, a front of the
--- replies is written, with all of them but the last, and nothing was read after these lines
+-- after lines that are read: the reader has failed, and all replies to them are written; or the writer has failed, a
+-- front of the replies is written, which has all of them but the last, and nothing was read after these lines
 abbrev pub WritesReplies : SessionState → List (List ℕ) → Option (List ℕ) → Option (List ℕ) → Option (List ℕ)
     → Option (List ℕ) → Bool → Bool → Bool → Type 0
 WritesReplies s lines left left_then old new reader failed fails =
@@ -154,8 +154,9 @@ EndsBegun end left left_then old new reader failed fails =
 abbrev pub EndsAtOnce : Option (List ℕ) → Option (List ℕ) → Option (List ℕ) → Option (List ℕ) → Bool → Bool → Type 0
 EndsAtOnce left left_then old new failed fails = ReadsUpToLine left left_then × Appends old new [] × (fails ≡ failed)
 
--- a session ends early, with this of the reader and of the writer: the first line begins none; or the host has no memory for
--- that line or the session, or the reader has failed before the line was read; or replies to further lines end early
+-- how a session ends early, and what it leaves of the reader and of the writer: the first line begins none; or the host
+-- has no memory for that line or the session, or the reader has failed before the line was read; or replies to further
+-- lines end early
 abbrev pub EndsTalk : End → Option (List ℕ) → Option (List ℕ) → Option (List ℕ) → Option (List ℕ) → Bool → Bool → Bool → Type 0
 EndsTalk (BadTop fault) left left_then old new reader failed fails =
     IsRefused left left_then old new fault × (fails ≡ failed)

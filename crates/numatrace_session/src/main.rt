@@ -40,8 +40,8 @@ enum End {
     Stream,
 }
 
-/// Why a session ends where a line cannot be read, given the kind of the error and whether the reader has failed: a
-/// reader that has not leaves the memory for the line.
+/// Why a session ends where a line cannot be read, given the kind of the error and whether the reader has failed: if it
+/// has not, memory for the line was refused.
 fn unread(kind: ErrorKind, has_failed: bool) -> End
     ensures end { result ≡ unread kind has_failed }
     ensures err { (result ≡ End.HostMemory) ⊎ (result ≡ End.Stream) }
@@ -104,7 +104,7 @@ fn put_both<W: ReportingWriter>(out: &mut W, first: &[u8], second: &[u8]) -> Res
     put(out, second)
 }
 
-/// Writes that the step with this number is none, and an empty line. Does not allocate.
+/// Writes that the step with this number is bad, and an empty line. Does not allocate.
 fn put_bad_step<W: ReportingWriter>(out: &mut W, step: usize) -> Result<(), End>
     ensures { Writes (W.contents out.old) (W.contents out.new)
         (W.has_failed out.old) (W.has_failed out.new) (bad_step_reply step) result }
@@ -215,7 +215,7 @@ fn end_unopened(fault: TraceError) -> End
     }
 }
 
-/// The session that a first line begins. Does not fail as a stream.
+/// The session that a first line begins. The error is never `Stream`.
 fn begin(heap: Global, top: &[u8]) -> Result<Session<Global>, End>
     ensures { Begins result top.now }
 {

@@ -182,7 +182,7 @@ unmap_refusal s pid address pages =
 abbrev pub exit_refusal : State → ℕ → Option Errno
 exit_refusal s pid = first_error ((is_unknown s pid, Esrch) ∷ (shows_pinned s.areas s.pins pid 0 (2 ^ 35), Ebusy) ∷ [])
 
--- no page is seen, and why not; else this error, for these numbers of pins
+-- the error if no page is seen; otherwise this error if the page's number of pins is bad
 abbrev pub pins_refusal : State → (ℕ → Bool) → Errno → Result Page Errno → Option Errno
 pins_refusal s is_bad e (Err none) = Some none
 pins_refusal s is_bad e (Ok p) = if is_bad (pins_of s p) then Some e else None

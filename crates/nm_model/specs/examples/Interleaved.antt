@@ -53,7 +53,7 @@ buffers =
 abbrev pub resting_machine : RunMachine
 resting_machine = machine_at_rest four_of_five buffers
 
--- the machine at the start is read as the state
+-- the machine at the start, read as a state, is the state that it was made from
 abbrev pub StartIsRead : Type 0
 StartIsRead = state_of resting_machine ≡ four_of_five
 

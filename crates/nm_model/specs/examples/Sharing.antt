@@ -5,7 +5,7 @@ use Rattle.nm_model.specs.definitions.Touch.{read, Bytes}
 use Rattle.nm_model.specs.definitions.Run.{RunResult, batch}
 use Rattle.nm_model.specs.examples.{limit, two_addresses, seen_by_two, requests, to, frame_shown_at, batch_outline}
 
--- two addresses of one process are not sharing
+-- a page is named by two addresses of one process, which is the only one that sees it
 abbrev pub both_addresses : RunResult
 both_addresses = batch limit two_addresses (to (0x20000 ∷ 0x30000 ∷ []) 1) []
 

@@ -1,4 +1,4 @@
--- The headline: what a run from a trace does.
+-- The headline: what running a trace does.
 use Rattle.std.specs.Prelude.{◌≡◌, ℕ, ◌+◌, ◌<◌, true, false, List, [], ◌++◌, length, take, slice_get, Option, Some, Result, Ok, Err}
 use Rattle.std.specs.Io.KnownBytes.{Appends}
 use Rattle.nm_model.specs.definitions.Memory.{mem}
@@ -35,7 +35,7 @@ pub record IsPlayed (plan : TraceContents) (steps : ℕ) (system : SystemState) 
   -- no move changed a byte that a process reads
   pub memory : KeepMemory (system_with plan.layout plan.run_limit) plan.calls
 
--- the same, whatever system is left of it
+-- the same, for some system that the play leaves
 abbrev pub PlaysWhole : Option (List ℕ) → Option (List ℕ) → TraceContents → Summary → Type 0
 PlaysWhole old new plan summary = (system : SystemState) × IsPlayed plan summary.steps system old new
 
@@ -47,9 +47,9 @@ report_before plan k = report_of (record plan { calls = take k plan.calls })
 abbrev pub AppendsFront : Option (List ℕ) → Option (List ℕ) → List ℕ → Type 0
 AppendsFront old new text = (front : List ℕ) × (rest : List ℕ) × (front ++ rest ≡ text) × Appends old new front
 
--- what a run does with the trace that it was given: where there is none, it returns why, and writes nothing; of one that is played
--- to its end and what it returns, `Ends` holds; where the writer fails, a front of the report was written; where the host has no
--- memory for step k, the lines of the steps before it
+-- what running a trace does, given the trace that was read: if there is none, its fault is returned and nothing is
+-- written; if it is played to its end, `Ends` holds of it and of what is returned; if the writer fails, a front of the
+-- report was written; if the host has no memory for step k, the lines of the steps before it were written
 abbrev pub Runs : {P : Type 0} → (TraceContents → P → Type 0) → Result TraceContents TraceError → Option (List ℕ) → Option (List ℕ)
     → Result P TraceError → Type 0
 Runs Ends (Err e) old new result = (result ≡ Err e) × Appends old new []

@@ -25,7 +25,7 @@ PutsLines contents failed k (Ok done) s t call w b v c =
     Puts contents failed w b v c (text_of k call (outcome s call).answer) × (t ≡ (outcome s call).system)
 PutsLines contents failed k (Err e) s t call w b v c = StopsIn s call t × (v ≡ w) × (c ≡ b)
 
--- after the first k calls the next one, which asks for memory, stopped
+-- after the first k calls the next one, which may allocate, stopped
 abbrev pub StopsAt : SystemState → List Call → ℕ → SystemState → Type 0
 StopsAt s calls k t =
     let before = state_after s (take k calls) in
@@ -37,9 +37,9 @@ abbrev pub BreaksOffAt : SystemState → List Call → ℕ → Option (List ℕ)
 BreaksOffAt s calls k old new =
     BreaksOffSoon 65536 old new (report_from 0 s (take (k - 1) calls)) (report_from 0 s (take k calls))
 
--- a play makes every call and writes the report on them; if the writer fails, some first calls were made, and the
--- report on them breaks off; if the host has no memory for step k, the report on the steps before it is written, and
--- step k may have been made in part; there is no other fault
+-- a play makes every call and writes the report on them; if the writer fails, only the first k calls were made for some
+-- k, and the report on them breaks off; if the host has no memory for step k, the report on the steps before it is
+-- written, and step k may have been made in part; there is no other fault
 abbrev pub Plays : SystemState → List Call → SystemState → Option (List ℕ) → Option (List ℕ) → Result Summary TraceError → Type 0
 Plays s calls t old new (Ok summary) =
     (summary.steps ≡ length calls) × (t ≡ state_after s calls) × Appends old new (report_from 0 s calls)
@@ -57,7 +57,7 @@ report_of plan = report_from 0 (system_with plan.layout plan.run_limit) plan.cal
 abbrev pub PlaysNew : TraceContents → Option (List ℕ) → Option (List ℕ) → Result Summary TraceError → Type 0
 PlaysNew plan old new result = (t : SystemState) × Plays (system_with plan.layout plan.run_limit) plan.calls t old new result
 
--- how far a trace is played that is not played to its end
+-- how far the play of a trace came, if it did not reach the end
 abbrev pub ComesTo : {P : Type 0} → Result TraceContents TraceError → Option (List ℕ) → Option (List ℕ) → Result P TraceError → Type 0
 ComesTo (Ok plan) old new (Err e) = PlaysNew plan old new (Err e)
 ComesTo trace old new result = Unit {0}

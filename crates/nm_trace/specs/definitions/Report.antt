@@ -62,7 +62,8 @@ answer_text (Lines lines) = decimal (length lines) ++ flat_map (λ line. 10 ∷ 
 unfoldable pub line_of : ℕ → Call → Answer → List ℕ
 line_of k call answer = decimal k ++ codes " " ++ word_of call ++ codes " " ++ answer_text answer ++ codes "\n"
 
--- the line of access j of step k: that of a step j that makes the access, after the number of step k and a dot
+-- the line of access j of step k: the number of step k and a dot, and then the line that a step j would have that makes
+-- the access
 unfoldable pub access_line : ℕ → ℕ → Access → AccessAnswer → List ℕ
 access_line k j access answer = decimal k ++ codes "." ++ line_of j (access_step access) (access_answer answer)
 
