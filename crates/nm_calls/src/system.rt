@@ -54,8 +54,8 @@ fn mapped_of<A: Allocator + Copy>(
     Ok(mapped)
 }
 
-/// A machine of nodes, processes and pages, and the most entries that a run may have. Contracts see its state, which is
-/// sound, and that limit.
+/// A machine of nodes, processes and pages, and the most requests that a run may have. Contracts see its state, which
+/// is sound, and that limit.
 ///
 /// A call that moves pages takes the crew that looks at them and copies them: the caller alone, threads, or any other.
 /// Which crew it is changes nothing that a call does or returns.
@@ -90,7 +90,7 @@ impl<A: Allocator + Copy + Send + Sync> System<A> {
         System::with_run_limit(alloc, geometry, MAX_BATCH)
     }
 
-    /// Makes a new machine as `new` does, whose runs have at most `run_limit` entries, 1 to 16,384: a longer stretch
+    /// Makes a new machine as `new` does, whose runs have at most `run_limit` requests, 1 to 16,384: a longer stretch
     /// for one target is cut from its front. An error means that the host is out of memory.
     pub fn with_run_limit(
         alloc: A,

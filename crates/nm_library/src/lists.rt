@@ -177,7 +177,7 @@ pub extern "C" fn numatrace_numa_maps(
     answer
 }
 
-/// Writes how many pages have moved, and how many entries have failed: `System::vmstat`.
+/// Writes how many pages have moved, and how many requests have failed: `System::vmstat`.
 #[unsafe(no_mangle)]
 pub extern "C" fn numatrace_vmstat(
     alloc: Global,

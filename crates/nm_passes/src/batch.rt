@@ -96,7 +96,7 @@ pub fn move_runs<A: Allocator + Copy + Send + Sync, C: RunCrew<A>>(
     })
 }
 
-/// Moves the pages of a request, whose batch goes to nodes of the machine, run after run, with at most `limit` entries
+/// Moves the pages of a request, whose batch goes to nodes of the machine, run after run, with at most `limit` requests
 /// in each run. The runs and lists are made before the first run starts, so that memory for them cannot be refused
 /// halfway. An error means that the host is out of memory, and says after how many runs; a batch of no pages and no
 /// accesses needs none.

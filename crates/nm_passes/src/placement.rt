@@ -150,7 +150,7 @@ pub fn way_of<A: Allocator + Copy + Send + Sync>(
     })
 }
 
-/// Makes the runs of `way`, one after another, each of at most `limit` entries. It is no error if a page stays. The
+/// Makes the runs of `way`, one after another, each of at most `limit` requests. It is no error if a page stays. The
 /// only error is `HostMemory { runs, policy_set: true }`, since the policy is set before its pages move: the host ran
 /// out of memory before the last run was made, and the machine is as the first `runs` runs left it.
 pub fn make_moves<A: Allocator + Copy + Send + Sync, C: RunCrew<A>>(

@@ -25,6 +25,6 @@ pub data Call : Type 0 where
   Vmstat : Call
   NumaMaps : (pid : ℕ) → Call
 
--- the most entries that a run may have by default: as many as a batch
+-- the most requests that a run may have by default: as many as a batch
 abbrev pub default_limit : ℕ
 default_limit = 16384

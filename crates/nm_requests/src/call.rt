@@ -210,7 +210,7 @@ pub enum Call<A: Allocator + Copy + Send + Sync> {
         /// The process.
         pid: Pid,
     },
-    /// Asks how many pages have moved and how many entries have failed.
+    /// Asks how many pages have moved and how many requests have failed.
     Vmstat,
     /// Asks for a process's areas as text.
     NumaMaps {

@@ -12,7 +12,7 @@ use Rattle.nm_steps.specs.declared.step_error.StepError.{StepError}
 use Rattle.nm_steps.specs.declared.step_error.StepError.TheVariants.{Bad, Memory}
 use Rattle.nm_steps.specs.Form as form
 
--- a trace: its machine, the most entries that a run may have, and the calls of its steps
+-- a trace: its machine, the most requests that a run may have, and the calls of its steps
 pub record TraceContents : Type 0 where
   pub layout : Layout
   pub run_limit : ℕ
@@ -27,7 +27,7 @@ abbrev pub ◌>>=◌ : {A B : Type 0} → Result A TraceError → (A → Result 
 abbrev pub value_of : List ℕ → Option Data
 value_of bytes = if is_utf8 bytes then read bytes else None
 
--- the index of the first item that is not a step, where a run has at most `limit` entries
+-- the index of the first item that is not a step, where a run has at most `limit` requests
 abbrev pub first_bad : ℕ → Items → ℕ
 first_bad limit no_items = 0
 first_bad limit (item d ds) = if is_some (form.step_of limit d) then suc (first_bad limit ds) else 0

@@ -107,7 +107,7 @@ machine_of d = do
 abbrev pub as_limit : ℕ → Option ℕ
 as_limit n = if nat_le 1 n && nat_le n default_limit then Some n else None
 
--- the most entries that a run may have: in version 1 the greatest limit, whatever the trace says; version 2 must give
+-- the most requests that a run may have: in version 1 the greatest limit, whatever the trace says; version 2 must give
 -- one
 unfoldable pub limit_of : Data → Option ℕ
 limit_of d = do
@@ -197,7 +197,7 @@ batch_of d = do
   nodes ← small_numbers_at (codes "nodes") d
   pages_with_nodes pages nodes
 
--- the accesses in flight name runs of the batch, none of which has more entries than the limit
+-- the accesses in flight name runs of the batch, none of which has more requests than the limit
 unfoldable pub move_pages_of : ℕ → Data → Option Call
 move_pages_of limit d = do
   caller ← small_at (codes "caller") d
@@ -237,7 +237,7 @@ query_of d = do
   flags ← small_at (codes "flags") d
   question caller pid pages flags
 
--- the step with this name, where a run has at most `limit` entries
+-- the step with this name, where a run has at most `limit` requests
 unfoldable pub step_named : ℕ → List ℕ → Data → Option Call
 step_named limit op d =
     if bytes_eq op (codes "spawn") then spawn_of d

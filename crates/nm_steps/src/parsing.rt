@@ -479,7 +479,7 @@ fn step_named<A: Allocator + Copy + Send + Sync, V: JsonValue>(
     }
 }
 
-/// The call that a step asks for, where a run has at most `limit` entries.
+/// The call that a step asks for, where a run has at most `limit` requests.
 #[tactic(auto, unfolding(crate::specs::Form::step_of))]
 pub fn step_of<A: Allocator + Copy + Send + Sync, V: JsonValue>(
     alloc: A,

@@ -107,7 +107,7 @@ fn machine_of<A: Allocator + Copy, V: JsonValue>(
     }
 }
 
-/// The most entries that a run may have: 16,384 in version 1, whatever the trace says, and what version 2 says.
+/// The most requests that a run may have: 16,384 in version 1, whatever the trace says, and what version 2 says.
 #[tactic(auto, unfolding(crate::specs::Form::limit_of))]
 fn limit_of<V: JsonValue>(value: &V) -> Result<usize, StepError>
     // In any case
@@ -149,7 +149,7 @@ fn put<A: Allocator + Copy + Send + Sync>(
     }
 }
 
-/// The calls that the steps of a list ask for, or the first fault. A run has at most `limit` entries.
+/// The calls that the steps of a list ask for, or the first fault. A run has at most `limit` requests.
 fn calls_of<A: Allocator + Copy + Send + Sync, V: JsonValue>(
     alloc: A,
     values: &[V],

@@ -12,7 +12,7 @@ use std::alloc::Allocator;
 pub struct Trace<A: Allocator + Copy + Send + Sync> {
     /// The nodes, their frames and distances.
     pub geometry: Geometry<A>,
-    /// The most entries that a run may have: 1 to 16,384. The greatest is no limit for a trace that was read, as no
+    /// The most requests that a run may have: 1 to 16,384. The greatest is no limit for a trace that was read, as no
     /// batch of it is longer.
     pub run_limit: usize,
     /// The calls of the steps, step 0 first. Each access in flight must name a run that its call makes (`run_count`),

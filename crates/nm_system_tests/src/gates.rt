@@ -216,7 +216,7 @@ fn one_worker_is_alone(rt: HostRuntime) {
     assert_eq!(rt; gate.count(), 30_003u64);
 }
 
-/// A trace in which one page is named in each of the 16,384 entries of a batch.
+/// A trace in which one page is named in each of the 16,384 requests of a batch.
 fn equal_entries(alloc: Global) -> Result<String, AllocError> {
     let mut text = String::from_str(alloc, ONE_PAGE)?;
     for _ in 1..16_384 {

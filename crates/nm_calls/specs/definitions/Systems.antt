@@ -5,7 +5,7 @@ use Rattle.nm_types.specs.State.{State}
 use Rattle.nm_model.specs.definitions.Effect.{new_machine}
 use Rattle.nm_requests.specs.Calls.{default_limit}
 
--- the state of its machine, and the most entries that a run may have
+-- the state of its machine, and the most requests that a run may have
 pub record SystemState : Type 0 where
   pub state : State
   pub run_limit : ℕ
