@@ -119,7 +119,7 @@ ListsAreas pid before text before_needed needed =
     (λ v status. FillsRoom (with_line_feeds (lines_shown v.items)) status before text needed)
     ((text ≡ before) × (needed ≡ before_needed))
 
--- how many pages moved, and how many entries failed
+-- how many pages moved, and how many requests failed
 abbrev pub Totals : ℕ → ℕ → ℤ → OpenSession → Type 0
 Totals moved failed status kept =
     (status ≡ pos 0) × (moved ≡ kept.session.system.state.moved) × (failed ≡ kept.session.system.state.failed)

@@ -11,7 +11,7 @@ pub data Answer : Type 0 where
   Held : Answer
   NewSegment : (segment : ℕ) → Answer
   TheBytes : List ℕ → Answer
-  -- how many entries failed
+  -- how many requests failed
   Failed : (failed : ℕ) → Answer
   -- the same, with the status of each entry and the answers to the accesses during its runs
   Statuses : (failed : ℕ) → List ℤ → (answers : List AccessAnswer) → Answer
@@ -19,7 +19,7 @@ pub data Answer : Type 0 where
   Frames : List ℕ → Answer
   -- page numbers with the frame at each, or none for the page of zeros
   Entries : List (ℕ × Option ℕ) → Answer
-  -- how many pages moved, and how many entries failed
+  -- how many pages moved, and how many requests failed
   TheTotals : (moved failed : ℕ) → Answer
   -- lines of text
   Lines : List (List ℕ) → Answer
