@@ -12,6 +12,9 @@ OF_NAMES = re.compile(r"has no field|is not in scope|has no `|was not admitted")
 OF_OTHERS = re.compile(r"was not admitted")
 # A function with no open goal of its own, which waits for those that it calls. (`not proved; it calls ..` has one.)
 CALLS = re.compile(r"no proof: it calls (.*), which (?:is|are) not proved")
+# A function whose proof stands on refused answers: its own, or those of a function that it calls, directly or not.
+STANDS = re.compile(r"not proved; it stands on ((?:`[^`]*`(?:, | and )?)+)")
+OF_PROOF = re.compile(r"Rattle\.(\w+)\.proofs\.(.+)\.(?:Answers|Invariants|Proof)\.[^.]+")
 # The block of an impl, which waits for one of its functions.
 BLOCK = re.compile(r"not proved; it waits for the proof of (.*)")
 # A text of src/ or specs/ that cannot be read; an edit that only makes a statement false reads well.
@@ -21,9 +24,18 @@ STALE = re.compile(r"module .Rattle-(\w+)-.*Run the lower steps again")
 LIMIT = re.compile(r"antt ran out of (?:stack|the (?:steps|memory) that)|outgrew the memory limit|stopped at the step limit")
 
 
+def proved_by(name):
+    """The function whose proof files have the declaration with this name."""
+    found = OF_PROOF.fullmatch(name)
+    return f"{found[1]}::{found[2].replace('.', '::')}" if found else name
+
+
 def callees(name, text):
     """The functions whose proofs a function or a block waits for, by its status; none where it has an open goal of its own."""
-    called, waits = CALLS.match(text), BLOCK.fullmatch(text)
+    called, waits, stands = CALLS.match(text), BLOCK.fullmatch(text), STANDS.match(text)
+    if stands:
+        others = {proved_by(each) for each in re.findall(r"`([^`]+)`", stands[1])}
+        return set() if name in others else others
     if waits:
         return {f"{name}::{each}" for each in re.findall(r"`([^`]+)`", waits[1])}
     return set(re.findall(r"`([^`]+)`", called[1])) if called else set()
