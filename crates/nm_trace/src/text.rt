@@ -11,7 +11,7 @@ ghost use Rattle.nm_calls.specs.definitions.Outcome.{accesses_asked, access_answ
 ghost use Rattle.nm_steps.specs.Form.{access_step};
 ghost use Rattle.nm_requests.specs.Views.{call_of, shown_during};
 ghost use Rattle.nm_calls.specs.views.Answers.{answer_of};
-ghost use Rattle.nm_trace.specs.definitions.Report.{word_of, each_after_space, entry_text, answer_text, line_of, text_of, access_lines, answers_in, access_line};
+ghost use Rattle.nm_trace.specs.definitions.Report.{word_of, each_after_space, entry_text, answer_text, text_of, access_lines, answers_in, access_line};
 ghost use Rattle.nm_streams.specs.Waiting.{Puts};
 ghost use Rattle.nm_model.specs.views.Asked.{access_shown};
 ghost use Rattle.nm_pool.specs.views.Accesses.{answer_shown};
@@ -264,23 +264,6 @@ fn push_front<W: ReportingWriter, A: Allocator + Copy + Send + Sync>(
     block.push_byte(writer, b' ');
 }
 
-/// Puts the line of step k, whose call was not refused, and then those of an answer of several lines.
-#[tactic(auto, unfolding(crate::specs::definitions::Report::line_of))]
-fn push_line<W: ReportingWriter, A: Allocator + Copy + Send + Sync>(
-    block: &mut Block<A>,
-    writer: &mut W,
-    k: usize,
-    call: &Call<A>,
-    answer: &Answer<A>,
-)
-    ensures { Puts W.contents W.has_failed writer.old block.old writer.new block.new
-        (line_of k (call_of call.now) (answer_of answer.now)) }
-{
-    push_front(block, writer, k, call);
-    push_answer(block, writer, answer);
-    block.push_byte(writer, b'\n');
-}
-
 /// The word for an access.
 fn access_word<A: Allocator + Copy>(access: &Access<A>) -> &'static str
     ensures { result.now ≡ word_of (access_step (access_shown access.now)) }
@@ -394,9 +377,9 @@ fn push_flights<W: ReportingWriter, A: Allocator + Copy + Send + Sync>(
     }
 }
 
-/// Puts the lines of step k, whose call was not refused: its own, and those of the accesses that were made while pages
-/// moved.
-#[tactic(auto, unfolding(crate::specs::definitions::Report::text_of))]
+/// Puts the lines of step k, whose call was not refused: its own, those of an answer of several lines, and those of the
+/// accesses that were made while pages moved.
+#[tactic(auto, unfolding(crate::specs::definitions::Report::text_of, crate::specs::definitions::Report::line_of))]
 pub(crate) fn push_text<W: ReportingWriter, A: Allocator + Copy + Send + Sync>(
     block: &mut Block<A>,
     writer: &mut W,
@@ -407,7 +390,9 @@ pub(crate) fn push_text<W: ReportingWriter, A: Allocator + Copy + Send + Sync>(
     ensures { Puts W.contents W.has_failed writer.old block.old writer.new block.new
         (text_of k (call_of call.now) (answer_of answer.now)) }
 {
-    push_line(block, writer, k, call, answer);
+    push_front(block, writer, k, call);
+    push_answer(block, writer, answer);
+    block.push_byte(writer, b'\n');
     push_flights(block, writer, k, call, answer);
 }
 
