@@ -133,6 +133,7 @@ fn numbers::gone: not proved
 fn numbers::fits_no_more: not proved; it calls `numbers::open`, which is not proved
 fn numbers::stands: not proved; it stands on `Rattle.numbers.proofs.gone.Answers.returns`, which antt refuses; it calls `numbers::gone`, which is not proved
 fn numbers::stands_too: not proved; it stands on `Rattle.numbers.proofs.gone.Answers.returns`, `Rattle.numbers.proofs.stands_too.Answers.returns`, which antt refuses
+fn numbers::by_lemma: not proved; it stands on `Rattle.numbers.proofs.Lemmas.more`, which antt refuses
 fn numbers::waits: no proof: it calls `numbers::open` and `numbers::gone`, which are not proved
 fn numbers::same: proved, may abort
 fn numbers::lost: could not tell
@@ -147,6 +148,7 @@ SAID = {
     "fits_no_more": logs.REFUSED,
     "stands": logs.WAITS,
     "stands_too": logs.REFUSED,
+    "by_lemma": logs.REFUSED,
     "waits": logs.WAITS,
     "same": logs.LET_THROUGH,
     "lost": logs.NOT_JUDGED,

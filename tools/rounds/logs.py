@@ -25,9 +25,9 @@ LIMIT = re.compile(r"antt ran out of (?:stack|the (?:steps|memory) that)|outgrew
 
 
 def proved_by(name):
-    """The function whose proof files have the declaration with this name."""
+    """The function whose proof files have the declaration with this name, or None if a file of lemmas has it."""
     found = OF_PROOF.fullmatch(name)
-    return f"{found[1]}::{found[2].replace('.', '::')}" if found else name
+    return f"{found[1]}::{found[2].replace('.', '::')}" if found else None
 
 
 def callees(name, text):
@@ -35,7 +35,7 @@ def callees(name, text):
     called, waits, stands = CALLS.match(text), BLOCK.fullmatch(text), STANDS.match(text)
     if stands:
         others = {proved_by(each) for each in re.findall(r"`([^`]+)`", stands[1])}
-        return set() if name in others else others
+        return set() if name in others or None in others else others
     if waits:
         return {f"{name}::{each}" for each in re.findall(r"`([^`]+)`", waits[1])}
     return set(re.findall(r"`([^`]+)`", called[1])) if called else set()

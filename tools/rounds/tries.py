@@ -111,8 +111,8 @@ class Tries:
                 self.is_partial, why = False, ", without --only"
             elif not log.has_verdict():
                 why = self.read_broken(log, chosen)
-            elif len(chosen) == 1:
-                self.read_alone(log, chosen[0], stands)
+            elif len(chosen) == 1 and not stands:
+                self.read_alone(log, chosen[0])
             else:
                 why = self.read(log, chosen, stands)
             again = sum(not one.verdict for one in chosen)
@@ -167,33 +167,29 @@ class Tries:
             self.halve(chosen)
             return f", half as many at a time, since {strange[0]} is not proved either: {log.of[strange[0]][:90]}"
         for one in chosen:
-            self.read_one(log, one)
+            self.read_one(log, one, len(chosen) == 1)
         return ""
 
-    def read_alone(self, log, one, stands):
-        """What a log says of the one edit: all that it says counts, unless stand-ins are in it."""
+    def read_alone(self, log, one):
+        """What a log says of the one edit, in which no stand-in is: all that it says counts."""
         self.names = names_of(self.checks.name, self.sources.all(self.checks.files()), log.of)
-        if not all(self.names[each] for each in one.functions or ()):
-            one.judge(NOT_JUDGED, "the check's log has no line of its function")
-        elif stands:
-            verdict, why = self.said_of(log, one)
-            one.judge(*(NOT_JUDGED, f"it waits for {why[0]}") if verdict == WAITS else (verdict, why))
-        else:
+        if all(self.names[each] for each in one.functions or ()):
             one.judge(*logs.of_crate(log))
+        else:
+            one.judge(NOT_JUDGED, "the check's log has no line of its function")
 
-    def said_of(self, log, one):
-        """The verdict on one edit by the lines of its functions, and why."""
+    def read_one(self, log, one, is_last):
+        """What a log says of an edit by the lines of its functions. Unless it was the only one of its round, it is tried again where that is
+        no verdict, or where it may be for another's sake."""
         names = [name for each in one.functions for name in self.names[each]]
         spans = [(each.file, *self.sources.span(each)) for each in one.functions]
+        verdict, why = logs.of_functions(log, names, self.checks.name, spans)
         one.seconds = sum(log.took.get(name, 0) for name in names)
-        return logs.of_functions(log, names, self.checks.name, spans)
-
-    def read_one(self, log, one):
-        """What a log says of one of several edits."""
-        verdict, why = self.said_of(log, one)
-        if verdict == WAITS:
+        if verdict == WAITS and is_last:
+            one.judge(NOT_JUDGED, f"it waits for {why[0]}")
+        elif verdict == WAITS:
             one.waits.update(why)
-        elif verdict in (REFUSED, LET_THROUGH):
+        elif verdict in (REFUSED, LET_THROUGH) or is_last:
             one.judge(verdict, why)
         else:
             # (what it lacks may be another's)
