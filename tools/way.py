@@ -19,11 +19,12 @@ from rounds.functions import blanked, functions_of  # noqa: E402
 CRATES = ("nm_runs", "nm_plan", "nm_pool", "nm_spaces", "nm_crew", "nm_threads", "nm_engine", "nm_passes", "nm_calls", "nm_trace")
 # What is for accesses in flight, for refusals or for other calls.
 LEFT_OUT = {"touch_each", "answer_each", "by_run", "in_order", "push_flights", "push_refusal", "give_back"}
-# Of these functions, which choose by the kind of a call, an answer or a view, only these calls are made.
+# Of these functions, which choose by the kind of a call, an answer or what is asked for, only these calls are made.
 ONLY = {
     "nm_calls::System::call": {"move_pages"},
     "nm_trace::push_answer": {"push_statuses"},
     "nm_trace::word": set(),
+    "nm_runs::class_of": {"class_of_look", "seen"},
 }
 # Crews that the program does not have.
 NOT_THESE = {"Alone"}

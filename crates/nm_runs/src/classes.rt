@@ -1,6 +1,6 @@
 //! What to do with each request of a run, from a look at what it names.
 
-ghost use Rattle.std.specs.Prelude.{◌≡◌, ◌<◌, ◌^◌, length, map, IfOk, IfSome, IfNone, Some, OnErr};
+ghost use Rattle.std.specs.Prelude.{◌≡◌, ◌<◌, ◌^◌, length, map, IfOk, IfSome, OnErr};
 ghost use Rattle.nm_types.specs.Layout.{frame_count};
 ghost use Rattle.nm_model.specs.definitions.Status.{class_of_look};
 ghost use Rattle.nm_types.specs.declared.request.Class.{Class};
@@ -85,23 +85,6 @@ fn class_of<A: Allocator + Copy, V: PageView>(
     }
 }
 
-/// What to do with a request, if it is the one that was looked up last.
-fn known_class(last: &Option<(Wanted, Class)>, wanted: &Wanted) -> Option<Class>
-    ensures same { IfSome result (λ class. last.now ≡ Some (wanted.now, class)) }
-    ensures other { IfNone result ((class : Class) → last.now ≡ Some (wanted.now, class) → ⊥) }
-{
-    match last {
-        Some((request, class)) => {
-            if request == wanted {
-                Some(*class)
-            } else {
-                None
-            }
-        }
-        None => None,
-    }
-}
-
 /// A request, and what to do with it. `last` is the request before it, and what to do with that: if the two are equal,
 /// nothing is looked up.
 fn classify_next<A: Allocator + Copy, V: PageView>(
@@ -120,9 +103,9 @@ fn classify_next<A: Allocator + Copy, V: PageView>(
     ensures class { result.1
         ≡ class_shown geometry.now (V.seen_at view.now) (V.placed_at view.now) target wanted.now }
 {
-    match known_class(last, wanted) {
-        Some(class) => (*wanted, class),
-        None => (*wanted, class_of(geometry, view, target, *wanted)),
+    match last {
+        Some((request, class)) if request == wanted => (*wanted, *class),
+        _ => (*wanted, class_of(geometry, view, target, *wanted)),
     }
 }
 
