@@ -3,6 +3,7 @@
 ghost use Rattle.std.specs.Prelude.{◌<◌, ◌≤◌};
 
 use crate::crews::Gated;
+use crate::texts::{TWO_NODES, trace_text};
 use crate::traces::Heap;
 use nm_frames::CopyJob;
 use nm_refusing_alloc::Refusing;
@@ -18,10 +19,9 @@ use std::thread::{Threads, yield_now};
 
 /// Three pages of one process, written on node 0, moved to node 1 in one run and read there. During the run one of them
 /// is read, and a fourth page gets its first byte.
-const TRACE: &str =
-    "{\"version\":1,\"machine\":{\"nodes\":[4,4],\"distance\":[[10,20],[20,10]]},\"steps\":[
-{\"op\":\"spawn\",\"pid\":1,\"uid\":100,\"home\":0,\"allowed\":[0,1]},
-{\"op\":\"map\",\"pid\":1,\"addr\":65536,\"pages\":4},
+const TRACE: [&str; 2] = [
+    TWO_NODES,
+    "{\"op\":\"map\",\"pid\":1,\"addr\":65536,\"pages\":4},
 {\"op\":\"write\",\"pid\":1,\"addr\":65536,\"data\":\"61\"},
 {\"op\":\"write\",\"pid\":1,\"addr\":69632,\"data\":\"62\"},
 {\"op\":\"write\",\"pid\":1,\"addr\":73728,\"data\":\"63\"},
@@ -31,7 +31,8 @@ const TRACE: &str =
 {\"op\":\"free\",\"node\":0},
 {\"op\":\"free\",\"node\":1},
 {\"op\":\"pagemap\",\"pid\":1},
-{\"op\":\"read\",\"pid\":1,\"addr\":69632,\"len\":2}]}";
+{\"op\":\"read\",\"pid\":1,\"addr\":69632,\"len\":2}]}",
+];
 
 const REPORT: &str = "0 spawn ok
 1 map segment=0
@@ -48,12 +49,12 @@ const REPORT: &str = "0 spawn ok
 ";
 
 /// The front of a trace in which a batch moves one page.
-const ONE_PAGE: &str =
-    "{\"version\":1,\"machine\":{\"nodes\":[4,4],\"distance\":[[10,20],[20,10]]},\"steps\":[
-{\"op\":\"spawn\",\"pid\":1,\"uid\":100,\"home\":0,\"allowed\":[0,1]},
-{\"op\":\"map\",\"pid\":1,\"addr\":65536,\"pages\":1},
+const ONE_PAGE: [&str; 2] = [
+    TWO_NODES,
+    "{\"op\":\"map\",\"pid\":1,\"addr\":65536,\"pages\":1},
 {\"op\":\"write\",\"pid\":1,\"addr\":65536,\"data\":\"61\"},
-{\"op\":\"move_pages\",\"caller\":1,\"pid\":0,\"pages\":[";
+{\"op\":\"move_pages\",\"caller\":1,\"pid\":0,\"pages\":[",
+];
 
 /// The end of its report.
 const ONE_PAGE_END: &str = " 1 1 1 1\n4 vmstat pgmigrate_success 1 pgmigrate_fail 0\n";
@@ -189,7 +190,12 @@ fn reports_right(
 ) -> bool
     requires { (0 < workers) × (workers ≤ 64) }
 {
-    report_of(rt, alloc, workers, gate, TRACE).as_slice() == REPORT.as_bytes()
+    match trace_text(alloc, TRACE.as_slice()) {
+        Ok(trace) => {
+            report_of(rt, alloc, workers, gate, trace.as_str()).as_slice() == REPORT.as_bytes()
+        }
+        Err(_) => false,
+    }
 }
 
 /// Two workers meet while a trace moves its pages, with accesses in flight: a machine that copies on one thread never
@@ -218,7 +224,7 @@ fn one_worker_is_alone(rt: HostRuntime) {
 
 /// A trace in which one page is named in each of the 16,384 requests of a batch.
 fn equal_entries(alloc: Global) -> Result<String, AllocError> {
-    let mut text = String::from_str(alloc, ONE_PAGE)?;
+    let mut text = trace_text(alloc, ONE_PAGE.as_slice())?;
     for _ in 1..16_384 {
         text.push_str("65536,")?;
     }

@@ -12,6 +12,8 @@ mod crews;
 #[cfg(test)]
 mod gates;
 #[cfg(test)]
+mod texts;
+#[cfg(test)]
 mod traces;
 #[cfg(test)]
 mod trails;

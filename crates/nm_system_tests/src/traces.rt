@@ -1,5 +1,6 @@
 //! Traces whose memory is refused.
 
+use crate::texts::{THREE_PAGES, TWO_NODES, trace_text};
 use nm_frames::CopyJob;
 use nm_refusing_alloc::Refusing;
 use nm_spaces::AddressSpaces;
@@ -8,22 +9,20 @@ use nm_trace::{RunCrew, Summary, TraceError, WatchedStream, run_trace};
 use std::alloc::Global;
 use std::marker::PhantomData;
 use std::sync::Wait;
+use std::test::Fail;
 use std::thread::Threads;
 
 pub(crate) type Heap<'a> = &'a Refusing<Global>;
 
-/// Three pages of one process, written on node 0, moved to node 1 and read there.
-const TRACE: &str =
-    "{\"version\":1,\"machine\":{\"nodes\":[4,4],\"distance\":[[10,20],[20,10]]},\"steps\":[
-{\"op\":\"spawn\",\"pid\":1,\"uid\":100,\"home\":0,\"allowed\":[0,1]},
-{\"op\":\"map\",\"pid\":1,\"addr\":65536,\"pages\":3},
-{\"op\":\"write\",\"pid\":1,\"addr\":65536,\"data\":\"61\"},
-{\"op\":\"write\",\"pid\":1,\"addr\":69632,\"data\":\"62\"},
-{\"op\":\"write\",\"pid\":1,\"addr\":73728,\"data\":\"63\"},
-{\"op\":\"move_pages\",\"caller\":1,\"pid\":0,\"pages\":[65536,69632,73728],\"nodes\":[1,0,1],\"flags\":2},
+/// Three pages of one process, written on node 0, two of which are moved to node 1.
+const TRACE: [&str; 3] = [
+    TWO_NODES,
+    THREE_PAGES,
+    "{\"op\":\"move_pages\",\"caller\":1,\"pid\":0,\"pages\":[65536,69632,73728],\"nodes\":[1,0,1],\"flags\":2},
 {\"op\":\"free\",\"node\":0},
 {\"op\":\"pagemap\",\"pid\":1},
-{\"op\":\"read\",\"pid\":1,\"addr\":69632,\"len\":2}]}";
+{\"op\":\"read\",\"pid\":1,\"addr\":69632,\"len\":2}]}",
+];
 
 const REPORT: &str = "0 spawn ok
 1 map segment=0
@@ -60,11 +59,12 @@ fn run_refused<'a, C: RunCrew<Heap<'a>>>(
     crew: &C,
     heap: Heap<'a>,
     global: Global,
+    trace: &str,
     number: u64,
 ) -> (bool, bool) {
     let mut written = WatchedStream::new(Vec::new(global));
     heap.refuse(number);
-    let played = run_trace(crew, heap, global, &mut TRACE.as_bytes(), &mut written);
+    let played = run_trace(crew, heap, global, &mut trace.as_bytes(), &mut written);
     let met = heap.asked_since(number) >= number;
     heap.refuse(0);
     (met, is_fine(played, written.get_ref().as_slice()))
@@ -72,9 +72,14 @@ fn run_refused<'a, C: RunCrew<Heap<'a>>>(
 
 /// Refuses each allocation of a run in turn, until none is left or a run is not right. Returns how many were refused,
 /// and whether all runs were right.
-fn refuse_runs<'a, C: RunCrew<Heap<'a>>>(crew: &C, heap: Heap<'a>, global: Global) -> (u64, bool) {
+fn refuse_runs<'a, C: RunCrew<Heap<'a>>>(
+    crew: &C,
+    heap: Heap<'a>,
+    global: Global,
+    trace: &str,
+) -> (u64, bool) {
     for number in 1..10_000u64 {
-        let (met, fine) = run_refused(crew, heap, global, number);
+        let (met, fine) = run_refused(crew, heap, global, trace, number);
         if !met || !fine {
             return (number - 1, fine);
         }
@@ -83,16 +88,18 @@ fn refuse_runs<'a, C: RunCrew<Heap<'a>>>(crew: &C, heap: Heap<'a>, global: Globa
 }
 
 /// Does so with four workers.
-fn refuse_four(rt: &(impl Threads + Wait + Sync), global: Global) -> (u64, bool) {
+fn refuse_four(rt: &(impl Threads + Wait + Sync), global: Global, trace: &str) -> (u64, bool) {
     let _work: PhantomData<(CopyJob<Heap<'_>>, AddressSpaces<Heap<'_>>)> = PhantomData;
     let heap = Refusing::new(global);
     let crew = Hired::new(rt, 4);
-    refuse_runs(&crew, &heap, global)
+    refuse_runs(&crew, &heap, global, trace)
 }
 
 /// Each allocation of a run that goes through the borrowed allocator is refused in turn.
 #[test]
-fn refused_runs_write_a_front(rt: HostRuntime) {
-    let (refused, fine) = refuse_four(&rt, rt.alloc());
+fn refused_runs_write_a_front(rt: HostRuntime) -> Result<(), Fail> {
+    let trace = trace_text(rt.alloc(), TRACE.as_slice())?;
+    let (refused, fine) = refuse_four(&rt, rt.alloc(), trace.as_str());
     assert!(rt; fine && refused > 30, "{refused} refusals");
+    Ok(())
 }

@@ -4,12 +4,16 @@
 use crate::attempts::{Probe, refuse_each};
 use crate::crews::Gated;
 use crate::gates::TestGate;
+use crate::texts::{
+    FOUR_OF_FIVE_PAGES, LOOK_AT_THREE, LOOK_AT_TWO, PAGE_OF_TWO, THREE_NODES, THREE_PAGES,
+    TWO_NODES, TWO_PAGES, trace_text,
+};
 use crate::traces::Heap;
 use nm_crew::Alone;
 use nm_frames::CopyJob;
 use nm_refusing_alloc::Refusing;
 use nm_spaces::AddressSpaces;
-use nm_trace::{RunCrew, read_trace};
+use nm_trace::{RunCrew, Trace, read_trace};
 use std::alloc::{AllocError, Global};
 use std::marker::PhantomData;
 use std::sync::Wait;
@@ -19,7 +23,8 @@ use std::thread::Threads;
 /// A call of a trace, and what it may return.
 #[derive(Clone, Copy)]
 struct Trail<'t> {
-    trace: &'t str,
+    /// The parts of the trace: the machine and process 1, its pages, the call, looks at the system, and what is read then.
+    trace: [&'t str; 5],
     /// The number of the call, from 0. The calls after it look at the system.
     call: usize,
     /// The texts that occur if its allocations are refused in turn, with an empty line between two. The first is that
@@ -36,6 +41,12 @@ fn bits_of(texts: &str) -> u32 {
     bits
 }
 
+/// Reads a trace of these parts.
+fn read<'a>(heap: Heap<'a>, alloc: Global, parts: &[&str]) -> Result<Trace<Heap<'a>>, AllocError> {
+    let text = trace_text(alloc, parts)?;
+    read_trace(heap, alloc, text.as_bytes()).map_err(|_| AllocError)
+}
+
 /// Reads a trace and refuses each allocation of its call in turn. Returns whether the texts of its trail
 /// occurred, each of them and no other; `text` has the last one.
 fn refuse<'a, C: RunCrew<Heap<'a>>>(
@@ -45,9 +56,7 @@ fn refuse<'a, C: RunCrew<Heap<'a>>>(
     trail: Trail<'_>,
     text: &mut String,
 ) -> Result<bool, AllocError> {
-    let Ok(trace) = read_trace(heap, alloc, trail.trace.as_bytes()) else {
-        return Err(AllocError);
-    };
+    let trace = read(heap, alloc, trail.trace.as_slice())?;
     let probe = Probe {
         call: trail.call,
         looks: trail.call.saturating_add(1),
@@ -60,20 +69,15 @@ fn refuse<'a, C: RunCrew<Heap<'a>>>(
 ///
 /// A call of one run is refused before the run.
 const THREE: Trail<'static> = Trail {
-    trace: "{\"version\":1,\"machine\":{\"nodes\":[4,4],\"distance\":[[10,20],[20,10]]},\"steps\":[
-{\"op\":\"spawn\",\"pid\":1,\"uid\":100,\"home\":0,\"allowed\":[0,1]},
-{\"op\":\"map\",\"pid\":1,\"addr\":65536,\"pages\":3},
-{\"op\":\"write\",\"pid\":1,\"addr\":65536,\"data\":\"61\"},
-{\"op\":\"write\",\"pid\":1,\"addr\":69632,\"data\":\"62\"},
-{\"op\":\"write\",\"pid\":1,\"addr\":73728,\"data\":\"63\"},
-{\"op\":\"move_pages\",\"caller\":1,\"pid\":0,\"pages\":[65536,69632,73728],\"nodes\":[1,1,1],\"flags\":2},
-{\"op\":\"pagemap\",\"pid\":1},
-{\"op\":\"free\",\"node\":0},
-{\"op\":\"free\",\"node\":1},
-{\"op\":\"vmstat\"},
-{\"op\":\"read\",\"pid\":1,\"addr\":65536,\"len\":1},
+    trace: [
+        TWO_NODES,
+        THREE_PAGES,
+        "{\"op\":\"move_pages\",\"caller\":1,\"pid\":0,\"pages\":[65536,69632,73728],\"nodes\":[1,1,1],\"flags\":2}",
+        LOOK_AT_TWO,
+        "{\"op\":\"read\",\"pid\":1,\"addr\":65536,\"len\":1},
 {\"op\":\"read\",\"pid\":1,\"addr\":69632,\"len\":2},
 {\"op\":\"read\",\"pid\":1,\"addr\":73728,\"len\":1}]}",
+    ],
     call: 5,
     outcomes: "| 0: [1, 1, 1] | 4 5 6 | 3 0 1 2 | 7 | 3 0 | [97] | [98, 0] | [99] | true
 
@@ -83,24 +87,16 @@ const THREE: Trail<'static> = Trail {
 
 /// A page that two processes see stays: one of them asks to move it, and to have it where it is, and then a privileged
 /// caller asks to move it, without MPOL_MF_MOVE_ALL.
-const SHARED: &str =
-    "{\"version\":1,\"machine\":{\"nodes\":[4,4],\"distance\":[[10,20],[20,10]]},\"steps\":[
-{\"op\":\"spawn\",\"pid\":1,\"uid\":100,\"home\":0,\"allowed\":[0,1]},
-{\"op\":\"spawn\",\"pid\":2,\"uid\":200,\"home\":1,\"allowed\":[0,1]},
-{\"op\":\"spawn\",\"pid\":3,\"uid\":300,\"home\":0,\"allowed\":[0,1],\"privileged\":true},
-{\"op\":\"map\",\"pid\":1,\"addr\":131072,\"pages\":1,\"shared\":true},
-{\"op\":\"write\",\"pid\":1,\"addr\":131072,\"data\":\"61\"},
-{\"op\":\"attach\",\"pid\":2,\"addr\":196608,\"segment\":0,\"offset\":0,\"pages\":1},
-{\"op\":\"read\",\"pid\":2,\"addr\":196608,\"len\":1},
-{\"op\":\"move_pages\",\"caller\":1,\"pid\":0,\"pages\":[131072],\"nodes\":[1],\"flags\":2},
+const SHARED: [&str; 5] = [
+    TWO_NODES,
+    PAGE_OF_TWO,
+    "{\"op\":\"move_pages\",\"caller\":1,\"pid\":0,\"pages\":[131072],\"nodes\":[1],\"flags\":2},
 {\"op\":\"move_pages\",\"caller\":1,\"pid\":0,\"pages\":[131072],\"nodes\":[0],\"flags\":2},
-{\"op\":\"move_pages\",\"caller\":3,\"pid\":1,\"pages\":[131072],\"nodes\":[1],\"flags\":2},
-{\"op\":\"pagemap\",\"pid\":1},
-{\"op\":\"free\",\"node\":0},
-{\"op\":\"free\",\"node\":1},
-{\"op\":\"vmstat\"},
-{\"op\":\"pagemap\",\"pid\":2},
-{\"op\":\"read\",\"pid\":2,\"addr\":196608,\"len\":1}]}";
+{\"op\":\"move_pages\",\"caller\":3,\"pid\":1,\"pages\":[131072],\"nodes\":[1],\"flags\":2}",
+    LOOK_AT_TWO,
+    "{\"op\":\"pagemap\",\"pid\":2},
+{\"op\":\"read\",\"pid\":2,\"addr\":196608,\"len\":1}]}",
+];
 
 /// A call that moves nothing also allocates: one of the two asks.
 const SHARED_ASKED: Trail<'static> = Trail {
@@ -136,21 +132,14 @@ const SHARED_UNASKED: Trail<'static> = Trail {
 ///
 /// If the run was refused, the page is where it was, for both processes.
 const SHARED_BY_ALL: Trail<'static> = Trail {
-    trace: "{\"version\":1,\"machine\":{\"nodes\":[4,4],\"distance\":[[10,20],[20,10]]},\"steps\":[
-{\"op\":\"spawn\",\"pid\":1,\"uid\":100,\"home\":0,\"allowed\":[0,1]},
-{\"op\":\"spawn\",\"pid\":2,\"uid\":200,\"home\":1,\"allowed\":[0,1]},
-{\"op\":\"spawn\",\"pid\":3,\"uid\":300,\"home\":0,\"allowed\":[0,1],\"privileged\":true},
-{\"op\":\"map\",\"pid\":1,\"addr\":131072,\"pages\":1,\"shared\":true},
-{\"op\":\"write\",\"pid\":1,\"addr\":131072,\"data\":\"61\"},
-{\"op\":\"attach\",\"pid\":2,\"addr\":196608,\"segment\":0,\"offset\":0,\"pages\":1},
-{\"op\":\"read\",\"pid\":2,\"addr\":196608,\"len\":1},
-{\"op\":\"move_pages\",\"caller\":3,\"pid\":1,\"pages\":[131072],\"nodes\":[1],\"flags\":4},
-{\"op\":\"pagemap\",\"pid\":1},
-{\"op\":\"free\",\"node\":0},
-{\"op\":\"free\",\"node\":1},
-{\"op\":\"vmstat\"},
-{\"op\":\"pagemap\",\"pid\":2},
+    trace: [
+        TWO_NODES,
+        PAGE_OF_TWO,
+        "{\"op\":\"move_pages\",\"caller\":3,\"pid\":1,\"pages\":[131072],\"nodes\":[1],\"flags\":4}",
+        LOOK_AT_TWO,
+        "{\"op\":\"pagemap\",\"pid\":2},
 {\"op\":\"read\",\"pid\":2,\"addr\":196608,\"len\":1}]}",
+    ],
     call: 7,
     outcomes: "| 0: [1] | 4 | 1 2 3 0 | 5 6 7 | 1 0 | 4 | [97] | true
 
@@ -162,18 +151,13 @@ const SHARED_BY_ALL: Trail<'static> = Trail {
 ///
 /// A call of two runs is refused before the first or between the two.
 const THERE_AND_BACK: Trail<'static> = Trail {
-    trace: "{\"version\":1,\"machine\":{\"nodes\":[4,4],\"distance\":[[10,20],[20,10]]},\"steps\":[
-{\"op\":\"spawn\",\"pid\":1,\"uid\":100,\"home\":0,\"allowed\":[0,1]},
-{\"op\":\"map\",\"pid\":1,\"addr\":65536,\"pages\":3},
-{\"op\":\"write\",\"pid\":1,\"addr\":65536,\"data\":\"61\"},
-{\"op\":\"write\",\"pid\":1,\"addr\":69632,\"data\":\"62\"},
-{\"op\":\"write\",\"pid\":1,\"addr\":73728,\"data\":\"63\"},
-{\"op\":\"move_pages\",\"caller\":1,\"pid\":0,\"pages\":[65536,65536],\"nodes\":[1,0],\"flags\":2},
-{\"op\":\"pagemap\",\"pid\":1},
-{\"op\":\"free\",\"node\":0},
-{\"op\":\"free\",\"node\":1},
-{\"op\":\"vmstat\"},
-{\"op\":\"read\",\"pid\":1,\"addr\":65536,\"len\":1}]}",
+    trace: [
+        TWO_NODES,
+        THREE_PAGES,
+        "{\"op\":\"move_pages\",\"caller\":1,\"pid\":0,\"pages\":[65536,65536],\"nodes\":[1,0],\"flags\":2}",
+        LOOK_AT_TWO,
+        "{\"op\":\"read\",\"pid\":1,\"addr\":65536,\"len\":1}]}",
+    ],
     call: 5,
     outcomes: "| 0: [1, 0] | 3 1 2 | 0 | 5 6 7 4 | 2 0 | [97] | true
 
@@ -189,20 +173,16 @@ const THERE_AND_BACK: Trail<'static> = Trail {
 ///
 /// A move of two runs from nodes to nodes is refused before the first or between the two.
 const FROM_NODES: Trail<'static> = Trail {
-    trace: "{\"version\":1,\"machine\":{\"nodes\":[4,4,4],\"distance\":[[10,20,20],[20,10,20],[20,20,10]]},\"steps\":[
-{\"op\":\"spawn\",\"pid\":1,\"uid\":100,\"home\":0,\"allowed\":[0,1,2]},
-{\"op\":\"map\",\"pid\":1,\"addr\":65536,\"pages\":2},
-{\"op\":\"write\",\"pid\":1,\"addr\":65536,\"data\":\"61\"},
-{\"op\":\"write\",\"pid\":1,\"addr\":69632,\"data\":\"62\"},
-{\"op\":\"move_pages\",\"caller\":1,\"pid\":0,\"pages\":[69632],\"nodes\":[1],\"flags\":2},
-{\"op\":\"migrate_pages\",\"caller\":1,\"pid\":0,\"old\":[0,1],\"new\":[1,2]},
-{\"op\":\"pagemap\",\"pid\":1},
-{\"op\":\"free\",\"node\":0},
-{\"op\":\"free\",\"node\":1},
-{\"op\":\"free\",\"node\":2},
-{\"op\":\"vmstat\"},
-{\"op\":\"read\",\"pid\":1,\"addr\":65536,\"len\":1},
+    trace: [
+        "{\"version\":1,\"machine\":{\"nodes\":[4,4,4],\"distance\":[[10,20,20],[20,10,20],[20,20,10]]},\"steps\":[
+{\"op\":\"spawn\",\"pid\":1,\"uid\":100,\"home\":0,\"allowed\":[0,1,2]}",
+        TWO_PAGES,
+        "{\"op\":\"move_pages\",\"caller\":1,\"pid\":0,\"pages\":[69632],\"nodes\":[1],\"flags\":2},
+{\"op\":\"migrate_pages\",\"caller\":1,\"pid\":0,\"old\":[0,1],\"new\":[1,2]}",
+        LOOK_AT_THREE,
+        "{\"op\":\"read\",\"pid\":1,\"addr\":65536,\"len\":1},
 {\"op\":\"read\",\"pid\":1,\"addr\":69632,\"len\":1}]}",
+    ],
     call: 5,
     outcomes: "| 0 | 5 8 | 2 3 1 0 | 6 7 4 | 9 10 11 | 3 0 | [97] | [98] | true
 
@@ -218,20 +198,15 @@ const FROM_NODES: Trail<'static> = Trail {
 /// A call that sets a policy and makes two runs is refused before the policy is set, before the first run, or between
 /// the two.
 const BOUND: Trail<'static> = Trail {
-    trace: "{\"version\":1,\"machine\":{\"nodes\":[4,1,4],\"distance\":[[10,20,20],[20,10,20],[20,20,10]]},\"steps\":[
-{\"op\":\"spawn\",\"pid\":1,\"uid\":100,\"home\":0,\"allowed\":[0,1,2]},
-{\"op\":\"map\",\"pid\":1,\"addr\":65536,\"pages\":2},
-{\"op\":\"write\",\"pid\":1,\"addr\":65536,\"data\":\"61\"},
-{\"op\":\"write\",\"pid\":1,\"addr\":69632,\"data\":\"62\"},
-{\"op\":\"mbind\",\"caller\":1,\"addr\":65536,\"len\":8192,\"mode\":2,\"nodes\":[1,2],\"flags\":2},
-{\"op\":\"pagemap\",\"pid\":1},
-{\"op\":\"free\",\"node\":0},
-{\"op\":\"free\",\"node\":1},
-{\"op\":\"free\",\"node\":2},
-{\"op\":\"vmstat\"},
-{\"op\":\"numa_maps\",\"pid\":1},
+    trace: [
+        THREE_NODES,
+        TWO_PAGES,
+        "{\"op\":\"mbind\",\"caller\":1,\"addr\":65536,\"len\":8192,\"mode\":2,\"nodes\":[1,2],\"flags\":2}",
+        LOOK_AT_THREE,
+        "{\"op\":\"numa_maps\",\"pid\":1},
 {\"op\":\"read\",\"pid\":1,\"addr\":65536,\"len\":1},
 {\"op\":\"read\",\"pid\":1,\"addr\":69632,\"len\":1}]}",
+    ],
     call: 4,
     outcomes: "| 0 | 4 5 | 2 3 0 1 | | 6 7 8 | 2 1 | 00010000 bind:1-2 anon=2 N1=1 N2=1 kernelpagesize_kB=4 | [97] | [98] | true
 
@@ -250,22 +225,16 @@ const BOUND: Trail<'static> = Trail {
 ///
 /// The node is online if a run was refused, and a page that was tried before fails again.
 const EMPTIED: Trail<'static> = Trail {
-    trace: "{\"version\":1,\"machine\":{\"nodes\":[4,1,4],\"distance\":[[10,20,20],[20,10,20],[20,20,10]]},\"steps\":[
-{\"op\":\"spawn\",\"pid\":1,\"uid\":100,\"home\":0,\"allowed\":[0,1,2]},
-{\"op\":\"map\",\"pid\":1,\"addr\":65536,\"pages\":3},
-{\"op\":\"write\",\"pid\":1,\"addr\":65536,\"data\":\"61\"},
-{\"op\":\"write\",\"pid\":1,\"addr\":69632,\"data\":\"62\"},
-{\"op\":\"write\",\"pid\":1,\"addr\":73728,\"data\":\"63\"},
-{\"op\":\"pin\",\"pid\":1,\"addr\":69632},
-{\"op\":\"offline\",\"node\":0},
-{\"op\":\"pagemap\",\"pid\":1},
-{\"op\":\"free\",\"node\":0},
-{\"op\":\"free\",\"node\":1},
-{\"op\":\"free\",\"node\":2},
-{\"op\":\"vmstat\"},
-{\"op\":\"read\",\"pid\":1,\"addr\":65536,\"len\":1},
+    trace: [
+        THREE_NODES,
+        THREE_PAGES,
+        "{\"op\":\"pin\",\"pid\":1,\"addr\":69632},
+{\"op\":\"offline\",\"node\":0}",
+        LOOK_AT_THREE,
+        "{\"op\":\"read\",\"pid\":1,\"addr\":65536,\"len\":1},
 {\"op\":\"read\",\"pid\":1,\"addr\":73728,\"len\":1},
 {\"op\":\"move_pages\",\"caller\":1,\"pid\":0,\"pages\":[69632],\"nodes\":[0],\"flags\":2}]}",
+    ],
     call: 6,
     outcomes: "| Refused(Ebusy) | 4 1 5 | 3 0 2 | | 6 7 8 | 2 2 | [97] | [99] | 0: [0] | true
 
@@ -280,20 +249,14 @@ const EMPTIED: Trail<'static> = Trail {
 ///
 /// The node is online if a run was refused, and offline after the others are made.
 const GONE: Trail<'static> = Trail {
-    trace: "{\"version\":1,\"machine\":{\"nodes\":[4,1,4],\"distance\":[[10,20,20],[20,10,20],[20,20,10]]},\"steps\":[
-{\"op\":\"spawn\",\"pid\":1,\"uid\":100,\"home\":0,\"allowed\":[0,1,2]},
-{\"op\":\"map\",\"pid\":1,\"addr\":65536,\"pages\":3},
-{\"op\":\"write\",\"pid\":1,\"addr\":65536,\"data\":\"61\"},
-{\"op\":\"write\",\"pid\":1,\"addr\":69632,\"data\":\"62\"},
-{\"op\":\"write\",\"pid\":1,\"addr\":73728,\"data\":\"63\"},
-{\"op\":\"offline\",\"node\":0},
-{\"op\":\"pagemap\",\"pid\":1},
-{\"op\":\"free\",\"node\":0},
-{\"op\":\"free\",\"node\":1},
-{\"op\":\"free\",\"node\":2},
-{\"op\":\"vmstat\"},
-{\"op\":\"read\",\"pid\":1,\"addr\":69632,\"len\":1},
+    trace: [
+        THREE_NODES,
+        THREE_PAGES,
+        "{\"op\":\"offline\",\"node\":0}",
+        LOOK_AT_THREE,
+        "{\"op\":\"read\",\"pid\":1,\"addr\":69632,\"len\":1},
 {\"op\":\"move_pages\",\"caller\":1,\"pid\":0,\"pages\":[69632],\"nodes\":[0],\"flags\":2}]}",
+    ],
     call: 5,
     outcomes: "| | 4 5 6 | 3 0 1 2 | | 7 8 | 3 2 | [98] | Refused(Enodev) | true
 
@@ -310,23 +273,17 @@ const GONE: Trail<'static> = Trail {
 /// The page that an access was to fill has no frame if the run was refused, and no free frame is lost or out of its
 /// place.
 const IN_FLIGHT: Trail<'static> = Trail {
-    trace: "{\"version\":1,\"machine\":{\"nodes\":[4,4],\"distance\":[[10,20],[20,10]]},\"steps\":[
-{\"op\":\"spawn\",\"pid\":1,\"uid\":100,\"home\":0,\"allowed\":[0,1]},
-{\"op\":\"map\",\"pid\":1,\"addr\":65536,\"pages\":5},
-{\"op\":\"write\",\"pid\":1,\"addr\":65536,\"data\":\"61\"},
-{\"op\":\"write\",\"pid\":1,\"addr\":69632,\"data\":\"62\"},
-{\"op\":\"write\",\"pid\":1,\"addr\":73728,\"data\":\"63\"},
-{\"op\":\"write\",\"pid\":1,\"addr\":77824,\"data\":\"64\"},
-{\"op\":\"move_pages\",\"caller\":1,\"pid\":0,\"pages\":[65536],\"nodes\":[1],\"flags\":2,\"during\":[
+    trace: [
+        TWO_NODES,
+        FOUR_OF_FIVE_PAGES,
+        "{\"op\":\"move_pages\",\"caller\":1,\"pid\":0,\"pages\":[65536],\"nodes\":[1],\"flags\":2,\"during\":[
 {\"run\":0,\"op\":\"read\",\"pid\":1,\"addr\":65536,\"len\":1},
 {\"run\":0,\"op\":\"read\",\"pid\":1,\"addr\":69632,\"len\":1},
-{\"run\":0,\"op\":\"write\",\"pid\":1,\"addr\":81920,\"data\":\"65\"}]},
-{\"op\":\"pagemap\",\"pid\":1},
-{\"op\":\"free\",\"node\":0},
-{\"op\":\"free\",\"node\":1},
-{\"op\":\"vmstat\"},
-{\"op\":\"read\",\"pid\":1,\"addr\":65536,\"len\":1},
+{\"run\":0,\"op\":\"write\",\"pid\":1,\"addr\":81920,\"data\":\"65\"}]}",
+        LOOK_AT_TWO,
+        "{\"op\":\"read\",\"pid\":1,\"addr\":65536,\"len\":1},
 {\"op\":\"read\",\"pid\":1,\"addr\":69632,\"len\":1}]}",
+    ],
     call: 6,
     outcomes: "| 0: [1] held [98] done | 4 1 2 3 5 | 0 | 6 7 | 1 0 | [97] | [98] | true
 
@@ -338,18 +295,16 @@ const IN_FLIGHT: Trail<'static> = Trail {
 ///
 /// The area through which the page was read has no entry for it if the run was refused.
 const HELD: Trail<'static> = Trail {
-    trace: "{\"version\":1,\"machine\":{\"nodes\":[4,4],\"distance\":[[10,20],[20,10]]},\"steps\":[
-{\"op\":\"spawn\",\"pid\":1,\"uid\":100,\"home\":0,\"allowed\":[0,1]},
-{\"op\":\"map\",\"pid\":1,\"addr\":131072,\"pages\":1,\"shared\":true},
+    trace: [
+        TWO_NODES,
+        "{\"op\":\"map\",\"pid\":1,\"addr\":131072,\"pages\":1,\"shared\":true},
 {\"op\":\"attach\",\"pid\":1,\"addr\":196608,\"segment\":0,\"offset\":0,\"pages\":1},
-{\"op\":\"write\",\"pid\":1,\"addr\":131072,\"data\":\"61\"},
-{\"op\":\"move_pages\",\"caller\":1,\"pid\":0,\"pages\":[131072],\"nodes\":[1],\"flags\":2,\"during\":[
-{\"run\":0,\"op\":\"read\",\"pid\":1,\"addr\":196608,\"len\":1}]},
-{\"op\":\"pagemap\",\"pid\":1},
-{\"op\":\"free\",\"node\":0},
-{\"op\":\"free\",\"node\":1},
-{\"op\":\"vmstat\"},
-{\"op\":\"read\",\"pid\":1,\"addr\":131072,\"len\":1}]}",
+{\"op\":\"write\",\"pid\":1,\"addr\":131072,\"data\":\"61\"}",
+        "{\"op\":\"move_pages\",\"caller\":1,\"pid\":0,\"pages\":[131072],\"nodes\":[1],\"flags\":2,\"during\":[
+{\"run\":0,\"op\":\"read\",\"pid\":1,\"addr\":196608,\"len\":1}]}",
+        LOOK_AT_TWO,
+        "{\"op\":\"read\",\"pid\":1,\"addr\":131072,\"len\":1}]}",
+    ],
     call: 4,
     outcomes: "| 0: [1] held | 4 | 1 2 3 0 | 5 6 7 | 1 0 | [97] | true
 
@@ -361,21 +316,16 @@ const HELD: Trail<'static> = Trail {
 ///
 /// An access of the second run is made with that run, even if the first was made before.
 const IN_THE_SECOND: Trail<'static> = Trail {
-    trace: "{\"version\":2,\"run_limit\":1,\"machine\":{\"nodes\":[4,4],\"distance\":[[10,20],[20,10]]},\"steps\":[
-{\"op\":\"spawn\",\"pid\":1,\"uid\":100,\"home\":0,\"allowed\":[0,1]},
-{\"op\":\"map\",\"pid\":1,\"addr\":65536,\"pages\":5},
-{\"op\":\"write\",\"pid\":1,\"addr\":65536,\"data\":\"61\"},
-{\"op\":\"write\",\"pid\":1,\"addr\":69632,\"data\":\"62\"},
-{\"op\":\"write\",\"pid\":1,\"addr\":73728,\"data\":\"63\"},
-{\"op\":\"write\",\"pid\":1,\"addr\":77824,\"data\":\"64\"},
-{\"op\":\"move_pages\",\"caller\":1,\"pid\":0,\"pages\":[65536,69632],\"nodes\":[1,1],\"flags\":2,\"during\":[
-{\"run\":1,\"op\":\"write\",\"pid\":1,\"addr\":81920,\"data\":\"65\"}]},
-{\"op\":\"pagemap\",\"pid\":1},
-{\"op\":\"free\",\"node\":0},
-{\"op\":\"free\",\"node\":1},
-{\"op\":\"vmstat\"},
-{\"op\":\"read\",\"pid\":1,\"addr\":65536,\"len\":1},
+    trace: [
+        "{\"version\":2,\"run_limit\":1,\"machine\":{\"nodes\":[4,4],\"distance\":[[10,20],[20,10]]},\"steps\":[
+{\"op\":\"spawn\",\"pid\":1,\"uid\":100,\"home\":0,\"allowed\":[0,1]}",
+        FOUR_OF_FIVE_PAGES,
+        "{\"op\":\"move_pages\",\"caller\":1,\"pid\":0,\"pages\":[65536,69632],\"nodes\":[1,1],\"flags\":2,\"during\":[
+{\"run\":1,\"op\":\"write\",\"pid\":1,\"addr\":81920,\"data\":\"65\"}]}",
+        LOOK_AT_TWO,
+        "{\"op\":\"read\",\"pid\":1,\"addr\":65536,\"len\":1},
 {\"op\":\"read\",\"pid\":1,\"addr\":69632,\"len\":1}]}",
+    ],
     call: 6,
     outcomes: "| 0: [1, 1] done | 4 5 2 3 0 | 1 | 6 7 | 2 0 | [97] | [98] | true
 
