@@ -1,16 +1,18 @@
 -- One part by itself: what is found of it, and what comes beside it.
 use Rattle.std.proofs.Common.{◌≡◌, ◌==◌, ℕ, ◌<◌, ◌≤◌, List, [], ◌∷◌, true, false, refl, sym, ap, subst, ◌∙◌, arith}
 use Rattle.std.proofs.lemmas.Bool.{eqb-true, eq-eqb}
-use Rattle.std.specs.Prelude.{Some, None}
+use Rattle.std.specs.Prelude.{Some, None, IsSome}
 use Rattle.std.specs.List.Sorted.{IsStrictlySortedBy}
 use Rattle.std.specs.Ordering.{nat_cmp}
 use Rattle.nm_types.specs.Map.{Map, get, set}
-use Rattle.nm_types.proofs.Cases.{some_none}
-use Rattle.nm_tables.specs.definitions.Nodes.{IsNode}
+use Rattle.nm_types.proofs.Cases.{some_none, none_is_not}
+use Rattle.nm_tables.specs.definitions.Tree.{flatten, IsPart}
+use Rattle.nm_tables.specs.definitions.Nodes.{slots_shown, IsNode}
 use Rattle.nm_tables.specs.views.Branches.{IsOne}
 use Rattle.nm_tables.specs.declared.branch.Branch.{Branch}
 use Rattle.nm_tables.specs.declared.branch.Branch.TheVariants.{One, Many}
 use Rattle.nm_tables.proofs.Joined.{get-here, get-later}
+use Rattle.nm_tables.proofs.Nodes.{node-get_none}
 use Rattle.nm_tables.proofs.Parts.{set-between}
 
 module _ {P A : Type 0} where
@@ -56,3 +58,12 @@ its_number n q Found only found =
 
 pub above_it : (n q : ℕ) → q ≤ n → (n ≡ q → ⊥) → q < n
 above_it n q low same = grind arith
+
+-- what is found of a part by itself is in the part
+module _ {P V : Type 0} (entries : P → Map ℕ V) (number : ℕ → ℕ) (whole : P → Type 0) (is_in : P → ℕ → Type 0)
+    (part : (x : P) (i : ℕ) → whole x → is_in x i → IsPart number i (entries x)) (upwards : (a b : ℕ) → a ≤ b → number a ≤ number b) (parts : Map ℕ P) (is : IsNode whole is_in parts) where
+  pub found_inside : (n v : ℕ) (x : P) → parts ≡ (n, x) ∷ [] → IsSome (get nat_cmp (flatten (slots_shown entries parts)) v) → is_in x (number v)
+  found_inside n v x one there =
+      let own = its_number n (number v) (IsSome (get nat_cmp (flatten (slots_shown entries parts)) v))
+      (λ apart some. none_is_not V (subst IsSome (node-get_none entries number whole is_in part upwards parts is v (absent_beside parts n (number v) x one apart)) some)) there in
+      subst (is_in x) own (subst (IsNode whole is_in) one is).1.0.1

@@ -20,6 +20,10 @@ use Rattle.nm_tables.proofs.Joined.{one_or_other, get-without, at_once, at_other
 use Rattle.nm_tables.proofs.Changed.{get-put, get-put_other}
 use Rattle.nm_tables.proofs.Slots.{within, blocks-found, get-written, get-written_other, get-behind, get-before, other_slot, behind_slot}
 
+-- what holds of leaves and an index holds of those that they are equal to
+pub carried : {ls ms : List Places} {m n : Map ℕ Slot} (P : List Places → Map ℕ Slot → Type 0) → ms ≡ ls → n ≡ m → P ls m → P ms n
+carried {ls} {ms} {m} {n} P leaves index h = subst (λ xs. P xs n) (sym leaves) (subst (P ls) (sym index) h)
+
 -- what is found after one key is changed
 module _ {V : Type 0} (m : Map ℕ V) (b : ℕ) where
   pub replaced_here : (x : V) → IsSome (get nat_cmp m b) → get nat_cmp (replace nat_cmp m b x) b ≡ Some x

@@ -174,6 +174,14 @@ module _ {P : Type 0} where
       ap (λ b. cond b (e ∷ entries_between nat_cmp (Included n) Unbounded m) (entries_between nat_cmp (Included n) Unbounded m)) (fails n e.0 begins.1.0)
       ∙ between_is m i n (omega (arith, le), begins.1.1, begins.2)
 
+-- e is the part with the number, the one at index i
+pub record IsPartAt {P : Type 0} (m : Map ℕ P) (number i : ℕ) (e : ℕ × P) : Type 0 where
+  pub found : get nat_cmp m number ≡ Some e.1
+  -- another part that is written there is the part with the number
+  pub written : (y : P) → put m i (e.0, y) ≡ replace nat_cmp m number y
+  -- once that is removed, the number has no part
+  pub removed : (y : P) → remove (put m i (e.0, y)) i ≡ without nat_cmp m number
+
 -- what a search of a list in order gives, where the list is seen as m and the number as `number`
 module _ {P : Type 0} (m seen : Map ℕ P) (number n i : ℕ) (shows : seen ≡ m) (named : n ≡ number) where
   module _ (e : ℕ × P) (sorted : IsStrictlySortedBy nat_cmp (keys_of m)) (stands : StandsAt seen n i) (is : e ≡ get_or m i e) where
@@ -183,17 +191,13 @@ module _ {P : Type 0} (m seen : Map ℕ P) (number n i : ℕ) (shows : seen ≡ 
     its_key : (get_or m i e).0 ≡ number
     its_key = ap (λ s. (get_or s i e).0) (sym shows) ∙ stands.1 e ∙ named
 
-    -- the part is found by its number
-    pub found_at : get nat_cmp m number ≡ Some e.1
-    found_at = subst (λ q. get nat_cmp m q ≡ Some e.1) its_key (get-at m i e sorted inside ∙ ap (λ d. Some d.1) (sym is))
-
-    -- a part that is written there is the part of the number
-    pub written_at : (y : P) → put m i (e.0, y) ≡ replace nat_cmp m number y
-    written_at y = subst (λ q. put m i (e.0, y) ≡ replace nat_cmp m q y) its_key (ap (λ d. put m i (d.0, y)) is ∙ replace-at m i e y sorted inside)
-
-    -- a part that is written there and removed is gone
-    pub removed_at : (y : P) → remove (put m i (e.0, y)) i ≡ without nat_cmp m number
-    removed_at y = subst (λ q. remove (put m i (e.0, y)) i ≡ without nat_cmp m q) its_key (remove-put m i (e.0, y) ∙ remove-at m i e sorted inside)
+    -- the part there is the one with the number
+    pub part_at : IsPartAt m number i e
+    part_at = record {
+      found = subst (λ q. get nat_cmp m q ≡ Some e.1) its_key (get-at m i e sorted inside ∙ ap (λ d. Some d.1) (sym is));
+      written = λ y. subst (λ q. put m i (e.0, y) ≡ replace nat_cmp m q y) its_key (ap (λ d. put m i (d.0, y)) is ∙ replace-at m i e y sorted inside);
+      removed = λ y. subst (λ q. remove (put m i (e.0, y)) i ≡ without nat_cmp m q) its_key (remove-put m i (e.0, y) ∙ remove-at m i e sorted inside);
+    }
 
   fits_here : FitsAt seen n i → FitsAt m number i
   fits_here fits = subst (λ q. FitsAt m q i) named (subst (λ s. FitsAt s n i) shows fits)

@@ -4,6 +4,8 @@ use Rattle.nm_tables.proofs.Numbers.{is_below, is_not_below}
 use Rattle.nm_tables.proofs.Results.{where_err}
 use Rattle.nm_tables.proofs.Within.{within}
 use Rattle.nm_tables.proofs.Listed.{extended, unextended, cut_short, leaf-first, leaf-next, leaf-beyond, leaf-done}
+use Rattle.nm_tables.proofs.leaf.list_leaf.Given.{Over}
+use Rattle.nm_tables.proofs.leaf.list_leaf.Goals.{Else-lt}
 use Rattle.nm_tables.proofs.leaf.list_leaf.Goals as goal
 
 pub loop-place-init : goal.loop-place-init
@@ -14,19 +16,25 @@ loop-place-init g c =
       before = unextended c.args.list.now.items;
     }
 
+-- the entry of this round is the next one
+its_entry : (g : Over) (c : Else-lt g)
+    → let b = c.args.leaf.now.block * 512 in within (b + c.loop-place.from) c.args.last (leaf_entries c.args.leaf.now) ≡ (b + c.in-Some.place, c.in-Some.entry) ∷ within (b + (c.in-Some.place + 1)) c.args.last (leaf_entries c.args.leaf.now)
+its_entry g c =
+    let some = c.in-Some.ensures.some in
+    leaf-next c.args.leaf.now c.args.last c.loop-place.from c.in-Some.place c.in-Some.entry some.0 some.1 c.in-Some.ensures.first some.2
+    (subst (λ n. n ≤ c.args.last) c.new-vpn.ensures (is_not_below c.args.last c.new-vpn.result c.lt.result c.lt.ensures c.if-lt.false))
+
 pub loop-place-preserved : goal.loop-place-preserved
 loop-place-preserved g c =
     let p = c.args.leaf.now in
     let l = c.loop-place in
     let some = c.in-Some.ensures.some in
-    let at : c.new-vpn.result ≡ p.block * 512 + c.in-Some.place = c.new-vpn.ensures in
-    let high : p.block * 512 + c.in-Some.place ≤ c.args.last = subst (λ n. n ≤ c.args.last) at (is_not_below c.args.last c.new-vpn.result c.lt.result c.lt.ensures c.if-lt.false) in
-    let next = leaf-next p c.args.last l.from c.in-Some.place c.in-Some.entry some.0 some.1 c.in-Some.ensures.first some.2 high in
+    let next = its_entry g (goal.at.loop-place-preserved g c).Else-lt in
     let rest = within (p.block * 512 + (c.in-Some.place + 1)) c.args.last (leaf_entries p) in
     record {
       fits = omega (arith, some.1);
       left = ap (λ ls. ls ++ rest) c.in_ok-push.ensures.items ∙ append_assoc l.list.items ((c.new-vpn.result, c.in-Some.entry) ∷ []) rest
-          ∙ ap (λ m. l.list.items ++ m) (ap (λ n. (n, c.in-Some.entry) ∷ rest) at ∙ sym next) ∙ l.invariant.left;
+          ∙ ap (λ m. l.list.items ++ m) (ap (λ n. (n, c.in-Some.entry) ∷ rest) c.new-vpn.ensures ∙ sym next) ∙ l.invariant.left;
       before = extended c.args.list.now.items l.list.items ((c.new-vpn.result, c.in-Some.entry) ∷ []) c.push.new.self.items l.invariant.before c.in_ok-push.ensures.items;
     }
 
@@ -45,10 +53,6 @@ returns-clause-ok g c =
 
 pub returns-in_err-push-clause-short : goal.returns-in_err-push-clause-short
 returns-in_err-push-clause-short g c =
-    let p = c.args.leaf.now in
     let l = c.loop-place in
-    let some = c.in-Some.ensures.some in
-    let at : c.new-vpn.result ≡ p.block * 512 + c.in-Some.place = c.new-vpn.ensures in
-    let high : p.block * 512 + c.in-Some.place ≤ c.args.last = subst (λ n. n ≤ c.args.last) at (is_not_below c.args.last c.new-vpn.result c.lt.result c.lt.ensures c.if-lt.false) in
-    let next = leaf-next p c.args.last l.from c.in-Some.place c.in-Some.entry some.0 some.1 c.in-Some.ensures.first some.2 high in
+    let next = its_entry g (goal.at.returns-in_err-push-clause-short g c).Else-lt in
     where_err c.from_residual.result (cut_short _ l.list.items c.push.new.self.items _ _ (ap (λ m. l.list.items ++ m) (sym next) ∙ l.invariant.left) c.in_err-push.ensures.items)

@@ -11,47 +11,46 @@ use Rattle.nm_tables.specs.definitions.Nodes.{slots_shown, IsNode}
 use Rattle.nm_tables.proofs.Results.{on_ok, on_err}
 use Rattle.nm_tables.proofs.Changed.{all-set, set_some, replace_some}
 use Rattle.nm_tables.proofs.Nodes as node
-use Rattle.nm_tables.proofs.Parts.{found_at, written_at, absent_at, inserted_at}
+use Rattle.nm_tables.proofs.Parts.{IsPartAt, part_at, absent_at, inserted_at}
+use Rattle.nm_tables.proofs.node.NodeSubtree.set.Given.{Over}
+use Rattle.nm_tables.proofs.node.NodeSubtree.set.Goals.{After-index_mut}
 use Rattle.nm_tables.proofs.node.NodeSubtree.set.Goals as goal
 
 err_is : {T E : Type 0} (r : Result T E) (P : Type 0) → P → OnErr r P
 err_is (Ok x) P p = tt
 err_is (Err x) P p = p
 
+-- the part with the block's number
+its_part : (g : Over) (c : After-index_mut g) → IsPartAt c.args.self.now.parts.items (g.T.Subtree.number c.args.block) c.in-Ok.place c.index_mut.result.now
+its_part g c = part_at c.args.self.now.parts.items c.as_slice.result.now (g.T.Subtree.number c.args.block) c.number_of-number.result c.in-Ok.place c.as_slice.ensures.value c.number_of-number.ensures c.index_mut.result.now c.requires.kept.0.0 c.in-Ok.ensures.found c.index_mut.ensures.value
+
 pub returns-in-Ok-clause-ok : goal.returns-in-Ok-clause-ok
 returns-in-Ok-clause-ok g c =
     let parts = c.args.self.now.parts.items in
-    let y = c.set.new.self in
-    let at = found_at parts c.as_slice.result.now (g.T.Subtree.number c.args.block) c.number_of-number.result c.in-Ok.place c.as_slice.ensures.value c.number_of-number.ensures c.index_mut.result.now c.requires.kept.0.0 c.in-Ok.ensures.found c.index_mut.ensures.value in
-    let held = written_at parts c.as_slice.result.now (g.T.Subtree.number c.args.block) c.number_of-number.result c.in-Ok.place c.as_slice.ensures.value c.number_of-number.ensures c.index_mut.result.now c.requires.kept.0.0 c.in-Ok.ensures.found c.index_mut.ensures.value y in
-    on_ok c.set.result (λ is. ap (λ ps. flatten (slots_shown g.T.Subtree.slots ps)) held ∙ node.node-set g.T.Subtree.slots g.T.Subtree.number g.T.Subtree.whole g.T.Subtree.is_in g.met.T.Subtree.parted g.met.T.Subtree.upwards parts c.requires.kept.0 c.args.block c.index_mut.result.now.1 y at c.args.slot is) c.set.ensures.ok
+    let part = its_part g (goal.at.returns-in-Ok-clause-ok g c).After-index_mut in
+    on_ok c.set.result (λ is. ap (λ ps. flatten (slots_shown g.T.Subtree.slots ps)) (part.written c.set.new.self) ∙ node.node-set g.T.Subtree.slots g.T.Subtree.number g.T.Subtree.whole g.T.Subtree.is_in g.met.T.Subtree.parted g.met.T.Subtree.upwards parts c.requires.kept.0 c.args.block c.index_mut.result.now.1 c.set.new.self part.found c.args.slot is) c.set.ensures.ok
 
 pub returns-in-Ok-clause-err : goal.returns-in-Ok-clause-err
 returns-in-Ok-clause-err g c =
     let parts = c.args.self.now.parts.items in
-    let y = c.set.new.self in
-    let at = found_at parts c.as_slice.result.now (g.T.Subtree.number c.args.block) c.number_of-number.result c.in-Ok.place c.as_slice.ensures.value c.number_of-number.ensures c.index_mut.result.now c.requires.kept.0.0 c.in-Ok.ensures.found c.index_mut.ensures.value in
-    let held = written_at parts c.as_slice.result.now (g.T.Subtree.number c.args.block) c.number_of-number.result c.in-Ok.place c.as_slice.ensures.value c.number_of-number.ensures c.index_mut.result.now c.requires.kept.0.0 c.in-Ok.ensures.found c.index_mut.ensures.value y in
-    on_err c.set.result (λ is. ap (λ ps. flatten (slots_shown g.T.Subtree.slots ps)) held ∙ node.node-same g.T.Subtree.slots g.T.Subtree.number g.T.Subtree.whole g.T.Subtree.is_in g.met.T.Subtree.parted g.met.T.Subtree.upwards parts c.requires.kept.0 c.args.block c.index_mut.result.now.1 y at is) c.set.ensures.err
+    let part = its_part g (goal.at.returns-in-Ok-clause-err g c).After-index_mut in
+    on_err c.set.result (λ is. ap (λ ps. flatten (slots_shown g.T.Subtree.slots ps)) (part.written c.set.new.self) ∙ node.node-same g.T.Subtree.slots g.T.Subtree.number g.T.Subtree.whole g.T.Subtree.is_in g.met.T.Subtree.parted g.met.T.Subtree.upwards parts c.requires.kept.0 c.args.block c.index_mut.result.now.1 c.set.new.self part.found is) c.set.ensures.err
 
 pub returns-in-Ok-clause-kept : goal.returns-in-Ok-clause-kept
 returns-in-Ok-clause-kept g c =
     let parts = c.args.self.now.parts.items in
-    let y = c.set.new.self in
-    let at = found_at parts c.as_slice.result.now (g.T.Subtree.number c.args.block) c.number_of-number.result c.in-Ok.place c.as_slice.ensures.value c.number_of-number.ensures c.index_mut.result.now c.requires.kept.0.0 c.in-Ok.ensures.found c.index_mut.ensures.value in
-    let held = written_at parts c.as_slice.result.now (g.T.Subtree.number c.args.block) c.number_of-number.result c.in-Ok.place c.as_slice.ensures.value c.number_of-number.ensures c.index_mut.result.now c.requires.kept.0.0 c.in-Ok.ensures.found c.index_mut.ensures.value y in
-    let part = node.found g.T.Subtree.slots g.T.Subtree.number g.T.Subtree.whole g.T.Subtree.is_in g.met.T.Subtree.parted g.met.T.Subtree.upwards parts c.requires.kept.0 (g.T.Subtree.number c.args.block) c.index_mut.result.now.1 at in (
-      subst (IsNode g.T.Subtree.whole g.T.Subtree.is_in) (sym held)
-          (node.node-kept g.T.Subtree.slots g.T.Subtree.number g.T.Subtree.whole g.T.Subtree.is_in g.met.T.Subtree.parted g.met.T.Subtree.upwards parts c.requires.kept.0 (g.T.Subtree.number c.args.block) y c.set.ensures.kept (c.set.ensures.inside (g.T.Subtree.number c.args.block) part.1 refl)),
-      λ none. replace_some parts (g.T.Subtree.number c.args.block) y c.requires.kept.1 (sym held ∙ none),
+    let part = its_part g (goal.at.returns-in-Ok-clause-kept g c).After-index_mut in
+    let own = node.found g.T.Subtree.slots g.T.Subtree.number g.T.Subtree.whole g.T.Subtree.is_in g.met.T.Subtree.parted g.met.T.Subtree.upwards parts c.requires.kept.0 (g.T.Subtree.number c.args.block) c.index_mut.result.now.1 part.found in (
+      subst (IsNode g.T.Subtree.whole g.T.Subtree.is_in) (sym (part.written c.set.new.self))
+          (node.node-kept g.T.Subtree.slots g.T.Subtree.number g.T.Subtree.whole g.T.Subtree.is_in g.met.T.Subtree.parted g.met.T.Subtree.upwards parts c.requires.kept.0 (g.T.Subtree.number c.args.block) c.set.new.self c.set.ensures.kept (c.set.ensures.inside (g.T.Subtree.number c.args.block) own.1 refl)),
+      λ none. replace_some parts (g.T.Subtree.number c.args.block) c.set.new.self c.requires.kept.1 (sym (part.written c.set.new.self) ∙ none),
     )
 
 pub returns-in-Ok-clause-inside : goal.returns-in-Ok-clause-inside
 returns-in-Ok-clause-inside g c i all own =
     let parts = c.args.self.now.parts.items in
-    let y = c.set.new.self in
-    let held = written_at parts c.as_slice.result.now (g.T.Subtree.number c.args.block) c.number_of-number.result c.in-Ok.place c.as_slice.ensures.value c.number_of-number.ensures c.index_mut.result.now c.requires.kept.0.0 c.in-Ok.ensures.found c.index_mut.ensures.value y in
-    subst (λ ks. AllByRecursion (λ k. k / 512 ≡ i) ks) (sym (ap keys_of held ∙ keys-replace nat_cmp parts (g.T.Subtree.number c.args.block) y)) all
+    let part = its_part g (goal.at.returns-in-Ok-clause-inside g c).After-index_mut in
+    subst (λ ks. AllByRecursion (λ k. k / 512 ≡ i) ks) (sym (ap keys_of (part.written c.set.new.self) ∙ keys-replace nat_cmp parts (g.T.Subtree.number c.args.block) c.set.new.self)) all
 
 pub returns-in_ok-insert-in-Err-clause-ok : goal.returns-in_ok-insert-in-Err-clause-ok
 returns-in_ok-insert-in-Err-clause-ok g c =
@@ -84,8 +83,8 @@ place_of-requires g c = record { ordered = subst (λ l. IsStrictlySortedBy nat_c
 pub set-requires-clause-kept : goal.set-requires-clause-kept
 set-requires-clause-kept g c =
     let parts = c.args.self.now.parts.items in
-    let at = found_at parts c.as_slice.result.now (g.T.Subtree.number c.args.block) c.number_of-number.result c.in-Ok.place c.as_slice.ensures.value c.number_of-number.ensures c.index_mut.result.now c.requires.kept.0.0 c.in-Ok.ensures.found c.index_mut.ensures.value in
-    (node.found g.T.Subtree.slots g.T.Subtree.number g.T.Subtree.whole g.T.Subtree.is_in g.met.T.Subtree.parted g.met.T.Subtree.upwards parts c.requires.kept.0 (g.T.Subtree.number c.args.block) c.index_mut.result.now.1 at).0
+    let part = its_part g (goal.at.set-requires-clause-kept g c).After-index_mut in
+    (node.found g.T.Subtree.slots g.T.Subtree.number g.T.Subtree.whole g.T.Subtree.is_in g.met.T.Subtree.parted g.met.T.Subtree.upwards parts c.requires.kept.0 (g.T.Subtree.number c.args.block) c.index_mut.result.now.1 part.found).0
 
 pub returns-in_err-part-in-Err-clause-ok : goal.returns-in_err-part-in-Err-clause-ok
 returns-in_err-part-in-Err-clause-ok g c = IfOk-from_err _ _ c.from_residual.ensures.0

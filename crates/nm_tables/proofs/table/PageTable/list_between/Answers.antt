@@ -6,6 +6,8 @@ use Rattle.nm_tables.specs.definitions.Lists.{IsCutShort}
 use Rattle.nm_tables.proofs.Results.{on_ok, on_err}
 use Rattle.nm_tables.proofs.Slots.{ordered_by}
 use Rattle.nm_tables.proofs.Within.{within, within_end, none_below}
+use Rattle.nm_tables.proofs.table.PageTable.list_between.Given.{Over}
+use Rattle.nm_tables.proofs.table.PageTable.list_between.Goals.{After-new}
 use Rattle.nm_tables.proofs.table.PageTable.list_between.Goals as goal
 
 pub returns-then-number-eq0-clause-all : goal.returns-then-number-eq0-clause-all
@@ -17,15 +19,19 @@ returns-then-number-eq0-clause-all g c =
 pub returns-then-number-eq0-clause-ordered : goal.returns-then-number-eq0-clause-ordered
 returns-then-number-eq0-clause-ordered g c = ordered_by c.self.inside.blocks c.args.self.now c.self.view_is c.self.invariant
 
-pub returns-clause-all : goal.returns-clause-all
-returns-clause-all g c =
+-- the pages up to the last one are those before the end
+to_the_end : (g : Over) (c : After-new g) → within c.args.first c.new.result c.args.self.now ≡ entries_between nat_cmp (Included c.args.first) (Excluded c.args.end) c.args.self.now
+to_the_end g c =
     let is = c.number.ensures in
     let again = c.number-2.ensures in
     let some = c.if-number-eq0.false in
     let made = c.new.ensures in
-    let end : c.new.result + 1 ≡ c.args.end = omega (arith, is, again, some, made) in
+    within_end c.args.first c.new.result c.args.end (omega (arith, is, again, some, made)) c.args.self.now
+
+pub returns-clause-all : goal.returns-clause-all
+returns-clause-all g c =
     on_ok c.list_within.result
-    (λ all. all ∙ ap (λ m. c.args.list.now.items ++ m) (ap (within c.args.first c.new.result) c.self.view_is ∙ within_end c.args.first c.new.result c.args.end end c.args.self.now))
+    (λ all. all ∙ ap (λ m. c.args.list.now.items ++ m) (ap (within c.args.first c.new.result) c.self.view_is ∙ to_the_end g (goal.at.returns-clause-all g c).After-new))
     c.list_within.ensures.ok
 
 pub returns-clause-ordered : goal.returns-clause-ordered
@@ -33,11 +39,6 @@ returns-clause-ordered g c = ordered_by c.self.inside.blocks c.args.self.now c.s
 
 pub returns-clause-short : goal.returns-clause-short
 returns-clause-short g c =
-    let is = c.number.ensures in
-    let again = c.number-2.ensures in
-    let some = c.if-number-eq0.false in
-    let made = c.new.ensures in
-    let end : c.new.result + 1 ≡ c.args.end = omega (arith, is, again, some, made) in
     on_err c.list_within.result
-    (λ short. subst (IsCutShort c.list_within.new.list.items) (ap (λ m. c.args.list.now.items ++ m) (ap (within c.args.first c.new.result) c.self.view_is ∙ within_end c.args.first c.new.result c.args.end end c.args.self.now)) short)
+    (λ short. subst (IsCutShort c.list_within.new.list.items) (ap (λ m. c.args.list.now.items ++ m) (ap (within c.args.first c.new.result) c.self.view_is ∙ to_the_end g (goal.at.returns-clause-short g c).After-new)) short)
     c.list_within.ensures.short
