@@ -7,7 +7,7 @@ use Rattle.std.proofs.lemmas.List.{get_or_default, set-get_or}
 use Rattle.std.proofs.lemmas.List.Sums.{sum_by-set, count_by-le-length}
 use Rattle.nm_rmap.specs.Mappers.{Mappers, Mapper, is_mapper, mappers_of, with_mappers, frame_pins, with_pin_count, pinned_count}
 
-abbrev both : List (List Mapper) → List ℕ → Mappers
+abbrev pub both : List (List Mapper) → List ℕ → Mappers
 both mappings pins = record { mappings = mappings; pins = pins }
 
 module _ (mappings : List (List Mapper)) (pins : List ℕ) (m : Mappers) (is : both mappings pins ≡ m) (frame i : ℕ) (at : i ≡ frame) (frame_in : frame < length m.mappings) where
