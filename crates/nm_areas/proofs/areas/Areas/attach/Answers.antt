@@ -16,6 +16,8 @@ use Rattle.nm_model.specs.definitions.Areas.{new_area, over_with, with_area}
 use Rattle.nm_areas.proofs.Inserted.{attached_mapped, stretch_ends}
 use Rattle.nm_areas.proofs.Private.{stretch_shared}
 use Rattle.nm_areas.proofs.Covered.{came, stayed}
+use Rattle.nm_areas.proofs.areas.Areas.attach.Given.{Over}
+use Rattle.nm_areas.proofs.areas.Areas.attach.Goals.{In-Some-stretch_of}
 use Rattle.nm_areas.proofs.areas.Areas.attach.Goals as goal
 
 -- whether there is room, where the range is one
@@ -55,23 +57,19 @@ attached_at : (t u : Table) (place : Map Page ℕ) (pid addr segment offset page
     → u ≡ with_areas t (set spot_cmp t.areas (pid, first) (new_area number offset pages)) → mapping_of u place ≡ with_area (mapping_of t place) pid addr segment offset pages
 attached_at t u place pid addr segment offset pages first number at is e = rw (e, at, is)
 
-pub is_free-requires-clause-apart : goal.is_free-requires-clause-apart
-is_free-requires-clause-apart g c = c.self.invariant.0.apart
-
-pub is_free-requires-clause-whole : goal.is_free-requires-clause-whole
-is_free-requires-clause-whole g c = c.self.invariant.0.whole
-
-pub is_free-requires-clause-low : goal.is_free-requires-clause-low
-is_free-requires-clause-low g c = c.self.invariant.0.low
+pub is_free-requires : goal.is_free-requires
+is_free-requires g c = let m = c.self.invariant.0 in record { apart = m.apart; whole = m.whole; low = m.low }
 
 pub stretch_of-requires : goal.stretch_of-requires
 stretch_of-requires g c = record { numbers = c.self.invariant.0.numbers }
 
-pub count_in-requires-clause-steps : goal.count_in-requires-clause-steps
-count_in-requires-clause-steps g c = c.self.invariant.1
-
-pub count_in-requires-clause-whole : goal.count_in-requires-clause-whole
-count_in-requires-clause-whole g c = c.self.invariant.0.whole
+pub count_in-requires : goal.count_in-requires
+count_in-requires g c = record {
+  steps = c.self.invariant.1;
+  whole = c.self.invariant.0.whole;
+  indices = subst (λ (x : Area). x.page.index + x.pages < 2 ^ 64) (sym c.new_area.ensures)
+      (stretch_ends c.self.inside.table.segments c.in-Some-stretch_of.number c.args.offset c.args.pages c.self.invariant.0.lengths (sym c.in-Some-stretch_of.ensures.some.1));
+}
 
 pub invariant_of-self : goal.invariant_of-self
 invariant_of-self g c = (c.self.invariant.0, c.in_err-count_in.ensures.err)
@@ -95,26 +93,22 @@ returns-in_default-stretch_of-clause-done g c =
       refl,
     )
 
-pub returns-in_err-count_in-clause-memory : goal.returns-in_err-count_in-clause-memory
-returns-in_err-count_in-clause-memory g c = λ _.
+-- with a free range and a stretch of the segment, nothing is refused
+fine : (g : Over) (c : In-Some-stretch_of g) → stretch_refusal c.args.self.now c.args.pid c.args.addr c.args.segment c.args.offset c.args.pages ≡ None
+fine g c =
     let range = c.in-Some.ensures.some in
     let stretch = c.in-Some-stretch_of.ensures.some in
     accepted (mapping_of c.self.inside.table c.self.inside.places.entries) c.args.self.now c.args.pid c.args.addr c.args.segment c.args.offset c.args.pages c.in-Some.range.first c.is_free.result c.self.view_is
     range.0 range.2 (free_pages c.self.inside.table.areas c.args.pid _ _ range.0 range.1 c.is_free.ensures) c.if-not-is_free.false c.in-Some-stretch_of.number stretch.0 stretch.1
+
+pub returns-in_err-count_in-clause-memory : goal.returns-in_err-count_in-clause-memory
+returns-in_err-count_in-clause-memory g c = λ _. fine g (goal.at.returns-in_err-count_in-clause-memory g c).In-Some-stretch_of
 
 pub returns-in_default-attach-clause-memory : goal.returns-in_default-attach-clause-memory
-returns-in_default-attach-clause-memory g c = λ _.
-    let range = c.in-Some.ensures.some in
-    let stretch = c.in-Some-stretch_of.ensures.some in
-    accepted (mapping_of c.self.inside.table c.self.inside.places.entries) c.args.self.now c.args.pid c.args.addr c.args.segment c.args.offset c.args.pages c.in-Some.range.first c.is_free.result c.self.view_is
-    range.0 range.2 (free_pages c.self.inside.table.areas c.args.pid _ _ range.0 range.1 c.is_free.ensures) c.if-not-is_free.false c.in-Some-stretch_of.number stretch.0 stretch.1
+returns-in_default-attach-clause-memory g c = λ _. fine g (goal.at.returns-in_default-attach-clause-memory g c).In-Some-stretch_of
 
 pub returns-clause-memory : goal.returns-clause-memory
-returns-clause-memory g c = λ _.
-    let range = c.in-Some.ensures.some in
-    let stretch = c.in-Some-stretch_of.ensures.some in
-    accepted (mapping_of c.self.inside.table c.self.inside.places.entries) c.args.self.now c.args.pid c.args.addr c.args.segment c.args.offset c.args.pages c.in-Some.range.first c.is_free.result c.self.view_is
-    range.0 range.2 (free_pages c.self.inside.table.areas c.args.pid _ _ range.0 range.1 c.is_free.ensures) c.if-not-is_free.false c.in-Some-stretch_of.number stretch.0 stretch.1
+returns-clause-memory g c = λ _. fine g (goal.at.returns-clause-memory g c).In-Some-stretch_of
 
 pub returns-in_default-attach-clause-done : goal.returns-in_default-attach-clause-done
 returns-in_default-attach-clause-done g c = ap (λ (t : Table). mapping_of t c.self.inside.places.entries) c.in_default-attach.ensures.err ∙ c.self.view_is
@@ -123,8 +117,7 @@ pub returns-clause-done : goal.returns-clause-done
 returns-clause-done g c =
     let range = c.in-Some.ensures.some in
     let stretch = c.in-Some-stretch_of.ensures.some in (
-      accepted (mapping_of c.self.inside.table c.self.inside.places.entries) c.args.self.now c.args.pid c.args.addr c.args.segment c.args.offset c.args.pages c.in-Some.range.first c.is_free.result c.self.view_is
-          range.0 range.2 (free_pages c.self.inside.table.areas c.args.pid _ _ range.0 range.1 c.is_free.ensures) c.if-not-is_free.false c.in-Some-stretch_of.number stretch.0 stretch.1,
+      fine g (goal.at.returns-clause-done g c).In-Some-stretch_of,
       attached_at c.self.inside.table c.attach.new.self c.self.inside.places.entries c.args.pid c.args.addr c.args.segment c.args.offset c.args.pages c.in-Some.range.first c.in-Some-stretch_of.number range.0 stretch.0 c.in-Ok.ensures.ok
           ∙ ap (λ (m : Mapping). with_area m c.args.pid c.args.addr c.args.segment c.args.offset c.args.pages) c.self.view_is,
     )
@@ -132,11 +125,6 @@ returns-clause-done g c =
 pub attach-requires : goal.attach-requires
 attach-requires g c =
     record { free = none_begins c.self.inside.table.areas c.args.pid c.in-Some.range.first c.args.pages (omega (arith, c.in-Some.ensures.some.0, c.in-Some.ensures.some.1, c.in-Some.ensures.some.3)) c.self.invariant.0.whole (sym c.if-not-is_free.false ∙ free_pages c.self.inside.table.areas c.args.pid _ _ c.in-Some.ensures.some.0 c.in-Some.ensures.some.1 c.is_free.ensures) }
-
-pub count_in-requires-clause-indices : goal.count_in-requires-clause-indices
-count_in-requires-clause-indices g c =
-    subst (λ (x : Area). x.page.index + x.pages < 2 ^ 64) (sym c.new_area.ensures)
-    (stretch_ends c.self.inside.table.segments c.in-Some-stretch_of.number c.args.offset c.args.pages c.self.invariant.0.lengths (sym c.in-Some-stretch_of.ensures.some.1))
 
 pub count_out-requires : goal.count_out-requires
 count_out-requires g c = record {

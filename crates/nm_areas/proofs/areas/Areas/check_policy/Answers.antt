@@ -18,14 +18,8 @@ in_range m n pid addr len first end answer same aligned low at past told =
     ∙ ap (λ b. if b then Some Einval else (if not (is_well_formed m.areas pid (addr / 4096) pages) then Some Efault else None)) (lt-leb (2 ^ 64) (addr + 4096 * pages) low)
     ∙ ap (λ b. if not b then Some Efault else None) (sym (told ∙ ap (λ v. is_well_formed m.areas pid v (end - first)) at ∙ ap (is_well_formed m.areas pid (addr / 4096)) count)))
 
-pub is_mapped-requires-clause-apart : goal.is_mapped-requires-clause-apart
-is_mapped-requires-clause-apart g c = c.self.invariant.0.apart
-
-pub is_mapped-requires-clause-whole : goal.is_mapped-requires-clause-whole
-is_mapped-requires-clause-whole g c = c.self.invariant.0.whole
-
-pub is_mapped-requires-clause-low : goal.is_mapped-requires-clause-low
-is_mapped-requires-clause-low g c = c.self.invariant.0.low
+pub is_mapped-requires : goal.is_mapped-requires
+is_mapped-requires g c = let m = c.self.invariant.0 in record { apart = m.apart; whole = m.whole; low = m.low; order = omega (arith, c.in-Some.ensures.some.0, c.in-Some.ensures.some.1) }
 
 pub returns-then-not-is_mapped-clause-err : goal.returns-then-not-is_mapped-clause-err
 returns-then-not-is_mapped-clause-err g c =

@@ -21,6 +21,8 @@ use Rattle.nm_areas.proofs.Covered.{came, stayed}
 use Rattle.nm_areas.proofs.Masked.{new_shared, old_shared}
 use Rattle.nm_model.proofs.areas.Shown.{over_more}
 use Rattle.nm_areas.proofs.Inserted.{none_next, inserted_mapped}
+use Rattle.nm_areas.proofs.areas.Areas.insert.Given.{Over}
+use Rattle.nm_areas.proofs.areas.Areas.insert.Goals.{Else-next_segment-ge-MAX_SEGMENTS}
 use Rattle.nm_areas.proofs.areas.Areas.insert.Goals as goal
 
 -- whether there is room, where the range is one
@@ -68,23 +70,15 @@ inserted_at : (t u : Table) (place : Map Page ℕ) (pid addr pages first : ℕ) 
     → mapping_of u place ≡ with_segment (mapping_of t place) pid addr pages shared
 inserted_at t u place pid addr pages first shared at e = rw (e, at)
 
-pub is_free-requires-clause-apart : goal.is_free-requires-clause-apart
-is_free-requires-clause-apart g c = c.self.invariant.0.apart
+pub is_free-requires : goal.is_free-requires
+is_free-requires g c = let m = c.self.invariant.0 in record { apart = m.apart; whole = m.whole; low = m.low }
 
-pub is_free-requires-clause-whole : goal.is_free-requires-clause-whole
-is_free-requires-clause-whole g c = c.self.invariant.0.whole
-
-pub is_free-requires-clause-low : goal.is_free-requires-clause-low
-is_free-requires-clause-low g c = c.self.invariant.0.low
-
-pub count_in-requires-clause-steps : goal.count_in-requires-clause-steps
-count_in-requires-clause-steps g c = c.self.invariant.1
-
-pub count_in-requires-clause-whole : goal.count_in-requires-clause-whole
-count_in-requires-clause-whole g c = c.self.invariant.0.whole
-
-pub count_in-requires-clause-indices : goal.count_in-requires-clause-indices
-count_in-requires-clause-indices g c = subst (λ (x : Area). x.page.index + x.pages < 2 ^ 64) (sym c.new_area.ensures) (omega (arith, c.in-Some.ensures.some.0, c.in-Some.ensures.some.1, c.in-Some.ensures.some.4))
+pub count_in-requires : goal.count_in-requires
+count_in-requires g c = record {
+  steps = c.self.invariant.1;
+  whole = c.self.invariant.0.whole;
+  indices = subst (λ (x : Area). x.page.index + x.pages < 2 ^ 64) (sym c.new_area.ensures) (omega (arith, c.in-Some.ensures.some.0, c.in-Some.ensures.some.1, c.in-Some.ensures.some.4));
+}
 
 pub count_out-requires : goal.count_out-requires
 count_out-requires g c = record { indices = subst (λ (x : Area). x.page.index + x.pages < 2 ^ 64) (sym c.new_area-in_default-insert.ensures) (omega (arith, c.in-Some.ensures.some.0, c.in-Some.ensures.some.1, c.in-Some.ensures.some.4)) }
@@ -103,11 +97,15 @@ returns-then-not-is_free-clause-done g c =
       refl,
     )
 
-pub returns-in_err-count_in-clause-memory : goal.returns-in_err-count_in-clause-memory
-returns-in_err-count_in-clause-memory g c = λ _.
+-- with a free range and a number left, nothing is refused
+fine : (g : Over) (c : Else-next_segment-ge-MAX_SEGMENTS g) → insert_refusal c.args.self.now c.args.pid c.args.addr c.args.pages ≡ None
+fine g c =
     let range = c.in-Some.ensures.some in
     accepted (mapping_of c.self.inside.table c.self.inside.places.entries) c.args.self.now c.args.pid c.args.addr c.args.pages c.in-Some.range.first c.is_free.result c.self.view_is range.0 range.2
     (free_pages c.self.inside.table.areas c.args.pid _ _ range.0 range.1 c.is_free.ensures) c.if-not-is_free.false (omega (arith, c.next_segment.ensures, c.if-next_segment-ge-MAX_SEGMENTS.false))
+
+pub returns-in_err-count_in-clause-memory : goal.returns-in_err-count_in-clause-memory
+returns-in_err-count_in-clause-memory g c = λ _. fine g (goal.at.returns-in_err-count_in-clause-memory g c).Else-next_segment-ge-MAX_SEGMENTS
 
 pub returns-then-next_segment-ge-MAX_SEGMENTS-clause-done : goal.returns-then-next_segment-ge-MAX_SEGMENTS-clause-done
 returns-then-next_segment-ge-MAX_SEGMENTS-clause-done g c =
@@ -133,16 +131,10 @@ pub returns-in_default-insert-clause-done : goal.returns-in_default-insert-claus
 returns-in_default-insert-clause-done g c = ap (λ (t : Table). mapping_of t c.self.inside.places.entries) c.in_default-insert.ensures.err ∙ c.self.view_is
 
 pub returns-in_default-insert-clause-memory : goal.returns-in_default-insert-clause-memory
-returns-in_default-insert-clause-memory g c = λ _.
-    let range = c.in-Some.ensures.some in
-    accepted (mapping_of c.self.inside.table c.self.inside.places.entries) c.args.self.now c.args.pid c.args.addr c.args.pages c.in-Some.range.first c.is_free.result c.self.view_is range.0 range.2
-    (free_pages c.self.inside.table.areas c.args.pid _ _ range.0 range.1 c.is_free.ensures) c.if-not-is_free.false (omega (arith, c.next_segment.ensures, c.if-next_segment-ge-MAX_SEGMENTS.false))
+returns-in_default-insert-clause-memory g c = λ _. fine g (goal.at.returns-in_default-insert-clause-memory g c).Else-next_segment-ge-MAX_SEGMENTS
 
 pub returns-clause-memory : goal.returns-clause-memory
-returns-clause-memory g c = λ _.
-    let range = c.in-Some.ensures.some in
-    accepted (mapping_of c.self.inside.table c.self.inside.places.entries) c.args.self.now c.args.pid c.args.addr c.args.pages c.in-Some.range.first c.is_free.result c.self.view_is range.0 range.2
-    (free_pages c.self.inside.table.areas c.args.pid _ _ range.0 range.1 c.is_free.ensures) c.if-not-is_free.false (omega (arith, c.next_segment.ensures, c.if-next_segment-ge-MAX_SEGMENTS.false))
+returns-clause-memory g c = λ _. fine g (goal.at.returns-clause-memory g c).Else-next_segment-ge-MAX_SEGMENTS
 
 pub returns-clause-number : goal.returns-clause-number
 returns-clause-number g c = c.in-Ok.ensures.number ∙ ap (λ (m : Mapping). m.next) c.self.view_is
@@ -150,8 +142,7 @@ returns-clause-number g c = c.in-Ok.ensures.number ∙ ap (λ (m : Mapping). m.n
 pub returns-clause-done : goal.returns-clause-done
 returns-clause-done g c =
     let range = c.in-Some.ensures.some in (
-      accepted (mapping_of c.self.inside.table c.self.inside.places.entries) c.args.self.now c.args.pid c.args.addr c.args.pages c.in-Some.range.first c.is_free.result c.self.view_is range.0 range.2
-          (free_pages c.self.inside.table.areas c.args.pid _ _ range.0 range.1 c.is_free.ensures) c.if-not-is_free.false (omega (arith, c.next_segment.ensures, c.if-next_segment-ge-MAX_SEGMENTS.false)),
+      fine g (goal.at.returns-clause-done g c).Else-next_segment-ge-MAX_SEGMENTS,
       inserted_at c.self.inside.table c.insert.new.self c.self.inside.places.entries c.args.pid c.args.addr c.args.pages c.in-Some.range.first c.args.shared range.0 c.in-Ok.ensures.ok
           ∙ ap (λ (m : Mapping). with_segment m c.args.pid c.args.addr c.args.pages c.args.shared) c.self.view_is,
     )

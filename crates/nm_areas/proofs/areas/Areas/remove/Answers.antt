@@ -90,32 +90,14 @@ returns-clause-pages g c q v =
     ∙ left_shows c.args.pid c.args.range.first c.args.range.end (omega (arith, c.requires.some)) areas c.self.invariant.0.whole c.self.invariant.0.apart q v
     ∙ ap (λ (m : Mapping). page_outside m.areas c.args.pid c.args.range.first c.args.range.end q v) c.self.view_is
 
-pub split_steps-requires-clause-steps : goal.split_steps-requires-clause-steps
-split_steps-requires-clause-steps g c = c.self.invariant.1
-
-pub split_steps-requires-clause-apart : goal.split_steps-requires-clause-apart
-split_steps-requires-clause-apart g c = c.self.invariant.0.apart
-
-pub split_steps-requires-clause-whole : goal.split_steps-requires-clause-whole
-split_steps-requires-clause-whole g c = c.self.invariant.0.whole
-
-pub split_steps-requires-clause-indices : goal.split_steps-requires-clause-indices
-split_steps-requires-clause-indices g c = c.self.invariant.0.indices
+pub split_steps-requires : goal.split_steps-requires
+split_steps-requires g c = let m = c.self.invariant.0 in record { steps = c.self.invariant.1; apart = m.apart; whole = m.whole; indices = m.indices }
 
 pub invariant_of-self : goal.invariant_of-self
 invariant_of-self g c = (c.self.invariant.0, c.in_err-split_steps.ensures.err)
 
-pub cut-requires-clause-apart : goal.cut-requires-clause-apart
-cut-requires-clause-apart g c = c.self.invariant.0.apart
-
-pub cut-requires-clause-whole : goal.cut-requires-clause-whole
-cut-requires-clause-whole g c = c.self.invariant.0.whole
-
-pub cut-requires-clause-indices : goal.cut-requires-clause-indices
-cut-requires-clause-indices g c = c.self.invariant.0.indices
-
-pub cut-requires-clause-ordered : goal.cut-requires-clause-ordered
-cut-requires-clause-ordered g c = c.self.invariant.0.ordered
+pub cut-requires : goal.cut-requires
+cut-requires g c = let m = c.self.invariant.0 in record { apart = m.apart; whole = m.whole; indices = m.indices; ordered = m.ordered }
 
 pub join_steps-requires-clause-steps : goal.join_steps-requires-clause-steps
 join_steps-requires-clause-steps g c =
