@@ -45,25 +45,21 @@ is_in_insert (m ∷ ns) j n =
     ]
 
 -- a number that is not among the places
-outside_below : (bits n k m : ℕ) → m < n → is_in (members_from bits n k) m ≡ false
-outside_below bits n zero m h = refl
-outside_below bits n (suc k) m h =
-    let rest : is_in (members_from bits (n + 1) k) m ≡ false = outside_below bits (n + 1) k m (omega arith) in
-    let here : (n == m) ≡ false = ne_eqb n m (λ e. omega (arith, e)) in
+outside_first : (bits n k m : ℕ) → (n ≡ m → ⊥) → is_in (members_from bits (n + 1) k) m ≡ false → is_in (members_from bits n (suc k)) m ≡ false
+outside_first bits n k m other rest =
+    let here : (n == m) ≡ false = ne_eqb n m other in
     elim (bit_at bits n == 1) as (λ b. is_in (if b then n ∷ members_from bits (n + 1) k else members_from bits (n + 1) k) m ≡ false) [
       | true ↦ rw here rest
       | false ↦ rest
     ]
 
+outside_below : (bits n k m : ℕ) → m < n → is_in (members_from bits n k) m ≡ false
+outside_below bits n zero m h = refl
+outside_below bits n (suc k) m h = outside_first bits n k m (λ e. omega (arith, e)) (outside_below bits (n + 1) k m (omega arith))
+
 outside_above : (bits n k m : ℕ) → n + k ≤ m → is_in (members_from bits n k) m ≡ false
 outside_above bits n zero m h = refl
-outside_above bits n (suc k) m h =
-    let rest : is_in (members_from bits (n + 1) k) m ≡ false = outside_above bits (n + 1) k m (omega arith) in
-    let here : (n == m) ≡ false = ne_eqb n m (λ e. omega (arith, e)) in
-    elim (bit_at bits n == 1) as (λ b. is_in (if b then n ∷ members_from bits (n + 1) k else members_from bits (n + 1) k) m ≡ false) [
-      | true ↦ rw here rest
-      | false ↦ rest
-    ]
+outside_above bits n (suc k) m h = outside_first bits n k m (λ e. omega (arith, e)) (outside_above bits (n + 1) k m (omega arith))
 
 -- a place is a member where its bit is set
 inside : (bits n k m : ℕ) → n ≤ m → m < n + k → is_in (members_from bits n k) m ≡ (bit_at bits m == 1)

@@ -158,20 +158,19 @@ module _ (m : RunMachine) (moved : List Page) (h : IsInFlight m moved) (at : Acc
         entered_is filled_machine at spot_still (Frame front)
         ∙ (λ j. with_sight (filled_state j) at (Sees (page_here_is j)))
 
+    -- an entry other than the page of zeros is not that of the page that gets the frame
+    entry_still : (p : Page) (e : Entry) → (e ≡ Zero → ⊥) → e ≡ held_by m.jobs (unwrap_or (option_map Frame (get page_cmp m.place p)) Zero)
+        → e ≡ held_by m.jobs (unwrap_or (option_map Frame (get page_cmp (set page_cmp m.place (shown_at at) front) p)) Zero)
+    entry_still p e other fits =
+        elim (is_eq (page_cmp p (shown_at at))) as (λ b. is_eq (page_cmp p (shown_at at)) ≡ b → e ≡ held_by m.jobs (unwrap_or (option_map Frame (get page_cmp (set page_cmp m.place (shown_at at) front) p)) Zero)) [
+          | true ↦ λ b. absurd (other (fits ∙ ap (λ o. held_by m.jobs (unwrap_or (option_map Frame o) Zero)) (ap (get page_cmp m.place) (exact_page p (shown_at at) (equal _ b)) ∙ unplaced)))
+          | false ↦ λ b. fits ∙ ap (λ o. held_by m.jobs (unwrap_or (option_map Frame o) Zero)) (sym (place_then p ∙ ap (λ c. cond c (Some front) (get page_cmp m.place p)) b))
+        ] refl
+
     fits_still : (q w : ℕ) (e : Entry) → Fitting m.place m.areas m.jobs q w e → Fitting (set page_cmp m.place (shown_at at) front) m.areas m.jobs q w e
     fits_still q w Zero fits = refl
-    fits_still q w (Frame f) fits =
-        let p = page_here m.areas q w in
-        elim (is_eq (page_cmp p (shown_at at))) as (λ b. is_eq (page_cmp p (shown_at at)) ≡ b → Fitting (set page_cmp m.place (shown_at at) front) m.areas m.jobs q w (Frame f)) [
-          | true ↦ λ b. absurd (frame_zero (fits ∙ ap (λ o. held_by m.jobs (unwrap_or (option_map Frame o) Zero)) (ap (get page_cmp m.place) (exact_page p (shown_at at) (equal _ b)) ∙ unplaced)))
-          | false ↦ λ b. fits ∙ ap (λ o. held_by m.jobs (unwrap_or (option_map Frame o) Zero)) (sym (place_then p ∙ ap (λ c. cond c (Some front) (get page_cmp m.place p)) b))
-        ] refl
-    fits_still q w (Held f) fits =
-        let p = page_here m.areas q w in
-        elim (is_eq (page_cmp p (shown_at at))) as (λ b. is_eq (page_cmp p (shown_at at)) ≡ b → Fitting (set page_cmp m.place (shown_at at) front) m.areas m.jobs q w (Held f)) [
-          | true ↦ λ b. absurd (held_zero (fits ∙ ap (λ o. held_by m.jobs (unwrap_or (option_map Frame o) Zero)) (ap (get page_cmp m.place) (exact_page p (shown_at at) (equal _ b)) ∙ unplaced)))
-          | false ↦ λ b. fits ∙ ap (λ o. held_by m.jobs (unwrap_or (option_map Frame o) Zero)) (sym (place_then p ∙ ap (λ c. cond c (Some front) (get page_cmp m.place p)) b))
-        ] refl
+    fits_still q w (Frame f) fits = entry_still (page_here m.areas q w) (Frame f) frame_zero fits
+    fits_still q w (Held f) fits = entry_still (page_here m.areas q w) (Held f) held_zero fits
 
     copies_still : (es : List (ℕ × ℕ)) → AllByRecursion (CopiesPage m m.jobs) es → AllByRecursion (CopiesPage filled_and_seen m.jobs) es
     copies_still [] all = tt
