@@ -146,7 +146,8 @@ first_within limit es t ws some has inside first =
     (λ more. let full : n ≡ limit = omega (arith, more, short) in cut_within_full limit t ws (rest ++ behind) some full) (cases_lt n limit)
     ∙ ap (λ l. record { target = t; wanted = ws } ∷ cut_within limit l) (sym left)
 
-pieces_joined : {X : Type 0} (limit : ℕ) (xs : List X) (n : ℕ) → 0 < limit → length xs ≤ n → flat_map (λ ys. ys) (pieces_in limit xs n) ≡ xs
+-- the pieces of a list are all of it
+pub pieces_joined : {X : Type 0} (limit : ℕ) (xs : List X) (n : ℕ) → 0 < limit → length xs ≤ n → flat_map (λ ys. ys) (pieces_in limit xs n) ≡ xs
 pieces_joined limit [] n some enough = refl
 pieces_joined limit (x ∷ xs) zero some enough = let z : ⊥ = omega (arith, enough) in absurd z
 pieces_joined limit (x ∷ xs) (suc n) some enough =

@@ -4,11 +4,10 @@ use Rattle.std.proofs.Common.{◌≡◌, ◌/◌, refl, sym, ap, subst, ◌∙�
 use Rattle.std.specs.List.{AllByRecursion}
 use Rattle.std.specs.Map.{keys_of}
 use Rattle.std.specs.Ordering.{nat_cmp}
-use Rattle.std.proofs.lemmas.Result.{IfOk-from_err}
+use Rattle.std.proofs.lemmas.Result.{IfOk-from_err, on_ok_weaker, on_err_weaker}
 use Rattle.nm_types.proofs.Keys.{keys-replace}
 use Rattle.nm_tables.specs.definitions.Tree.{flatten}
 use Rattle.nm_tables.specs.definitions.Nodes.{slots_shown, IsNode}
-use Rattle.nm_tables.proofs.Results.{on_ok, on_err}
 use Rattle.nm_tables.proofs.Changed.{all-set, set_some, replace_some}
 use Rattle.nm_tables.proofs.Nodes as node
 use Rattle.nm_tables.proofs.Parts.{IsPartAt, part_at, absent_at, inserted_at}
@@ -28,13 +27,13 @@ pub returns-in-Ok-clause-ok : goal.returns-in-Ok-clause-ok
 returns-in-Ok-clause-ok g c =
     let parts = c.args.self.now.parts.items in
     let part = its_part g (goal.at.returns-in-Ok-clause-ok g c).After-index_mut in
-    on_ok c.set.result (λ is. ap (λ ps. flatten (slots_shown g.T.Subtree.slots ps)) (part.written c.set.new.self) ∙ node.node-set g.T.Subtree.slots g.T.Subtree.number g.T.Subtree.whole g.T.Subtree.is_in g.met.T.Subtree.parted g.met.T.Subtree.upwards parts c.requires.kept.0 c.args.block c.index_mut.result.now.1 c.set.new.self part.found c.args.slot is) c.set.ensures.ok
+    on_ok_weaker c.set.result (λ is. ap (λ ps. flatten (slots_shown g.T.Subtree.slots ps)) (part.written c.set.new.self) ∙ node.node-set g.T.Subtree.slots g.T.Subtree.number g.T.Subtree.whole g.T.Subtree.is_in g.met.T.Subtree.parted g.met.T.Subtree.upwards parts c.requires.kept.0 c.args.block c.index_mut.result.now.1 c.set.new.self part.found c.args.slot is) c.set.ensures.ok
 
 pub returns-in-Ok-clause-err : goal.returns-in-Ok-clause-err
 returns-in-Ok-clause-err g c =
     let parts = c.args.self.now.parts.items in
     let part = its_part g (goal.at.returns-in-Ok-clause-err g c).After-index_mut in
-    on_err c.set.result (λ is. ap (λ ps. flatten (slots_shown g.T.Subtree.slots ps)) (part.written c.set.new.self) ∙ node.node-same g.T.Subtree.slots g.T.Subtree.number g.T.Subtree.whole g.T.Subtree.is_in g.met.T.Subtree.parted g.met.T.Subtree.upwards parts c.requires.kept.0 c.args.block c.index_mut.result.now.1 c.set.new.self part.found is) c.set.ensures.err
+    on_err_weaker c.set.result (λ is. ap (λ ps. flatten (slots_shown g.T.Subtree.slots ps)) (part.written c.set.new.self) ∙ node.node-same g.T.Subtree.slots g.T.Subtree.number g.T.Subtree.whole g.T.Subtree.is_in g.met.T.Subtree.parted g.met.T.Subtree.upwards parts c.requires.kept.0 c.args.block c.index_mut.result.now.1 c.set.new.self part.found is) c.set.ensures.err
 
 pub returns-in-Ok-clause-kept : goal.returns-in-Ok-clause-kept
 returns-in-Ok-clause-kept g c =

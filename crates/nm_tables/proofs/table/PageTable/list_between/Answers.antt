@@ -1,9 +1,9 @@
 use Rattle.std.proofs.Common.{◌≡◌, ◌+◌, ◌++◌, sym, ap, subst, ◌∙◌, arith, append-nil}
+use Rattle.std.proofs.lemmas.Result.{on_ok_weaker, on_err_weaker}
 use Rattle.std.specs.Ordering.{nat_cmp}
 use Rattle.std.specs.declared.ops.Bound.TheVariants.{Included, Excluded}
 use Rattle.std.specs.BTreeMap.Range.{entries_between}
 use Rattle.nm_tables.specs.definitions.Lists.{IsCutShort}
-use Rattle.nm_tables.proofs.Results.{on_ok, on_err}
 use Rattle.nm_tables.proofs.Slots.{ordered_by}
 use Rattle.nm_tables.proofs.Within.{within, within_end, none_below}
 use Rattle.nm_tables.proofs.table.PageTable.list_between.Given.{Over}
@@ -30,7 +30,7 @@ to_the_end g c =
 
 pub returns-clause-all : goal.returns-clause-all
 returns-clause-all g c =
-    on_ok c.list_within.result
+    on_ok_weaker c.list_within.result
     (λ all. all ∙ ap (λ m. c.args.list.now.items ++ m) (ap (within c.args.first c.new.result) c.self.view_is ∙ to_the_end g (goal.at.returns-clause-all g c).After-new))
     c.list_within.ensures.ok
 
@@ -39,6 +39,6 @@ returns-clause-ordered g c = ordered_by c.self.inside.blocks c.args.self.now c.s
 
 pub returns-clause-short : goal.returns-clause-short
 returns-clause-short g c =
-    on_err c.list_within.result
+    on_err_weaker c.list_within.result
     (λ short. subst (IsCutShort c.list_within.new.list.items) (ap (λ m. c.args.list.now.items ++ m) (ap (within c.args.first c.new.result) c.self.view_is ∙ to_the_end g (goal.at.returns-clause-short g c).After-new)) short)
     c.list_within.ensures.short
