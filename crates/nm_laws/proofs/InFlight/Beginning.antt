@@ -22,6 +22,7 @@ use Rattle.nm_model.specs.definitions.Seen.{sight_at}
 use Rattle.nm_model.specs.definitions.Run.{Progress, HasOneAll, each_request, frames_left}
 use Rattle.nm_model.specs.definitions.Sound.{times, IsSound, IsSoundInFlight}
 use Rattle.nm_laws.proofs.Seen.Shown.{sight_shown}
+use Rattle.nm_laws.proofs.Soundness.Counted.{part_of}
 use Rattle.nm_laws.proofs.Soundness.Frames.{here, times_cons}
 use Rattle.nm_types.proofs.Maps.{page_cmp_total, exact_page, agree}
 use Rattle.nm_laws.proofs.Soundness.Moved.{each_sound}
@@ -91,15 +92,6 @@ target_there g target (t ∷ taken) f all some =
       | true ↦ λ b. subst (λ x. g x ≡ target) (eqb-true t.to f b) all.0
       | false ↦ λ b. let none : here f t.to ≡ 0 = ap (λ c. cond c 1 0) b in target_there g target taken f all.1 (omega (arith, none, s, some))
     ] refl
-
--- a node's free frames are among all
-times_free : (free : List (List ℕ)) (node f : ℕ) → times f (slice_index_or free node []) ≤ sum_by (times f) free
-times_free [] node f = omega arith
-times_free (xs ∷ free) zero f = let whole : sum_by (times f) (xs ∷ free) ≡ times f xs + sum_by (times f) free = sum_by-cons (times f) xs free in omega (arith, whole)
-times_free (xs ∷ free) (suc node) f =
-    let whole : sum_by (times f) (xs ∷ free) ≡ times f xs + sum_by (times f) free = sum_by-cons (times f) xs free in
-    let ih = times_free free node f in
-    omega (arith, whole, ih)
 
 -- ---- buffers that leave
 
@@ -207,7 +199,7 @@ module _ (m : RunMachine) (target : ℕ) (wanted : List Wanted) (rest : IsAtRest
   target_times f =
       let few : times f (map (λ (t : PageMove). t.to) p.taken) ≤ times f (slice_index_or m.free target []) = decided_here.few f in
       let is : times f (targets jobs) ≡ times f (map (λ (t : PageMove). t.to) p.taken) = ap (times f) (targets_of m.buf p.taken) in
-      let free = times_free m.free target f in
+      let free = part_of m.free target f in
       omega (arith, few, is, free)
 
   -- the bytes of pages stay

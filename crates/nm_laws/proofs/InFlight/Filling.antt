@@ -21,7 +21,7 @@ use Rattle.nm_model.specs.definitions.PageTables.{entry_at, sight_of, page_here,
 use Rattle.nm_model.specs.definitions.Touch.{AccessSite, shown_at, with_sight, with_page, without_front_frame}
 use Rattle.nm_model.specs.definitions.Sound.{times, IsSoundInFlight}
 use Rattle.nm_types.proofs.Maps.{page_cmp_total, exact_page, equal, get-set, get-values, with_values-set, set_agree}
-use Rattle.nm_laws.proofs.Seen.Sights.{IsSpot, is_here, page_at_spot}
+use Rattle.nm_laws.proofs.Seen.Sights.{IsSpot, is_here, here_parts, page_at_spot}
 use Rattle.nm_laws.proofs.Soundness.Allocated.{placed_sound}
 use Rattle.nm_model.specs.definitions.RunMachine.{RunMachine, Job, job_from, goes_to, content, state_of}
 use Rattle.nm_model.specs.definitions.Events.{held_by, hands}
@@ -43,13 +43,6 @@ frame_zero e = cc
 
 held_zero : {f : ℕ} → Held f ≡ Zero → ⊥
 held_zero e = cc
-
-here_parts : (at : AccessSite) (q w : ℕ) → is_here at q w ≡ true → (q ≡ at.pid) × (w ≡ at.vpn)
-here_parts at q w =
-    elim (is_eq (nat_cmp q at.pid)) as (λ b. is_eq (nat_cmp q at.pid) ≡ b → (b && is_eq (nat_cmp w at.vpn)) ≡ true → (q ≡ at.pid) × (w ≡ at.vpn)) [
-      | true ↦ λ b c. (exact_unsigned q at.pid (equal _ b), exact_unsigned w at.vpn (equal _ c))
-      | false ↦ λ b c. cc
-    ] refl
 
 -- an entry is what it should be, where the jobs and the places are these
 abbrev pub Fitting : Map Page ℕ → Map (ℕ × ℕ) Area → List Job → ℕ → ℕ → Entry → Type 0

@@ -14,6 +14,7 @@ use Rattle.nm_types.specs.declared.request.Wanted.{Wanted}
 use Rattle.nm_types.specs.declared.request.Wanted.TheVariants.{At as Spot, Whole}
 use Rattle.nm_model.specs.definitions.Seen.{is_pinned, page_seen}
 use Rattle.nm_model.specs.definitions.Status.{code, others_see, page_status, seen_status, status_or_move}
+use Rattle.nm_laws.proofs.InFlight.Elsewhere.{IsElsewhere, status_elsewhere}
 
 abbrev pub ClassIsPlaced : State → Class → Type 0
 ClassIsPlaced s (Status status) = Unit {0}
@@ -43,21 +44,9 @@ abbrev pub ClassIsAway : State → ℕ → Class → Type 0
 ClassIsAway s target (Status status) = Unit {0}
 ClassIsAway s target (Move page from) = node_of s.layout from ≢ target
 
-page_away : (s : State) (target : ℕ) (kept : Bool) (p : Page) (o : Option ℕ) → ClassIsAway s target (page_status s target kept p o)
-page_away s target kept p None = tt
-page_away s target kept p (Some frame) =
-    elim (node_of s.layout frame == target) as (λ b. (node_of s.layout frame == target) ≡ b → ClassIsAway s target (if b then Status (pos target) else (if kept then Status (code Eacces) else (if is_pinned s p then Status (code Ebusy) else Move p frame)))) [
-      | true ↦ λ h. tt
-      | false ↦ λ h. elim kept as (λ b. ClassIsAway s target (if b then Status (code Eacces) else (if is_pinned s p then Status (code Ebusy) else Move p frame))) [
-        | true ↦ tt
-        | false ↦ elim (is_pinned s p) as (λ b. ClassIsAway s target (if b then Status (code Ebusy) else Move p frame)) [ true ↦ tt | false ↦ λ e. false≢true (sym h ∙ eq-eqb _ _ e) ]
-      ]
-    ] refl
-
-seen_away : (s : State) (target pid : ℕ) (all : Bool) (r : Result Page Errno) → ClassIsAway s target (seen_status s target pid all r)
-seen_away s target pid all (Err e) = tt
-seen_away s target pid all (Ok p) = page_away s target (others_see s pid p && not all) p (get page_cmp s.place p)
+class_away : (s : State) (target : ℕ) (c : Class) → IsElsewhere s target c → ClassIsAway s target c
+class_away s target (Status status) h = tt
+class_away s target (Move page from) h = λ e. false≢true (sym h ∙ eq-eqb _ _ e)
 
 pub status_away : (s : State) (target : ℕ) (w : Wanted) → ClassIsAway s target (status_or_move s target w)
-status_away s target (Spot pid v all) = seen_away s target pid all (page_seen s pid v)
-status_away s target (Whole p) = page_away s target false p (get page_cmp s.place p)
+status_away s target w = class_away s target (status_or_move s target w) (status_elsewhere s target w)

@@ -28,17 +28,22 @@ use Rattle.nm_laws.proofs.Soundness.Touched.{reading_keeps}
 
 -- ---- areas stay
 
-moved_areas : (s : State) (target : ℕ) (page : Page) (from : ℕ) (front : List ℕ) → (moved_page s target page from front).state.areas ≡ s.areas
-moved_areas s target page from [] = refl
-moved_areas s target page from (frame ∷ rest) = refl
+-- what stays where one page moves stays where a list of requests is made
+module _ {X : Type 0} (of : State → X) (stays : (s : State) (target : ℕ) (page : Page) (from frame : ℕ) (rest : List ℕ) → of (moved_page s target page from (frame ∷ rest)).state ≡ of s) where
+  moved_keeps : (s : State) (target : ℕ) (page : Page) (from : ℕ) (front : List ℕ) → of (moved_page s target page from front).state ≡ of s
+  moved_keeps s target page from [] = refl
+  moved_keeps s target page from (frame ∷ rest) = stays s target page from frame rest
 
-decided_areas : (s : State) (target : ℕ) (c : Class) → (decision s target c).state.areas ≡ s.areas
-decided_areas s target (Status status) = refl
-decided_areas s target (Move page from) = moved_areas s target page from (free_list s target)
+  decided_keeps : (s : State) (target : ℕ) (c : Class) → of (decision s target c).state ≡ of s
+  decided_keeps s target (Status status) = refl
+  decided_keeps s target (Move page from) = moved_keeps s target page from (free_list s target)
+
+  pub requests_keep : (s : State) (target : ℕ) (ws : List Wanted) → of (each_request s target ws).state ≡ of s
+  requests_keep s target [] = refl
+  requests_keep s target (w ∷ ws) = requests_keep (one_request s target w).state target ws ∙ decided_keeps s target (status_or_move s target w)
 
 each_areas : (s : State) (target : ℕ) (ws : List Wanted) → (each_request s target ws).state.areas ≡ s.areas
-each_areas s target [] = refl
-each_areas s target (w ∷ ws) = each_areas (one_request s target w).state target ws ∙ decided_areas s target (status_or_move s target w)
+each_areas = requests_keep (λ s. s.areas) (λ s target page from frame rest. refl)
 
 freed_areas : (frames : List ℕ) (s : State) → (with_all_free s frames).areas ≡ s.areas
 freed_areas [] s = refl

@@ -41,7 +41,7 @@ sight_at-with_sight s at x q w i =
       | false ↦ λ b. refl
     ] refl
 
-here_parts : (at : AccessSite) (q w : ℕ) → is_here at q w ≡ true → (q ≡ at.pid) × (w ≡ at.vpn)
+pub here_parts : (at : AccessSite) (q w : ℕ) → is_here at q w ≡ true → (q ≡ at.pid) × (w ≡ at.vpn)
 here_parts at q w =
     elim (is_eq (nat_cmp q at.pid)) as (λ b. is_eq (nat_cmp q at.pid) ≡ b → (b && is_eq (nat_cmp w at.vpn)) ≡ true → (q ≡ at.pid) × (w ≡ at.vpn)) [
       | true ↦ λ b c. (exact_unsigned q at.pid (equal _ b), exact_unsigned w at.vpn (equal _ c))

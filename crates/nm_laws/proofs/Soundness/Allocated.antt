@@ -16,8 +16,8 @@ use Rattle.nm_types.specs.declared.area.Area.{Area}
 use Rattle.nm_types.specs.Layout.{node_of}
 use Rattle.nm_types.specs.Map.{Map, get, set, page_cmp}
 use Rattle.nm_types.specs.declared.sight.Sight.TheVariants.{ZeroPage, Sees}
-use Rattle.nm_types.specs.State.{State, PlacedArea, free_list, page_at, page_of, covers, area_over}
-use Rattle.nm_types.proofs.Cases.{true_false}
+use Rattle.nm_types.specs.State.{State, PlacedArea, free_list, page_at, page_of, page_shown, covers, area_over}
+use Rattle.nm_types.proofs.Cases.{true_false, some_is}
 use Rattle.nm_model.specs.definitions.Seen.{sight_at}
 use Rattle.nm_model.specs.definitions.Areas.{is_shared}
 use Rattle.nm_model.specs.definitions.Touch.{AccessSite, shown_at, with_sight, with_page}
@@ -79,6 +79,14 @@ area_covers (x ∷ areas) pid v a h =
       | true ↦ λ b h. let is : x ≡ a = cc in subst (λ y. is_covered (x ∷ areas) (page_of y v) ≡ true) is (or_left _ _ (shows_within x pid v b))
       | false ↦ λ b h. or_right _ _ (area_covers areas pid v a h)
     ] refl h
+
+-- what is shown is covered
+pub shown_covered : (areas : Map (ℕ × ℕ) Area) (q w : ℕ) (p : Page) → page_at areas q w ≡ Some p → is_covered areas p ≡ true
+shown_covered areas q w p e =
+    elim (area_over areas q w) as (λ o. area_over areas q w ≡ o → page_shown o w ≡ Some p → is_covered areas p ≡ true) [
+      | None ↦ λ o k. cc
+      | Some a ↦ λ o k. subst (λ r. is_covered areas r ≡ true) (some_is k) (area_covers areas q w a o)
+    ] refl e
 
 some_new : (m : Map Page ℕ) (p : Page) (f : ℕ) → IsSome (get page_cmp (set page_cmp m p f) p)
 some_new m p f = subst IsSome (sym (get-set page_cmp_total m p f p ∙ ap (λ r. cond (is_eq r) (Some f) (get page_cmp m p)) (tied_itself page_cmp_total p))) refl

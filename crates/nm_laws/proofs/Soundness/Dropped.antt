@@ -28,7 +28,7 @@ use Rattle.nm_model.specs.definitions.Sound.{AreasAreApart, HasPages, IsWhole, I
 use Rattle.nm_types.proofs.Maps.{equal, get-values, keys-values}
 use Rattle.nm_types.proofs.Keys.{some_from_keys, sorted-without, few-without, as_many-values}
 use Rattle.nm_model.proofs.areas.Apart.{covers_parts, covers_from, all_then}
-use Rattle.nm_laws.proofs.Soundness.Allocated.{shows_within, area_covers}
+use Rattle.nm_laws.proofs.Soundness.Allocated.{shows_within, shown_covered}
 use Rattle.nm_model.proofs.areas.Parted.{Among, All-among, all_from_among, among_over, over_among, among_flat, flat_among, IsPart, part_of, part_covers, part_page, part_there, any_among, among_any}
 use Rattle.nm_model.proofs.areas.Halves.{flat_apart, flat_sorted}
 use Rattle.nm_laws.proofs.Soundness.Called.{other_processes}
@@ -301,13 +301,6 @@ module _ (s : State) (l : List ℕ) (h : IsSoundInFlight s l) (pid first end : �
   unfolding left
   same_shared p c = ap (λ o. unwrap_or (option_map (λ (g : Segment). g.shared) o) false) (get_segment p.segment (used p c))
 
-  shown_covered : (q w : ℕ) (p : Page) → page_at areas q w ≡ Some p → is_covered areas p ≡ true
-  shown_covered q w p e =
-      elim (area_over areas q w) as (λ o. area_over areas q w ≡ o → page_shown o w ≡ Some p → is_covered areas p ≡ true) [
-        | None ↦ λ o k. absurd (none_some k)
-        | Some a ↦ λ o k. subst (λ r. is_covered areas r ≡ true) (some_is k) (area_covers areas q w a o)
-      ] refl e
-
   disjoint : AreasAreApart areas
   unfolding areas
   disjoint = flat_apart pid first end range s.areas some h.disjoint
@@ -366,7 +359,7 @@ module _ (s : State) (l : List ℕ) (h : IsSoundInFlight s l) (pid first end : �
             let was = seen_back q w ZeroPage e in
             let zero = h.zeros q w was.0 in
             let shown = shown_on q w zero.0 zero.1 was.1 in
-            (zero.0, shown, same_shared zero.0 (shown_covered q w zero.0 shown) ∙ zero.2);
+            (zero.0, shown, same_shared zero.0 (shown_covered areas q w zero.0 shown) ∙ zero.2);
         covered = λ p e. covered_or_listed p (h.covered p e);
         bytes = h.bytes;
         pins = h.pins;
@@ -375,7 +368,7 @@ module _ (s : State) (l : List ℕ) (h : IsSoundInFlight s l) (pid first end : �
             let was = h.seen p e was_private in
             (was.0, was.1, seen_on was.0 was.1 (Sees p) was.2 (stays_out p was.0 was.1 c was_private (h.shown was.0 was.1 p was.2).0));
         once = λ q w r x p e k private.
-            h.once q w r x p (shown_back q w p e).0 (shown_back r x p k).0 (sym (same_shared p (shown_covered q w p e)) ∙ private);
+            h.once q w r x p (shown_back q w p e).0 (shown_back r x p k).0 (sym (same_shared p (shown_covered areas q w p e)) ∙ private);
         areas = all_from_among (IsWhole left) areas part_whole;
         numbers = record { below = λ n e. h.numbers.below n (segment_there n e); few = h.numbers.few };
         disjoint = disjoint;

@@ -18,7 +18,7 @@ use Rattle.nm_model.specs.definitions.Effect.{areas_of, with_areas_of, parts_out
 use Rattle.nm_model.specs.definitions.Sound.{AreasAreApart, IsWhole, IsSoundInFlight}
 use Rattle.nm_model.specs.definitions.Effect.{parts_with_policy, set_range_policy}
 use Rattle.nm_model.proofs.areas.Apart.{all_then}
-use Rattle.nm_laws.proofs.Soundness.Allocated.{area_covers}
+use Rattle.nm_laws.proofs.Soundness.Allocated.{shown_covered}
 use Rattle.nm_model.proofs.areas.Parted.{All-among, all_from_among, over_among, among_flat, part_of, any_among}
 use Rattle.nm_laws.proofs.Soundness.Dropped.{covers_shown, shown_number, part_within}
 use Rattle.nm_model.proofs.areas.Painted.{keys_painted}
@@ -36,20 +36,13 @@ record IsAlike (s : State) (areas : Map (ℕ × ℕ) Area) : Type 0 where
 
 -- with such areas a state is sound
 module _ (s : State) (l : List ℕ) (h : IsSoundInFlight s l) (areas : Map (ℕ × ℕ) Area) (alike : IsAlike s areas) where
-  shown_covered : (q w : ℕ) (p : Page) → page_at areas q w ≡ Some p → is_covered areas p ≡ true
-  shown_covered q w p e =
-      elim (area_over areas q w) as (λ o. area_over areas q w ≡ o → page_shown o w ≡ Some p → is_covered areas p ≡ true) [
-        | None ↦ λ o k. absurd (none_some k)
-        | Some a ↦ λ o k. subst (λ r. is_covered areas r ≡ true) (some_is k) (area_covers areas q w a o)
-      ] refl e
-
   still_covered : (p : Page) → is_covered s.areas p ≡ true → is_covered areas p ≡ true
   still_covered p c =
       let found = any_among (covers_page p) s.areas c in
       let a = found.0 in
       let at = covers_shown a p found.2 in
       let w = shown_number a p in
-      shown_covered a.0.0 w p (alike.same a.0.0 w ∙ ap (λ o. page_shown o w) (over_among s.areas a.0.0 w a h.disjoint found.1 at.0) ∙ ap Some at.1)
+      shown_covered areas a.0.0 w p (alike.same a.0.0 w ∙ ap (λ o. page_shown o w) (over_among s.areas a.0.0 w a h.disjoint found.1 at.0) ∙ ap Some at.1)
 
   alike_sound : IsSoundInFlight (record s { areas = areas }) l
   alike_sound =

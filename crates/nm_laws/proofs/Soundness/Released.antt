@@ -29,7 +29,7 @@ use Rattle.nm_types.proofs.Maps.{page_cmp_total, exact_page, equal}
 use Rattle.nm_types.proofs.Keys.{All-without, sorted-without, keys_same-without}
 use Rattle.nm_laws.proofs.Soundness.Frames.{OnceIn, here, times_push, owner_below, own_set, all_push}
 use Rattle.nm_laws.proofs.Soundness.Once.{counted_place, places_are_apart}
-use Rattle.nm_laws.proofs.Soundness.Allocated.{area_covers}
+use Rattle.nm_laws.proofs.Soundness.Allocated.{shown_covered}
 
 -- a page of the list
 abbrev pub Listed : Page → List Page → Type 0
@@ -96,14 +96,6 @@ was_placed m p q sorted h =
       | false ↦ λ b k. (λ e. true_false (sym (ap is_eq (tied p q e)) ∙ b), k)
     ] refl (subst IsSome (get-without m p q sorted) h)
 
--- what is shown is covered
-shown_covered : (s : State) (q w : ℕ) (p : Page) → page_at s.areas q w ≡ Some p → is_covered s.areas p ≡ true
-shown_covered s q w p e =
-    elim (area_over s.areas q w) as (λ o. area_over s.areas q w ≡ o → page_shown o w ≡ Some p → is_covered s.areas p ≡ true) [
-      | None ↦ λ o k. cc
-      | Some a ↦ λ o k. subst (λ r. is_covered s.areas r ≡ true) (some_is k) (area_covers s.areas q w a o)
-    ] refl e
-
 -- the front of the list has no frame, or is covered
 not_first : (s : State) (p q : Page) (pages : List Page) → (q ≡ p → is_covered s.areas q ≡ true) → (is_covered s.areas q ≡ true) ⊎ Listed q (p ∷ pages) → (is_covered s.areas q ≡ true) ⊎ Listed q pages
 not_first s p q pages first (inl c) = inl c
@@ -133,7 +125,7 @@ release_sound : (s : State) (l : List ℕ) (p : Page) (pages : List Page) (o : O
 release_sound s l p pages None h bare e = fewer s l p pages h (λ q k same. absurd (none_is_not ℕ (subst IsSome (ap (get page_cmp s.place) same ∙ e) k)))
 release_sound s l p pages (Some frame) h bare e =
     let sorted = h.order.place in
-    let other = λ (q w : ℕ) (r : Page) (k : page_at s.areas q w ≡ Some r) (same : p ≡ r). true_false (sym (shown_covered s q w r k) ∙ sym (ap (is_covered s.areas) same) ∙ bare) in
+    let other = λ (q w : ℕ) (r : Page) (k : page_at s.areas q w ≡ Some r) (same : p ≡ r). true_false (sym (shown_covered s.areas q w r k) ∙ sym (ap (is_covered s.areas) same) ∙ bare) in
     let frames = release_frames s l p frame h.frames e in
     record {
       order = record { processes = h.order.processes; sees = h.order.sees; areas = h.order.areas; segments = h.order.segments; place = sorted-without page_cmp s.place p h.order.place };
