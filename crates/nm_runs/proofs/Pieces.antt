@@ -146,6 +146,10 @@ first_within limit es t ws some has inside first =
     (λ more. let full : n ≡ limit = omega (arith, more, short) in cut_within_full limit t ws (rest ++ behind) some full) (cases_lt n limit)
     ∙ ap (λ l. record { target = t; wanted = ws } ∷ cut_within limit l) (sym left)
 
+-- the front of what is left of a list ends within the list
+pub ends_within : {X : Type 0} (xs rest : List X) (at room len : ℕ) → rest ≡ drop at xs → len ≤ length (take room rest) → at ≤ length xs → at + len ≤ length xs
+ends_within xs rest at room len is fits inside = omega (arith, length-take room rest, length-drop at xs, ap length is, fits, inside)
+
 -- the pieces of a list are all of it
 pub pieces_joined : {X : Type 0} (limit : ℕ) (xs : List X) (n : ℕ) → 0 < limit → length xs ≤ n → flat_map (λ ys. ys) (pieces_in limit xs n) ≡ xs
 pieces_joined limit [] n some enough = refl
