@@ -15,7 +15,7 @@ use Rattle.nm_model.specs.definitions.RunMachine.{RunMachine, state_of}
 use Rattle.nm_model.specs.definitions.Accesses.{is_held_at, touch_entry_at, bytes_at, written_at, with_answer, read_entry, write_entry, after_unheld_access, after_access}
 use Rattle.nm_laws.proofs.InFlight.Midway.{IsInFlight}
 use Rattle.nm_laws.proofs.InFlight.Steps.{Made}
-use Rattle.nm_laws.proofs.InFlight.Meeting.{ComesTo, comes_to, Both, held_alike, touched_both}
+use Rattle.nm_laws.proofs.InFlight.Meeting.{ComesTo, comes_to, Both, held_alike, touched_both, Touched}
 use Rattle.nm_laws.proofs.InFlight.Bytes.{reads_alike, writes_alike, written_midway}
 
 -- one more answer changes nothing else
@@ -27,13 +27,20 @@ module _ (m : RunMachine) (moved : List Page) (h : IsInFlight m moved) where
   only_answered : (x y : AccessAnswer) → x ≡ y → Made m (with_answer m x) moved (record { state = state_of m; answer = y })
   only_answered x y e = record { in_flight = answered_midway m moved x h; state = refl; answers = ap (λ z. m.answers ++ z ∷ []) e; jobs = refl; statuses = refl; layout = refl }
 
+  -- what follows from both touches, where both were refused and where both were made
+  by_both : (pid v : ℕ) (P : Result RunMachine Errno → Result State Errno → Type 0) → ((e : Errno) → P (Err e) (Err e))
+      → ((n : RunMachine) (t : State) → Touched m n moved t pid v → P (Ok n) (Ok t)) → (rm : Result RunMachine Errno) (rs : Result State Errno) → Both m moved pid v rm rs → P rm rs
+  unfolding Both
+  by_both pid v P refused touched (Err e) (Err x) b = subst (λ y. P (Err e) (Err y)) b (refused e)
+  by_both pid v P refused touched (Err e) (Ok t) b = absurd b
+  by_both pid v P refused touched (Ok n) (Err x) b = absurd b
+  by_both pid v P refused touched (Ok n) (Ok t) b = touched n t b
+
   read_both : (pid address len : ℕ) → address % 4096 + len ≤ 4096 → (rm : Result RunMachine Errno) (rs : Result State Errno) → Both m moved pid (address / 4096) rm rs
       → Made m (read_entry m pid address len rm) moved (state.read_after (state_of m) pid address len rs)
-  unfolding Both
-  read_both pid address len fits (Err e) (Err x) b = only_answered (Refused e) (Refused x) (ap Refused b)
-  read_both pid address len fits (Err e) (Ok t) b = absurd b
-  read_both pid address len fits (Ok n) (Err x) b = absurd b
-  read_both pid address len fits (Ok n) (Ok t) b =
+  read_both pid address len fits = by_both pid (address / 4096) (λ rm rs. Made m (read_entry m pid address len rm) moved (state.read_after (state_of m) pid address len rs))
+      (λ e. only_answered (Refused e) (Refused e) refl)
+      (λ n t b.
       let bytes = bytes_at n.buf (entry_at n.tasks pid (address / 4096)) (address % 4096) len in
       let same = ap (λ o. bytes_at n.buf o (address % 4096) len) b.there ∙ reads_alike n moved b.in_flight pid address b.entry b.there b.used len fits in
       record {
@@ -43,15 +50,13 @@ module _ (m : RunMachine) (moved : List Page) (h : IsInFlight m moved) where
         jobs = b.jobs;
         statuses = b.statuses;
         layout = b.layout;
-      }
+      })
 
   write_both : (pid address : ℕ) (new : List ℕ) → address % 4096 + length new ≤ 4096 → (rm : Result RunMachine Errno) (rs : Result State Errno) → Both m moved pid (address / 4096) rm rs
       → Made m (write_entry m pid address new rm) moved (state.write_after (state_of m) pid address new rs)
-  unfolding Both
-  write_both pid address new fits (Err e) (Err x) b = only_answered (Refused e) (Refused x) (ap Refused b)
-  write_both pid address new fits (Err e) (Ok t) b = absurd b
-  write_both pid address new fits (Ok n) (Err x) b = absurd b
-  write_both pid address new fits (Ok n) (Ok t) b =
+  write_both pid address new fits = by_both pid (address / 4096) (λ rm rs. Made m (write_entry m pid address new rm) moved (state.write_after (state_of m) pid address new rs))
+      (λ e. only_answered (Refused e) (Refused e) refl)
+      (λ n t b.
       let at = λ (o : Option Entry). record n { buf = written_at n.buf o (address % 4096) new } in
       record {
         in_flight = answered_midway (at (entry_at n.tasks pid (address / 4096))) moved Done (subst (λ o. IsInFlight (at o) moved) (sym b.there) (written_midway n moved b.in_flight pid address new b.entry b.there b.used fits));
@@ -61,7 +66,7 @@ module _ (m : RunMachine) (moved : List Page) (h : IsInFlight m moved) where
         jobs = b.jobs;
         statuses = b.statuses;
         layout = b.layout;
-      }
+      })
 
   read_made : (pid address len : ℕ) (r : Result AccessSite Errno) → ComesTo (state_of m) pid address len r → is_held_at m r ≡ false
       → Made m (read_entry m pid address len (touch_entry_at m false r)) moved (state.read_after (state_of m) pid address len (state.touch_site (state_of m) false r))

@@ -13,7 +13,7 @@ use Rattle.nm_model.specs.definitions.RunMachine.{RunMachine, Job, Moving, Ended
 use Rattle.nm_model.specs.definitions.Events.{Event, Begin, Draw, Give, Touch, End, after, accesses_in, draw_job, give_job, end_run, begin_run, hands, is_ready, is_moving, is_laid, is_given, is_with}
 use Rattle.nm_model.specs.definitions.Accesses.{after_access}
 use Rattle.nm_laws.specs.Interleavings.{IsSettled, EveryOrderIsTheRun, EveryBufferIsInOneHand, EveryEntryOfAMovingPageIsHeld}
-use Rattle.nm_laws.proofs.InFlight.Jobs.{shape, sources, drawn_shape, drawn_copied, given_shape, given_copied, sources_same, length_same}
+use Rattle.nm_laws.proofs.InFlight.Jobs.{AreCopied, shape, sources, drawn_shape, drawn_copied, given_shape, given_copied, sources_same, length_same}
 use Rattle.nm_laws.proofs.InFlight.Midway.{IsInFlight, frames_of_job, same_state, same_ends, same_midway}
 use Rattle.nm_laws.proofs.InFlight.Ending.{ended_is, ended_once, ended_settled}
 use Rattle.nm_laws.proofs.InFlight.Accessing.{accessed_is}
@@ -61,10 +61,11 @@ append-nil (x ∷ xs) = ap (λ l. x ∷ l) (append-nil xs)
 
 module _ (m n : RunMachine) (moved : List Page) (h : IsInFlight m moved) where
   -- other jobs of the same shape
-  finish_same : (jobs : List Job) (events : List Event) → map shape jobs ≡ map shape m.jobs
-      → Finishes (record m { jobs = jobs }) n (all_in_flight (state_of (record m { jobs = jobs })) moved (accesses_in events))
+  finish_same : (jobs : List Job) (events : List Event) → map shape jobs ≡ map shape m.jobs → AreCopied jobs
+      → (IsInFlight (record m { jobs = jobs }) moved → Finishes (record m { jobs = jobs }) n (all_in_flight (state_of (record m { jobs = jobs })) moved (accesses_in events)))
       → Finishes m n (all_in_flight (state_of m) moved (accesses_in events))
-  finish_same jobs events same rest =
+  finish_same jobs events same copied go_on =
+      let rest = go_on (same_midway m jobs same moved copied h) in
       let d : State → AccessResults = λ s. all_in_flight s moved (accesses_in events) in
       let s = same_state m jobs same in
       record {
@@ -77,16 +78,8 @@ module _ (m n : RunMachine) (moved : List Page) (h : IsInFlight m moved) where
 finish : (events : List Event) (m n : RunMachine) (moved : List Page) → IsInFlight m moved → after m events ≡ Some n → n.phase ≡ Ended → Finishes m n (all_in_flight (state_of m) moved (accesses_in events))
 finish [] m n moved h leads end = absurd (moving_ended (sym h.moving ∙ ap (λ (k : RunMachine). k.phase) (some_is leads) ∙ end))
 finish (Begin target wanted ∷ events) m n moved h leads end = absurd (refused _ _ n (ap is_ready h.moving) leads)
-finish (Draw w ∷ events) m n moved h leads end =
-    let jobs = draw_job w m.jobs in
-    let same = drawn_shape w m.jobs in
-    finish_same m n moved h jobs events same
-    (finish events (record m { jobs = jobs }) n moved (same_midway m jobs same moved (drawn_copied w m.jobs h.copied) h) (allowed _ _ n leads).1 end)
-finish (Give w t ∷ events) m n moved h leads end =
-    let jobs = give_job t m.jobs in
-    let same = given_shape t m.jobs in
-    finish_same m n moved h jobs events same
-    (finish events (record m { jobs = jobs }) n moved (same_midway m jobs same moved (given_copied t m.jobs h.copied) h) (allowed _ _ n leads).1 end)
+finish (Draw w ∷ events) m n moved h leads end = finish_same m n moved h (draw_job w m.jobs) events (drawn_shape w m.jobs) (drawn_copied w m.jobs h.copied) (λ now. finish events (record m { jobs = draw_job w m.jobs }) n moved now (allowed _ _ n leads).1 end)
+finish (Give w t ∷ events) m n moved h leads end = finish_same m n moved h (give_job t m.jobs) events (given_shape t m.jobs) (given_copied t m.jobs h.copied) (λ now. finish events (record m { jobs = give_job t m.jobs }) n moved now (allowed _ _ n leads).1 end)
 finish (Touch a ∷ events) m n moved h leads end =
     let k = after_access m a in
     let made = accessed_is m moved h a in
@@ -155,10 +148,11 @@ pub record Flies (m n : RunMachine) (moved : List Page) (d : AccessResults) : Ty
 
 module _ (m n : RunMachine) (moved : List Page) (h : IsInFlight m moved) where
   -- other jobs of the same shape
-  flies_same : (jobs : List Job) (events : List Event) → map shape jobs ≡ map shape m.jobs
-      → Flies (record m { jobs = jobs }) n moved (all_in_flight (state_of (record m { jobs = jobs })) moved (accesses_in events))
+  flies_same : (jobs : List Job) (events : List Event) → map shape jobs ≡ map shape m.jobs → AreCopied jobs
+      → (IsInFlight (record m { jobs = jobs }) moved → Flies (record m { jobs = jobs }) n moved (all_in_flight (state_of (record m { jobs = jobs })) moved (accesses_in events)))
       → Flies m n moved (all_in_flight (state_of m) moved (accesses_in events))
-  flies_same jobs events same rest =
+  flies_same jobs events same copied go_on =
+      let rest = go_on (same_midway m jobs same moved copied h) in
       let d : State → AccessResults = λ s. all_in_flight s moved (accesses_in events) in
       let s = same_state m jobs same in
       record {
@@ -178,16 +172,8 @@ flies [] m n moved h leads on =
       ends = ap (λ (k : RunMachine). map frames_of_job k.jobs) (sym is);
     }
 flies (Begin target wanted ∷ events) m n moved h leads on = absurd (refused _ _ n (ap is_ready h.moving) leads)
-flies (Draw w ∷ events) m n moved h leads on =
-    let jobs = draw_job w m.jobs in
-    let same = drawn_shape w m.jobs in
-    flies_same m n moved h jobs events same
-    (flies events (record m { jobs = jobs }) n moved (same_midway m jobs same moved (drawn_copied w m.jobs h.copied) h) (allowed _ _ n leads).1 on)
-flies (Give w t ∷ events) m n moved h leads on =
-    let jobs = give_job t m.jobs in
-    let same = given_shape t m.jobs in
-    flies_same m n moved h jobs events same
-    (flies events (record m { jobs = jobs }) n moved (same_midway m jobs same moved (given_copied t m.jobs h.copied) h) (allowed _ _ n leads).1 on)
+flies (Draw w ∷ events) m n moved h leads on = flies_same m n moved h (draw_job w m.jobs) events (drawn_shape w m.jobs) (drawn_copied w m.jobs h.copied) (λ now. flies events (record m { jobs = draw_job w m.jobs }) n moved now (allowed _ _ n leads).1 on)
+flies (Give w t ∷ events) m n moved h leads on = flies_same m n moved h (give_job t m.jobs) events (given_shape t m.jobs) (given_copied t m.jobs h.copied) (λ now. flies events (record m { jobs = give_job t m.jobs }) n moved now (allowed _ _ n leads).1 on)
 flies (Touch a ∷ events) m n moved h leads on =
     let made = accessed_is m moved h a in
     let rest = flies events (after_access m a) n moved made.in_flight (allowed _ _ n leads).1 on in

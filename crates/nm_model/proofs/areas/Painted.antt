@@ -1,6 +1,7 @@
 -- The areas of a process from one page number up to another, one after another, and their policy.
 use Rattle.std.proofs.Common.{◌≡◌, ℕ, [], ◌∷◌, true, false, cond, refl, sym, ap, ◌∙◌, eq-eqb}
 use Rattle.std.specs.Prelude.{Some, None, ◌==◌}
+use Rattle.std.specs.declared.cmp.Ordering.{Ordering}
 use Rattle.std.specs.Ordering.{nat_cmp, is_eq}
 use Rattle.std.proofs.lemmas.Bool.{eqb-true}
 use Rattle.std.proofs.lemmas.Map.Lookups.{exact_unsigned, exact_pairs, CmpEqualImpliesEq}
@@ -18,13 +19,13 @@ keys_painted pid first past policy (e ∷ m) = ap (λ ks. e.0 ∷ ks) (keys_pain
 pub exact_spot : CmpEqualImpliesEq spot_cmp
 exact_spot = exact_pairs nat_cmp nat_cmp exact_unsigned exact_unsigned
 
--- where no area begins, none is put
-pub put_nowhere : (m : Map (ℕ × ℕ) Area) (k : ℕ × ℕ) (x : Area) → None ≡ get spot_cmp m k → replace spot_cmp m k x ≡ m
-put_nowhere [] k x h = refl
-put_nowhere (e ∷ m) k x h =
-    elim (is_eq (spot_cmp k e.0)) as (λ b. None ≡ cond b (Some e.1) (get spot_cmp m k) → cond b ((e.0, x) ∷ m) (e ∷ replace spot_cmp m k x) ≡ e ∷ m) [
+-- where there is nothing, nothing is replaced
+pub put_nowhere : {K V : Type 0} (cmp : K → K → Ordering) (m : Map K V) (k : K) (x : V) → None ≡ get cmp m k → replace cmp m k x ≡ m
+put_nowhere cmp [] k x h = refl
+put_nowhere cmp (e ∷ m) k x h =
+    elim (is_eq (cmp k e.0)) as (λ b. None ≡ cond b (Some e.1) (get cmp m k) → cond b ((e.0, x) ∷ m) (e ∷ replace cmp m k x) ≡ e ∷ m) [
       | true ↦ λ h. absurd (some_none (sym h))
-      | false ↦ λ h. ap (λ es. e ∷ es) (put_nowhere m k x h)
+      | false ↦ λ h. ap (λ es. e ∷ es) (put_nowhere cmp m k x h)
     ] h
 
 pub past_first : (n pid : ℕ) → true ≡ (n == pid) → n ≡ pid
