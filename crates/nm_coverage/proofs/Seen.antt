@@ -12,6 +12,7 @@ use Rattle.nm_coverage.specs.declared.step.Step.{Step}
 use Rattle.nm_coverage.specs.Parts.{add_at, with_parts}
 use Rattle.nm_coverage.specs.Shifted.{with_add}
 use Rattle.nm_coverage.proofs.Orders.{pages_same}
+use Rattle.nm_model.proofs.areas.Painted.{put_nowhere}
 
 pub seen_at : (stored : Map Page Step) (parts : Map Page Part) (p : Page) → get page_cmp (with_parts stored parts) p ≡ option_map (with_add (add_at parts p)) (get page_cmp stored p)
 seen_at stored parts p = get-values exact_page (λ q. with_add (add_at parts q)) stored p
@@ -59,15 +60,6 @@ taken_seen stored new parts now page same taken p =
     where_some n k None h = refl
     where_some n k (Some s) h = ap (λ m. Some (with_add m s)) (h refl)
 
--- where there is none, none is replaced
-pub step_nowhere : (m : Map Page Step) (k : Page) (x : Step) → None ≡ get page_cmp m k → replace page_cmp m k x ≡ m
-step_nowhere [] k x h = refl
-step_nowhere (e ∷ m) k x h =
-    elim (is_eq (page_cmp k e.0)) as (λ b. None ≡ cond b (Some e.1) (get page_cmp m k) → cond b ((e.0, x) ∷ m) (e ∷ replace page_cmp m k x) ≡ e ∷ m) [
-      | true ↦ λ h. absurd (some_none (sym h))
-      | false ↦ λ h. ap (λ es. e ∷ es) (step_nowhere m k x h)
-    ] h
-
 abbrev or_there : Bool → Step → Option Step → Option Step
 or_there b x o = option_map (λ there. if b then x else there) o
 
@@ -79,7 +71,7 @@ replaced_at : (m : Map Page Step) (k : Page) (x : Step) (p : Page) → get page_
 replaced_at m k x p =
     elim (get page_cmp m k) as (λ o. get page_cmp m k ≡ o → get page_cmp (replace page_cmp m k x) p ≡ or_there (same_page k p) x (get page_cmp m p)) [
       | None ↦ λ o.
-          ap (λ es. get page_cmp es p) (step_nowhere m k x (sym o))
+          ap (λ es. get page_cmp es p) (put_nowhere page_cmp m k x (sym o))
           ∙ elim (same_page k p) as (λ b. same_page k p ≡ b → get page_cmp m p ≡ or_there b x (get page_cmp m p)) [
             | true ↦ λ b. let none : get page_cmp m p ≡ None = ap (λ (q : Page). get page_cmp m q) (sym (pages_same k p b)) ∙ o in none ∙ sym (ap (or_there true x) none)
             | false ↦ λ b. kept x (get page_cmp m p)

@@ -188,16 +188,22 @@ pub record OwnRow (p : Pool) (frame i : ℕ) (row : ℕ × List ℕ) : Type 0 wh
   pub list : row.1 ≡ list_of p (owner p.sizes frame)
   pub room : length row.1 < row.0
 
-pub own_row : (rows : List (ℕ × List ℕ)) (p : Pool) (frame i : ℕ) (row : ℕ × List ℕ) → pool_of_lists rows ≡ p → IsPool (pool_of_lists rows) → i ≡ owner (sizes_of rows) frame → row ≡ get_or rows i row
+pub own_row : {seen : List (ℕ × List ℕ)} (rows : List (ℕ × List ℕ)) (p : Pool) (frame i : ℕ) (row : ℕ × List ℕ) → pool_of_lists rows ≡ p → IsPool (pool_of_lists rows) → i ≡ owner (sizes_of seen) frame → seen ≡ rows → row ≡ get_or rows i row
     → frame < sum p.sizes → is_in (list_of p (owner p.sizes frame)) frame ≡ false → OwnRow p frame i row
-own_row rows p frame i row shown kept own is inside taken =
+own_row rows p frame i row shown kept own read is inside taken =
     let pool : IsPool p = subst IsPool shown kept in
     let node : ℕ = owner p.sizes frame in
-    let at : i ≡ node = own ∙ ap (λ (q : Pool). owner q.sizes frame) shown in
+    let at : i ≡ node = own ∙ ap (λ (rs : List (ℕ × List ℕ)). owner (sizes_of rs) frame) read ∙ ap (λ (q : Pool). owner q.sizes frame) shown in
     let within : node < length p.lists = omega (arith, owner-lt p.sizes frame inside, pool.as_many) in
     let list : row.1 ≡ list_of p node = row_list rows p i node row shown at within is in
     let size = row_size rows p i node row shown at within is in
     record { at = at; within = within; list = list; room = omega (arith, ap (λ (ns : List ℕ). length ns) list, size, has_room p frame pool inside taken) }
+
+-- the pool once that row is written
+pub own_written : (rows : List (ℕ × List ℕ)) (p : Pool) (frame i : ℕ) (row : ℕ × List ℕ) → pool_of_lists rows ≡ p → OwnRow p frame i row → row ≡ get_or rows i row
+    → (new : ℕ × List ℕ) (change : List ℕ → List ℕ) → new ≡ (row.0, change row.1) → pool_of_lists (set rows i new) ≡ with_list p (owner p.sizes frame) (change (list_of p (owner p.sizes frame)))
+own_written rows p frame i row shown own is new change e =
+    written rows p i (owner p.sizes frame) row shown own.at own.within is new (change (list_of p (owner p.sizes frame))) (e ∙ ap (λ (ns : List ℕ). (row.0, change ns)) own.list)
 
 -- the rows from a given one on, in its own
 module _ (rows : List (ℕ × List ℕ)) (i rest : ℕ) (row : ℕ × List ℕ) (within : i < length rows) (is : row ≡ get_or rows i row) where

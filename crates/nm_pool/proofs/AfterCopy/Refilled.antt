@@ -13,7 +13,7 @@ use Rattle.nm_pool.specs.views.Copies.{with_buf, with_job, with_jobs_back, CanRe
 use Rattle.nm_model.specs.definitions.Memory.{stretch_of}
 use Rattle.nm_model.specs.definitions.Touch.{AccessAnswer, Bytes}
 use Rattle.nm_model.specs.definitions.BeforeCopy.{PendingAccess, Known, ToRead, ToWrite}
-use Rattle.nm_pool.specs.definitions.AfterCopy.{frame_at, store_after_copy, answer_from_store, StoreAfterCopy, all_stored_after_copy, CanDo}
+use Rattle.nm_pool.specs.definitions.AfterCopy.{IsIn, frame_at, store_after_copy, answer_from_store, StoreAfterCopy, all_stored_after_copy, CanDo}
 use Rattle.nm_pool.proofs.Copies.Home.{home_bytes}
 use Rattle.nm_pool.proofs.Copies.Copied.{home_set}
 use Rattle.nm_pool.proofs.Copies.Populated.{written_populated}
@@ -31,22 +31,19 @@ still_out store f q bytes apart out = record {
 }
 
 -- what can be done can be done after something else
+in_beside : (place : Map Page ℕ) (store : Store) (f i : ℕ) (new : List ℕ) (page : Page) (j len : ℕ) → i + length new ≤ 4096 → IsIn place store page j len → IsIn place (slice_set store f (Some (overwrite (bytes_of store f) i new))) page j len
+in_beside place store f i new page j len fits can = record {
+  frame = can.frame;
+  placed = can.placed;
+  home = home_set store f can.frame (overwrite (bytes_of store f) i new) can.home;
+  populated = written_populated store f can.frame i new fits can.populated;
+  inside = can.inside;
+}
+
 can_beside : (place : Map Page ℕ) (store : Store) (f i : ℕ) (new : List ℕ) (d : PendingAccess) → i + length new ≤ 4096 → CanDo place store d → CanDo place (slice_set store f (Some (overwrite (bytes_of store f) i new))) d
 can_beside place store f i new (Known answer) fits can = tt
-can_beside place store f i new (ToRead page j len) fits can = record {
-  frame = can.frame;
-  placed = can.placed;
-  home = home_set store f can.frame (overwrite (bytes_of store f) i new) can.home;
-  populated = written_populated store f can.frame i new fits can.populated;
-  inside = can.inside;
-}
-can_beside place store f i new (ToWrite page j other) fits can = record {
-  frame = can.frame;
-  placed = can.placed;
-  home = home_set store f can.frame (overwrite (bytes_of store f) i new) can.home;
-  populated = written_populated store f can.frame i new fits can.populated;
-  inside = can.inside;
-}
+can_beside place store f i new (ToRead page j len) fits can = in_beside place store f i new page j len fits can
+can_beside place store f i new (ToWrite page j other) fits can = in_beside place store f i new page j (length other) fits can
 
 can_then : (place : Map Page ℕ) (store : Store) (d e : PendingAccess) → CanDo place store d → CanDo place store e → CanDo place (store_after_copy place store d) e
 can_then place store (Known answer) e first can = can

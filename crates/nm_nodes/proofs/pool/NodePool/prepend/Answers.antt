@@ -2,22 +2,16 @@ use Rattle.std.proofs.Common.{ap, sym, ◌∙◌, subst, ℕ, List, ◌∷◌}
 use Rattle.nm_types.specs.Layout.{owner}
 use Rattle.nm_model.specs.definitions.Frames.{IsPool, list_of}
 use Rattle.nm_nodes.specs.Lists.{sizes_of}
-use Rattle.nm_nodes.proofs.Pools.{own_row, written, IsPool-prepended}
+use Rattle.nm_nodes.proofs.Pools.{own_row, own_written, IsPool-prepended}
 use Rattle.nm_nodes.proofs.pool.NodePool.prepend.Goals as goal
 
 pub prepend-requires : goal.prepend-requires
-prepend-requires g c =
-    let own = c.owner_of-node.ensures.node ∙ ap (λ (rs : List (ℕ × List ℕ)). owner (sizes_of rs) c.args.frame) c.as_slice.ensures.value in
-    (own_row c.self.inside.lists.items c.args.self.now c.args.frame c.owner_of-node.result c.index_mut.result.now c.self.view_is c.self.invariant own c.index_mut.ensures.value c.requires.frame c.requires.taken).room
+prepend-requires g c = (own_row c.self.inside.lists.items c.args.self.now c.args.frame c.owner_of-node.result c.index_mut.result.now c.self.view_is c.self.invariant c.owner_of-node.ensures.node c.as_slice.ensures.value c.index_mut.ensures.value c.requires.frame c.requires.taken).room
 
 pub returns : goal.returns
 returns g c =
-    let p = c.args.self.now in
-    let row = c.index_mut.result.now in
-    let own = c.owner_of-node.ensures.node ∙ ap (λ (rs : List (ℕ × List ℕ)). owner (sizes_of rs) c.args.frame) c.as_slice.ensures.value in
-    let w = own_row c.self.inside.lists.items p c.args.frame c.owner_of-node.result row c.self.view_is c.self.invariant own c.index_mut.ensures.value c.requires.frame c.requires.taken in
-    written c.self.inside.lists.items p c.owner_of-node.result (owner p.sizes c.args.frame) row c.self.view_is w.at w.within c.index_mut.ensures.value c.prepend.new.self (c.args.frame ∷ list_of p (owner p.sizes c.args.frame))
-    (c.prepend.ensures ∙ ap (λ (ns : List ℕ). (row.0, c.args.frame ∷ ns)) w.list)
+    let own = own_row c.self.inside.lists.items c.args.self.now c.args.frame c.owner_of-node.result c.index_mut.result.now c.self.view_is c.self.invariant c.owner_of-node.ensures.node c.as_slice.ensures.value c.index_mut.ensures.value c.requires.frame c.requires.taken in
+    own_written c.self.inside.lists.items c.args.self.now c.args.frame c.owner_of-node.result c.index_mut.result.now c.self.view_is own c.index_mut.ensures.value c.prepend.new.self (λ (ns : List ℕ). c.args.frame ∷ ns) c.prepend.ensures
 
 pub invariant_of-self : goal.invariant_of-self
 invariant_of-self g c =

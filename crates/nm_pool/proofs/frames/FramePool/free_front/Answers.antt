@@ -9,10 +9,7 @@ use Rattle.nm_pool.proofs.Boxed.{seen, held}
 use Rattle.nm_pool.proofs.frames.FramePool.free_front.Goals as goal
 
 pub front_in_place-requires-clause-node : goal.front_in_place-requires-clause-node
-front_in_place-requires-clause-node g c =
-    let own = held c.self.inside.jobs c.deref-parts.ensures c.self.invariant in
-    let shown = seen c.self.inside.jobs c.deref-parts.ensures c.self.view_is in
-    seen_node _ c.args.self.now c.args.node shown own.1 c.requires
+front_in_place-requires-clause-node g c = seen_node _ c.args.self.now c.args.node (seen c.self.inside.jobs c.deref-parts.ensures c.self.view_is) (held c.self.inside.jobs c.deref-parts.ensures c.self.invariant).1 c.requires
 
 pub front_in_place-requires-clause-count : goal.front_in_place-requires-clause-count
 front_in_place-requires-clause-count g c = omega (arith, c.min-count.ensures, c.free_count.ensures.count)

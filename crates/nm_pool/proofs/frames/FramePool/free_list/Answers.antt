@@ -8,10 +8,7 @@ use Rattle.nm_pool.proofs.Boxed.{seen, held}
 use Rattle.nm_pool.proofs.frames.FramePool.free_list.Goals as goal
 
 pub front_of-requires-clause-node : goal.front_of-requires-clause-node
-front_of-requires-clause-node g c =
-    let own = held c.self.inside.jobs c.deref-parts.ensures c.self.invariant in
-    let shown = seen c.self.inside.jobs c.deref-parts.ensures c.self.view_is in
-    seen_node _ c.args.self.now c.args.node shown own.1 c.requires
+front_of-requires-clause-node g c = seen_node _ c.args.self.now c.args.node (seen c.self.inside.jobs c.deref-parts.ensures c.self.view_is) (held c.self.inside.jobs c.deref-parts.ensures c.self.invariant).1 c.requires
 
 pub front_of-requires-clause-count : goal.front_of-requires-clause-count
 front_of-requires-clause-count g c = omega (arith, c.free_count.ensures.count)
