@@ -9,7 +9,7 @@ use Rattle.nm_tables.specs.declared.slot.Slot.TheVariants.{Lone, Leaf}
 use Rattle.nm_tables.proofs.Slots.{blocks-found, blocks-gone, blocks-less, blocks-without_nothing, blocks-absent, within, read_leaf, read_block, written-without, written-kept, lacking-without, one_lacks, lone_without, lone_other}
 use Rattle.nm_tables.proofs.Kept.{gone_named, gone_has, written_named, written_has}
 use Rattle.nm_tables.proofs.blocks.Blocks.clear.Given.{Over}
-use Rattle.nm_tables.proofs.blocks.Blocks.clear.Goals.{In-Leaf}
+use Rattle.nm_tables.proofs.blocks.Blocks.clear.Goals.{In-Leaf, After-clear_in}
 use Rattle.nm_tables.proofs.blocks.Blocks.clear.Goals as goal
 
 pub returns-in_default-clause-entries : goal.returns-in_default-clause-entries
@@ -99,26 +99,29 @@ returns-else-eq-clause-entries g c =
     let apart : c.args.vpn ≡ c.in-Lone.own → ⊥ = search rules in
     sym (blocks-absent b.leaves.items b.index c.requires.0 c.args.vpn slot at (lone_other c.args.vpn c.in-Lone.own c.in-Lone.field-1 apart))
 
+-- the leaf that was cleared is still the block's
+cleared_block : (g : Over) (c : After-clear_in g) → IsLeafOf (slice_get c.args.self.now.leaves.items c.in-Leaf.number) (c.args.vpn / 512) → c.clear_in.new.leaf.block ≡ c.args.vpn / 512
+cleared_block g c of = c.clear_in.ensures.block ∙ read_block c.args.self.now.leaves.items c.in-Leaf.number (c.args.vpn / 512) c.index_mut.result.now of c.index_mut.ensures.value
+
 pub returns-else-has_no_other-clause-entries : goal.returns-else-has_no_other-clause-entries
 returns-else-has_no_other-clause-entries g c =
     let b = c.args.self.now in
-    let i = c.in-Leaf.number in
     let leaf = its_leaf g (goal.at.returns-else-has_no_other-clause-entries g c).In-Leaf in
-    let own = read_block b.leaves.items i (c.args.vpn / 512) c.index_mut.result.now leaf.of c.index_mut.ensures.value in
-    written-without b.leaves.items b.index c.requires.0 c.args.vpn i c.clear_in.new.leaf leaf.at (c.clear_in.ensures.block ∙ own) c.index_mut.result.now
-    (read_leaf b.leaves.items i (c.args.vpn / 512) c.index_mut.result.now leaf.of c.index_mut.ensures.value) c.clear_in.ensures.entries
+    let block = cleared_block g (goal.at.returns-else-has_no_other-clause-entries g c).After-clear_in leaf.of in
+    written-without b.leaves.items b.index c.requires.0 c.args.vpn c.in-Leaf.number c.clear_in.new.leaf leaf.at block c.index_mut.result.now
+    (read_leaf b.leaves.items c.in-Leaf.number (c.args.vpn / 512) c.index_mut.result.now leaf.of c.index_mut.ensures.value) c.clear_in.ensures.entries
 
 pub returns-else-has_no_other-clause-kept : goal.returns-else-has_no_other-clause-kept
 returns-else-has_no_other-clause-kept g c =
     let b = c.args.self.now in
     let i = c.in-Leaf.number in
     let leaf = its_leaf g (goal.at.returns-else-has_no_other-clause-kept g c).In-Leaf in
-    let own = read_block b.leaves.items i (c.args.vpn / 512) c.index_mut.result.now leaf.of c.index_mut.ensures.value in
+    let block = cleared_block g (goal.at.returns-else-has_no_other-clause-kept g c).After-clear_in leaf.of in
     let read : c.index.result.now ≡ c.index_mut.result.now = some_is (sym (read_leaf b.leaves.items i (c.args.vpn / 512) c.index.result.now leaf.of c.index.ensures) ∙ read_leaf b.leaves.items i (c.args.vpn / 512) c.index_mut.result.now leaf.of c.index_mut.ensures.value) in
     let some = subst (λ p. without nat_cmp (leaf_entries p) c.args.vpn ≡ [] → ⊥) read (c.has_no_other.ensures.some c.if-has_no_other.false) in (
-      written-kept b.leaves.items b.index c.requires.0 c.args.vpn i c.clear_in.new.leaf leaf.at (c.clear_in.ensures.block ∙ own),
+      written-kept b.leaves.items b.index c.requires.0 c.args.vpn i c.clear_in.new.leaf leaf.at block,
       c.requires.1,
       subst (λ n. n + b.without ≤ b.leaves.cap) (sym (length-set b.leaves.items i c.clear_in.new.leaf)) c.requires.2,
-      written_named b.leaves.items b.index c.requires.3 c.requires.4 c.requires.0 c.args.vpn i c.clear_in.new.leaf leaf.at (c.clear_in.ensures.block ∙ own),
-      written_has b.leaves.items b.index c.requires.3 c.requires.4 c.requires.0 c.args.vpn i c.clear_in.new.leaf leaf.at (c.clear_in.ensures.block ∙ own) (λ none. some (sym c.clear_in.ensures.entries ∙ none)),
+      written_named b.leaves.items b.index c.requires.3 c.requires.4 c.requires.0 c.args.vpn i c.clear_in.new.leaf leaf.at block,
+      written_has b.leaves.items b.index c.requires.3 c.requires.4 c.requires.0 c.args.vpn i c.clear_in.new.leaf leaf.at block (λ none. some (sym c.clear_in.ensures.entries ∙ none)),
     )
