@@ -120,7 +120,7 @@ pub put_index : (keys : List Key) (areas new : Map (ℕ × ℕ) Area) (s : ℕ �
 put_index keys areas new s x index same is =
     subst (IsIndex keys) (sym is)
     (elim (get spot_cmp areas s) as (λ o. get spot_cmp areas s ≡ o → IfSome o (λ a. a.page.segment ≡ x.page.segment) → IsIndex keys (replace spot_cmp areas s x)) [
-      | None ↦ λ o h. subst (IsIndex keys) (sym (put_nowhere areas s x (sym o))) index
+      | None ↦ λ o h. subst (IsIndex keys) (sym (put_nowhere spot_cmp areas s x (sym o))) index
       | Some y ↦ λ o h. λ q. index q ∙ sym (put_same areas s x y o h q.0 (q.1, q.2))
     ] refl same)
 

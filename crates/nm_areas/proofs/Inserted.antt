@@ -21,7 +21,7 @@ use Rattle.nm_model.specs.definitions.Areas.{is_shared}
 use Rattle.nm_types.proofs.Maps.{equal, spot_cmp_total}
 use Rattle.nm_types.proofs.Keys.{All-set, All-get, sorted-set}
 use Rattle.nm_model.proofs.areas.Apart.{NoneOverlaps, one_more, other_key, apart-set, all_from_none, each_set, same_key, all_then}
-use Rattle.nm_model.proofs.areas.Policed.{IsFine}
+use Rattle.nm_model.proofs.areas.Policed.{IsFine, with_fine}
 use Rattle.nm_areas.proofs.Private.{shared_before, once_more}
 
 -- no entry has a number that is past all of them
@@ -96,20 +96,9 @@ module _ (t : Table) (place : Map Page ℕ) (h : IsWellFormed (mapping_of t plac
 
   pub attached_mapped : (now : Table) → is_shared t.segments new.page.segment ≡ true → new.page.segment < t.next → now ≡ with_areas t (set spot_cmp t.areas (pid, first) new) → IsWellFormed (mapping_of now place)
   attached_mapped now shared under is =
-      subst (λ (u : Table). IsWellFormed (mapping_of u place)) (sym is) (record {
-        ordered = fine_more.ordered;
-        apart = fine_more.apart;
-        whole = fine_more.whole;
-        low = fine_more.low;
-        indices = fine_more.indices;
-        named = h.named;
-        below = below_more t.next (omega arith) under;
-        numbers = h.numbers;
-        lengths = h.lengths;
-        shown = shown_more t.segments h.shown;
-        once = once_with t.segments (λ n k. refl) (λ private k. true_false (sym shared ∙ private));
-        places = h.places;
-      })
+      subst (λ (u : Table). IsWellFormed (mapping_of u place)) (sym is)
+      (with_fine t place h (set spot_cmp t.areas (pid, first) new) fine_more (shown_more t.segments h.shown) (below_more t.next (omega arith) under)
+      (once_with t.segments (λ n k. refl) (λ private k. true_false (sym shared ∙ private))))
 
 -- the new area is there
 new_there : (test : PlacedArea → Bool) (pid first : ℕ) (new : Area) → test ((pid, first), new) ≡ true → (areas : Map (ℕ × ℕ) Area) → list_any test (set spot_cmp areas (pid, first) new) ≡ true
