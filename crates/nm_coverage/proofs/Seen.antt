@@ -1,11 +1,10 @@
 -- The step that is seen at a page.
-use Rattle.std.proofs.Common.{◌≡◌, ℕ, [], ◌∷◌, Bool, true, false, cond, refl, sym, ap, subst, ◌∙◌}
+use Rattle.std.proofs.Common.{◌≡◌, ℕ, Bool, true, false, cond, refl, sym, ap, subst, ◌∙◌}
 use Rattle.std.specs.Prelude.{Option, Some, None, IsSome, ◌%◌, ◌+◌, ◌^◌, if◌then◌else◌}
 use Rattle.std.specs.Option.{option_map}
 use Rattle.std.specs.Ordering.{is_eq}
 use Rattle.nm_types.specs.declared.page.Page.{Page}
 use Rattle.nm_types.specs.Map.{Map, get, replace, page_cmp, same_page}
-use Rattle.nm_types.proofs.Cases.{some_none}
 use Rattle.nm_types.proofs.Maps.{exact_page, get-values, get-replace, page_cmp_total}
 use Rattle.nm_coverage.specs.declared.parts.Part.{Part}
 use Rattle.nm_coverage.specs.declared.step.Step.{Step}

@@ -10,7 +10,7 @@ use Rattle.std.specs.declared.cmp.Ordering.TheVariants.{Less}
 use Rattle.std.specs.declared.ops.Bound.TheVariants.{Included}
 use Rattle.std.specs.BTreeMap.Range.{range_contains}
 use Rattle.std.proofs.Math.Decide.{dec_lt}
-use Rattle.std.proofs.lemmas.List.{length-append, take-append-drop}
+use Rattle.std.proofs.lemmas.List.{drop_more, length-append, take-append-drop}
 use Rattle.std.proofs.lemmas.List.Elements.{filter-append}
 use Rattle.nm_types.specs.Map.{Map, get}
 use Rattle.nm_tables.specs.definitions.Tree.{flatten, IsPart}
@@ -192,6 +192,16 @@ module _ {P : Type 0} (slots : P → Map ℕ Slot) (number : ℕ → ℕ) (whole
         (node_first whole is_in (take i parts) (drop i parts) apart)
         (node_first IsSlot (IsSlotOf leaves) (flatten (slots_shown slots (take i parts))) (flatten (slots_shown slots (drop i parts))) named_apart) begins.1))
         ∙ sym (there-append (take i parts) (drop i parts)) ∙ ap there (take-append-drop i parts)
+
+  -- what holds of the parts from here on, where `list` is listed of what a node has, `to`
+  pub record IsListed (list to : Map ℕ Entry) (parts : Map ℕ P) : Type 0 where
+    pub kept : IsNode whole is_in parts
+    pub named : AreBlocks leaves (flatten (slots_shown slots parts))
+    pub left : list ++ there parts ≡ to
+
+  -- the first of them is the part of this round
+  pub first_listed : (list to : Map ℕ Entry) (xs : Map ℕ P) (i : ℕ) (e : ℕ × P) → i < length xs → e ≡ get_or xs i e → IsListed list to (drop i xs) → IsListed list to (e ∷ drop (i + 1) xs)
+  first_listed list to xs i e inside is = subst (IsListed list to) (drop_more xs i e inside ∙ ap (λ d. d ∷ drop (i + 1) xs) (sym is))
 
   module _ (e : ℕ × P) (ps : Map ℕ P) (is : IsNode whole is_in (e ∷ ps)) (named : AreBlocks leaves (flatten (slots_shown slots (e ∷ ps)))) where
     -- the slots of a part name leaves, and those of the parts after it

@@ -1,6 +1,6 @@
 -- Another policy of a range of page numbers keeps a machine sound.
 use Rattle.std.proofs.Common.{◌≡◌, ℕ, ◌<◌, ◌/◌, ◌%◌, List, true, false, refl, sym, ap, subst, ◌∙◌, arith}
-use Rattle.std.specs.Prelude.{Some, None, IsSome, nat_lt, if◌then◌else◌}
+use Rattle.std.specs.Prelude.{Some, IsSome, nat_lt, if◌then◌else◌}
 use Rattle.std.specs.Option.{option_map}
 use Rattle.std.specs.List.{AllByRecursion, flat_map}
 use Rattle.std.specs.List.Sorted.{IsStrictlySortedBy}
@@ -11,8 +11,7 @@ use Rattle.nm_types.specs.declared.page.Page.{Page}
 use Rattle.nm_types.specs.declared.area.Policy.{Policy}
 use Rattle.nm_types.specs.declared.area.Area.{Area}
 use Rattle.nm_types.specs.Map.{Map, get, with_values, page_cmp, spot_cmp}
-use Rattle.nm_types.specs.State.{State, area_over, page_shown, page_at}
-use Rattle.nm_types.proofs.Cases.{none_some, some_is}
+use Rattle.nm_types.specs.State.{State, page_shown, page_at}
 use Rattle.nm_model.specs.definitions.Memory.{byte_of, mem}
 use Rattle.nm_model.specs.definitions.Effect.{areas_of, with_areas_of, parts_outside, covers_page, is_covered}
 use Rattle.nm_model.specs.definitions.Sound.{AreasAreApart, IsWhole, IsSoundInFlight}

@@ -18,8 +18,8 @@ use Rattle.nm_types.specs.declared.page.Page.{Page}
 use Rattle.nm_types.specs.Map.{Map, get, without, page_cmp}
 use Rattle.nm_types.specs.Layout.{node_of, frame_count}
 use Rattle.nm_types.specs.declared.sight.Sight.TheVariants.{Sees}
-use Rattle.nm_types.specs.State.{State, free_list, page_at, page_shown, area_over}
-use Rattle.nm_types.proofs.Cases.{true_false, some_is, none_is_not}
+use Rattle.nm_types.specs.State.{State, free_list, page_at}
+use Rattle.nm_types.proofs.Cases.{true_false, none_is_not}
 use Rattle.nm_model.specs.definitions.Seen.{sight_at}
 use Rattle.nm_model.specs.definitions.Areas.{is_shared}
 use Rattle.nm_model.specs.definitions.Run.{with_free}

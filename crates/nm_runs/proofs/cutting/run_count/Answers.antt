@@ -1,5 +1,4 @@
-use Rattle.std.proofs.Common.{◌∙◌, ap, arith, take, length}
-use Rattle.std.proofs.lemmas.List.{length-take, length-drop}
+use Rattle.std.proofs.Common.{◌∙◌, arith, take}
 use Rattle.nm_runs.proofs.Pieces.{ends_within, one_counted}
 use Rattle.nm_runs.proofs.Stretches.{same_nodes}
 use Rattle.nm_runs.proofs.cutting.run_count.Goals as goal

@@ -1,6 +1,5 @@
 use Rattle.std.proofs.Common.{◌≡◌, ◌+◌, ◌/◌, ◌<◌, ◌≤◌, sym, subst, ◌∙◌, length-set}
-use Rattle.std.specs.Prelude.{Some, slice_get}
-use Rattle.std.specs.Ordering.{nat_cmp}
+use Rattle.std.specs.Prelude.{slice_get}
 use Rattle.nm_tables.specs.declared.slot.Slot.TheVariants.{Leaf}
 use Rattle.nm_tables.proofs.Slots.{blocks-found, within, read_leaf, read_block, written-set, written-kept}
 use Rattle.nm_tables.specs.views.Blocks.{IsLeafOf}
