@@ -19,14 +19,19 @@ use Rattle.nm_laws.proofs.Soundness.Called.{map_sound, attach_sound}
 use Rattle.nm_laws.proofs.Soundness.Policed.{policy_sound}
 
 -- a call either did nothing, or was not refused and did its work
-pub made_or_same : {T P : Type 0} {old new after : Mapping} {refusal : Option Errno} (r : Result T MachineError) → Makes r old new refusal after → (new ≡ old → P) → (refusal ≡ None → new ≡ after → P) → P
+made_or_same : {T P : Type 0} {old new after : Mapping} {refusal : Option Errno} (r : Result T MachineError) → Makes r old new refusal after → (new ≡ old → P) → (refusal ≡ None → new ≡ after → P) → P
 made_or_same (Ok value) h same made = made h.0 h.1
 made_or_same (Err (Refused errno)) h same made = same h.1
 made_or_same (Err HostMemory) h same made = same h
 
 module _ (y z : AddressSpacesView) (k : FramesView) (online : List ℕ) (moved failed : ℕ) (is : z ≡ with_mapped y (mapped_of z)) (kept : IsSoundMachine (shown_by y k online moved failed) k.vacated y.frames) where
-  pub kept_same : mapped_of z ≡ mapped_of y → IsSoundMachine (shown_by z k online moved failed) k.vacated z.frames
+  kept_same : mapped_of z ≡ mapped_of y → IsSoundMachine (shown_by z k online moved failed) k.vacated z.frames
   kept_same same = subst (λ (w : AddressSpacesView). IsSoundMachine (shown_by w k online moved failed) k.vacated w.frames) (sym (is ∙ ap (with_mapped y) same)) kept
+
+  -- so a call leaves the machine sound if what it makes does
+  pub kept_either : {T : Type 0} {after : Mapping} {refusal : Option Errno} (r : Result T MachineError) → Makes r (mapped_of y) (mapped_of z) refusal after
+      → (refusal ≡ None → mapped_of z ≡ after → IsSoundMachine (shown_by z k online moved failed) k.vacated z.frames) → IsSoundMachine (shown_by z k online moved failed) k.vacated z.frames
+  kept_either r done made = made_or_same r done kept_same made
 
   kept_after : (m : Mapping) → mapped_of z ≡ m → k.vacated ≡ [] → (IsSound (shown_by y k online moved failed) → IsSound (shown_by (with_mapped y m) k online moved failed)) → IsSoundMachine (shown_by z k online moved failed) k.vacated z.frames
   kept_after m now none keeps =

@@ -1,13 +1,13 @@
 -- Frames that have their bytes in memory, and what keeps them.
-use Rattle.std.proofs.Common.{◌≡◌, ◌≢◌, ℕ, List, [], ◌∷◌, true, false, cond, length, refl, sym, ap, subst, ◌∙◌}
-use Rattle.std.specs.Prelude.{Some}
+use Rattle.std.proofs.Common.{◌≡◌, ◌≢◌, ◌<◌, ℕ, List, [], ◌∷◌, true, false, cond, length, refl, sym, ap, subst, ◌∙◌}
+use Rattle.std.specs.Prelude.{Option, Some}
 use Rattle.std.specs.List.{AllByRecursion}
 use Rattle.std.specs.Ordering.{is_eq}
 use Rattle.std.specs.Cmp.{tied_itself}
 use Rattle.nm_types.specs.declared.page.Page.{Page}
 use Rattle.nm_types.specs.declared.page_move.PageMove.{PageMove}
 use Rattle.nm_types.specs.Map.{Map, get, set, page_cmp}
-use Rattle.nm_types.specs.Layout.{node_of}
+use Rattle.nm_types.specs.Layout.{frame_count, node_of}
 use Rattle.nm_types.specs.State.{State}
 use Rattle.nm_types.proofs.Cases.{some_is}
 use Rattle.nm_types.proofs.Maps.{page_cmp_total, get-set}
@@ -24,6 +24,10 @@ use Rattle.nm_pool.specs.views.Frames.{FramesView, KeepsBytes}
 use Rattle.nm_engine.specs.views.RunState.{RunState, IsSoundMachine}
 use Rattle.nm_engine.specs.views.Shown.{bytes_in, shown_by}
 use Rattle.nm_model.specs.definitions.Sound.{IsSoundInFlight}
+use Rattle.nm_model.specs.definitions.Seen.{frame_of}
+use Rattle.nm_types.specs.declared.sight.Sight.{Sight}
+use Rattle.nm_laws.proofs.Seen.Frames.{page_of_frame, place_in_range}
+use Rattle.nm_engine.specs.views.Parts.{AreKept}
 
 -- ---- pages with a frame, in a sound machine
 
@@ -34,6 +38,13 @@ place_populated s (e ∷ place) p f whole found =
       | true ↦ λ k. ap (λ g. length (bytes_of s g)) (sym (some_is k)) ∙ whole.0
       | false ↦ λ k. place_populated s place p f whole.1 k
     ] found
+
+-- the frame of what is seen is one of the machine, and in memory
+pub seen_frame : (y : AddressSpacesView) (k : FramesView) (online : List ℕ) → AreKept y k online → (o : Option Sight) (f : ℕ) → frame_of y.place o ≡ Some f → (f < frame_count k.layout) × IsPopulated k.frames f
+seen_frame y k online kept o f seen =
+    let page = page_of_frame y.place o f seen in
+    let sound = (kept 0 0).sound in
+    (place_in_range (shown_by y k online 0 0) k.vacated page.0 f sound page.2, place_populated k.frames y.place page.0 f sound.bytes.whole page.2)
 
 -- a store that keeps the bytes of frames keeps those of pages
 pub bytes_kept : (old new : Store) (place : Map Page ℕ) → KeepsBytes old new → AllByRecursion (λ e. length e.1 ≡ 4096) (bytes_in old place) → bytes_in new place ≡ bytes_in old place

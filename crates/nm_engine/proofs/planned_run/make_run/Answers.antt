@@ -10,7 +10,7 @@ use Rattle.nm_frames.specs.Job.{job_after_copy}
 use Rattle.nm_laws.specs.Laws.{with_moves}
 use Rattle.nm_laws.specs.Moves.{CanMove, IsPlanOf}
 use Rattle.nm_laws.proofs.Early.Flown.{run_state, run_answers}
-use Rattle.nm_laws.proofs.Early.Phases.{pages_of, touched_all, given_back, planned_phases}
+use Rattle.nm_laws.proofs.Early.Phases.{IsPhased, pages_of, touched_all, given_back, planned_phases}
 use Rattle.nm_laws.proofs.Early.Ready.{all_layout}
 use Rattle.nm_model.specs.definitions.BeforeCopy.{PendingAccess, all_after_copy, without_fronts, with_fronts, frames_taken, IsPending}
 use Rattle.nm_model.specs.definitions.Decide.{RunPlan}
@@ -25,6 +25,7 @@ use Rattle.nm_engine.proofs.Early.{early_state, early_dues, early_left, early_ro
 use Rattle.nm_engine.proofs.Runs.ByEvents.{goes_by_events}
 use Rattle.nm_engine.proofs.InFlight.Flights.{copied_twice}
 use Rattle.nm_engine.proofs.planned_run.make_run.Given.{Over}
+use Rattle.nm_engine.proofs.planned_run.make_run.Goals.{In-Ok, After-into_statuses}
 use Rattle.nm_engine.proofs.planned_run.make_run.Goals as goal
 
 -- a job's copy is between the same frames
@@ -61,16 +62,25 @@ ready_for x r s t moves accesses at inside taken touched back can =
       can = subst (λ (z : State). CanMove (with_fronts z t (frames_taken moves)) t moves) (sym touched) can;
     }
 
-pub begin-run-requires-clause-ready : goal.begin-run-requires-clause-ready
-begin-run-requires-clause-ready g c κs within =
-    let r = c.of-run.result.state in
-    let t = c.args.planned.requests.now.target in
-    let ws = c.args.planned.requests.now.wanted.items in
+-- the phases of the run are those of its plan
+phases : (g : Over) (c : In-Ok g)
+    → IsPhased c.of-run.result.state c.args.planned.requests.now.target c.moves-moves.result.now (accesses_shown {A = g.row.A.Denot} c.args.planned.accesses.now)
+phases g c =
     let moves : List PageMove = c.moves-moves.result.now in
     let accesses : List Access = accesses_shown {A = g.row.A.Denot} c.args.planned.accesses.now in
-    let at = c.of-run.ensures.state in
-    let ready = planned_phases r t moves accesses c.args.machine ws c.args.planned.plan at c.requires.plan c.moves-moves.ensures c.in-Ok.ensures.sound c.requires.target in
-    (t, ready_for c.prepare.new.self r c.args.machine t moves accesses at c.requires.target (early_left c.of-run.result t moves accesses c.prepare.new.self c.in-Ok.all_due c.in-Ok.ensures.prepares) (early_state c.of-run.result t moves accesses c.prepare.new.self c.in-Ok.all_due c.in-Ok.ensures.prepares) ready.1.back ready.1.can)
+    (planned_phases c.of-run.result.state c.args.planned.requests.now.target moves accesses c.args.machine c.args.planned.requests.now.wanted.items c.args.planned.plan c.of-run.ensures.state c.requires.plan c.moves-moves.ensures c.in-Ok.ensures.sound c.requires.target).1
+
+ready : (g : Over) (c : In-Ok g) → IsReadyFor c.prepare.new.self c.args.planned.requests.now.target c.moves-moves.result.now
+ready g c =
+    let run = c.of-run.result in
+    let t = c.args.planned.requests.now.target in
+    let moves : List PageMove = c.moves-moves.result.now in
+    let accesses : List Access = accesses_shown {A = g.row.A.Denot} c.args.planned.accesses.now in
+    let done = c.in-Ok.ensures.prepares in
+    ready_for c.prepare.new.self run.state c.args.machine t moves accesses c.of-run.ensures.state c.requires.target (early_left run t moves accesses c.prepare.new.self c.in-Ok.all_due done) (early_state run t moves accesses c.prepare.new.self c.in-Ok.all_due done) (phases g c).back (phases g c).can
+
+pub begin-run-requires-clause-ready : goal.begin-run-requires-clause-ready
+begin-run-requires-clause-ready g c κs within = (c.args.planned.requests.now.target, ready g (goal.at.begin-run-requires-clause-ready g c).In-Ok)
 
 pub begin-run-requires-clause-few : goal.begin-run-requires-clause-few
 begin-run-requires-clause-few g c κs within =
@@ -78,18 +88,15 @@ begin-run-requires-clause-few g c κs within =
 
 pub copy_beside-run-requires-clause-can : goal.copy_beside-run-requires-clause-can
 copy_beside-run-requires-clause-can g c κs within =
-    let r = c.of-run.result.state in
     let t = c.args.planned.requests.now.target in
-    let ws = c.args.planned.requests.now.wanted.items in
     let moves : List PageMove = c.moves-moves.result.now in
     let accesses : List Access = accesses_shown {A = g.row.A.Denot} c.args.planned.accesses.now in
-    let ready = planned_phases r t moves accesses c.args.machine ws c.args.planned.plan c.of-run.ensures.state c.requires.plan c.moves-moves.ensures c.in-Ok.ensures.sound c.requires.target in
     let many : length accesses ≡ length c.args.planned.accesses.now = length-map c.args.planned.accesses.now _ in
     record {
       can =
           all_by (map pending_shown c.in-Ok.all_due.items) c.begin-run.ensures.pending
           (subst (λ (ds : List PendingAccess). AllByRecursion (IsPending (pages_of moves) c.prepare.new.self.state) ds) (sym (early_dues c.of-run.result t moves accesses c.prepare.new.self c.in-Ok.all_due c.in-Ok.ensures.prepares))
-          (subst (λ (x : State). AllByRecursion (IsPending (pages_of moves) x) (touched_all r t moves accesses).all_due) (sym (early_state c.of-run.result t moves accesses c.prepare.new.self c.in-Ok.all_due c.in-Ok.ensures.prepares)) ready.1.due));
+          (subst (λ (x : State). AllByRecursion (IsPending (pages_of moves) x) (touched_all c.of-run.result.state t moves accesses).all_due) (sym (early_state c.of-run.result t moves accesses c.prepare.new.self c.in-Ok.all_due c.in-Ok.ensures.prepares)) (phases g (goal.at.copy_beside-run-requires-clause-can g c).In-Ok).due));
       room = c.in-Ok.ensures.prepares.touches.room;
       unanswered = c.requires.empty;
       space = omega (arith, c.in-Ok.ensures.prepares.touches.len, many, c.requires.room);
@@ -113,23 +120,18 @@ pub returns-in-Ok-clause-failed : goal.returns-in-Ok-clause-failed
 returns-in-Ok-clause-failed g c = c.finish-machine.ensures.failed ∙ ap failures (c.statuses.ensures ∙ sym c.into_statuses.ensures)
 
 -- what was left to do for accesses, done where the pages have moved, is what accesses in flight do
-as_in_flight : (g : Over) (c : goal.After-into_statuses g)
+as_in_flight : (g : Over) (c : After-into_statuses g) → IsReadyFor c.prepare.new.self c.args.planned.requests.now.target c.moves-moves.result.now
+    → IsPhased c.of-run.result.state c.args.planned.requests.now.target c.moves-moves.result.now (accesses_shown {A = g.row.A.Denot} c.args.planned.accesses.now)
     → all_after_copy (state_in_flight c.begin-run.result.0 c.begin-run.result.1.items) (map pending_shown c.in-Ok.all_due.items)
     ≡ all_in_flight (with_moves c.of-run.result.state c.args.planned.requests.now.target c.moves-moves.result.now) (pages_of c.moves-moves.result.now) (accesses_shown {A = g.row.A.Denot} c.args.planned.accesses.now)
-as_in_flight g c =
-    let r = c.of-run.result.state in
+as_in_flight g c ready_now phased =
     let t = c.args.planned.requests.now.target in
-    let ws = c.args.planned.requests.now.wanted.items in
     let moves : List PageMove = c.moves-moves.result.now in
     let accesses : List Access = accesses_shown {A = g.row.A.Denot} c.args.planned.accesses.now in
-    let at = c.of-run.ensures.state in
     let touched = early_state c.of-run.result t moves accesses c.prepare.new.self c.in-Ok.all_due c.in-Ok.ensures.prepares in
     let told = early_dues c.of-run.result t moves accesses c.prepare.new.self c.in-Ok.all_due c.in-Ok.ensures.prepares in
-    let left = early_left c.of-run.result t moves accesses c.prepare.new.self c.in-Ok.all_due c.in-Ok.ensures.prepares in
-    let ready = (planned_phases r t moves accesses c.args.machine ws c.args.planned.plan at c.requires.plan c.moves-moves.ensures c.in-Ok.ensures.sound c.requires.target).1 in
-    let begun = c.begin-run.ensures.state t (ready_for c.prepare.new.self r c.args.machine t moves accesses at c.requires.target left touched ready.back ready.can) in
-    ap (λ (x : State). all_after_copy x (map pending_shown c.in-Ok.all_due.items)) begun
-    ∙ (λ i. all_after_copy (with_moves (with_fronts (touched i) t (frames_taken moves)) t moves) (told i)) ∙ sym ready.flight
+    ap (λ (x : State). all_after_copy x (map pending_shown c.in-Ok.all_due.items)) (c.begin-run.ensures.state t ready_now)
+    ∙ (λ i. all_after_copy (with_moves (with_fronts (touched i) t (frames_taken moves)) t moves) (told i)) ∙ sym phased.flight
 
 pub returns-in-Ok-clause-run : goal.returns-in-Ok-clause-run
 returns-in-Ok-clause-run g c =
@@ -141,18 +143,20 @@ returns-in-Ok-clause-run g c =
     let at = c.of-run.ensures.state in
     let plan : IsPlanOf r t ws c.args.planned.plan = subst (λ (s : State). IsPlanOf s t ws c.args.planned.plan) (sym at) c.requires.plan in
     let during = all_in_flight (with_moves r t moves) (pages_of moves) accesses in
+    let before = (goal.at.returns-in-Ok-clause-run g c).In-Ok in
+    let in_flight_now = as_in_flight g c (ready g before) (phases g before) in
     let landed = c.copy_beside-run.result.0 in
     let now = state_in_flight landed c.copy_beside-run.result.1.items in
     let state =
     c.finish-machine.ensures.state
     ∙ ap (λ n. with_counts (with_all_free now (frames_left landed.moves)) n (failures c.statuses.result.now)) (sym (length-map landed.moves (λ (t : PageMove). t.from)))
     ∙ run_state r t ws c.args.planned.plan moves accesses during plan c.moves-moves.ensures refl now (frames_left landed.moves) c.statuses.result.now
-    (c.copy_beside-run.ensures.state ∙ ap (λ (x : AccessResults). x.state) (as_in_flight g c))
+    (c.copy_beside-run.ensures.state ∙ ap (λ (x : AccessResults). x.state) in_flight_now)
     (ap (λ (x : Flight). frames_left x.moves) c.copy_beside-run.ensures.run ∙ ap frames_left c.begin-run.ensures.moves) c.statuses.ensures
     ∙ ap (λ (s : State). (run s t ws accesses).state) at in
     let answers =
     run_answers r t ws c.args.planned.plan moves accesses during plan c.moves-moves.ensures refl (map (answer_shown {A = g.row.A.Denot}) c.copy_beside-run.result.2.items)
-    (c.copy_beside-run.ensures.answers ∙ ap (λ (x : AccessResults). x.answers) (as_in_flight g c))
+    (c.copy_beside-run.ensures.answers ∙ ap (λ (x : AccessResults). x.answers) in_flight_now)
     ∙ ap (λ (s : State). (run s t ws accesses).answers) at in
     let statuses = c.into_statuses.ensures ∙ sym c.requires.plan.agrees.statuses in
     λ i. record { state = state i; statuses = statuses i; answers = answers i }
@@ -162,11 +166,12 @@ returns-in-Ok-clause-events g c =
     let moves : List PageMove = c.moves-moves.result.now in
     let asked = asked_by c.args.planned.requests.now c.args.planned.accesses.now in
     let at = c.of-run.ensures.state in
+    let before = (goal.at.returns-in-Ok-clause-events g c).In-Ok in
     let x = c.copy_beside-run.result.0 in
     let jobs = c.copy_beside-run.result.1.items in
     let run = c.copy_beside-run.ensures.run in
     let pairs : map pair_of jobs ≡ _ = ap (map pair_of) c.copy_beside-run.ensures.jobs ∙ still_pairs c.begin-run.result.1.items ∙ c.begin-run.ensures.pairs in
-    let shows = c.copy_beside-run.ensures.state ∙ ap (λ (d : AccessResults). d.state) (as_in_flight g c) ∙ ap (λ (s : State). (all_in_flight (with_moves s asked.target moves) (pages_of moves) asked.accesses).state) at in
+    let shows = c.copy_beside-run.ensures.state ∙ ap (λ (d : AccessResults). d.state) (as_in_flight g c (ready g before) (phases g before)) ∙ ap (λ (s : State). (all_in_flight (with_moves s asked.target moves) (pages_of moves) asked.accesses).state) at in
     let ended = subst (λ zs. EndsAs x jobs zs c.finish-machine.result.0) (c.statuses.ensures ∙ sym c.into_statuses.ensures) c.finish-machine.ensures.event in (
       x,
       c.copy_beside-run.result.1,

@@ -5,32 +5,25 @@ use Rattle.nm_types.specs.declared.errno.Errno.TheVariants.{Esrch}
 use Rattle.nm_types.specs.Map.{get}
 use Rattle.nm_model.specs.definitions.AreaRefusal.{stretch_refusal}
 use Rattle.nm_spaces.specs.views.AddressSpaces.{mapped_of}
+use Rattle.nm_engine.specs.views.Shown.{shown_by}
+use Rattle.nm_engine.specs.views.RunState.{IsSoundMachine}
 use Rattle.nm_engine.proofs.MidRun.AreaCalls.{known_there}
-use Rattle.nm_engine.proofs.MidRun.AreaChanges.{made_or_same, kept_same, kept_attached}
+use Rattle.nm_engine.proofs.MidRun.AreaChanges.{kept_either, kept_attached}
+use Rattle.nm_engine.proofs.machine.Machine.attach.Given.{Over}
+use Rattle.nm_engine.proofs.machine.Machine.attach.Goals.{After-attach}
 use Rattle.nm_engine.proofs.machine.Machine.attach.Goals as goal
 
-pub invariant_of-self : goal.invariant_of-self
-invariant_of-self g c =
+-- the machine is sound whether or not the area was made
+kept : (g : Over) (c : After-attach g)
+    → let i = c.self.inside in IsSoundMachine (shown_by c.attach.new.self i.frames i.online i.totals.moved i.totals.failed) i.frames.vacated c.attach.new.self.frames
+kept g c =
     let i = c.self.inside in
-    let known = known_there (get nat_cmp i.spaces.processes c.args.pid) c.info.result c.is_none.result c.info.ensures c.is_none.ensures c.if-is_none.false in
-    record {
-      kept =
-          made_or_same c.attach.result c.attach.ensures.done
-          (kept_same i.spaces c.attach.new.self i.frames i.online i.totals.moved i.totals.failed c.attach.ensures.same c.self.invariant.kept)
-          (λ fine. kept_attached i.spaces c.attach.new.self i.frames i.online i.totals.moved i.totals.failed c.attach.ensures.same c.self.invariant.kept c.args.pid c.args.addr c.args.segment c.args.offset c.args.pages c.self.invariant.none
-          (ap (λ b. if b then Some Esrch else stretch_refusal (mapped_of i.spaces) c.args.pid c.args.addr c.args.segment c.args.offset c.args.pages) known ∙ fine));
-      none = c.self.invariant.none;
-    }
+    kept_either i.spaces c.attach.new.self i.frames i.online i.totals.moved i.totals.failed c.attach.ensures.same c.self.invariant.kept c.attach.result c.attach.ensures.done
+    (λ fine. kept_attached i.spaces c.attach.new.self i.frames i.online i.totals.moved i.totals.failed c.attach.ensures.same c.self.invariant.kept c.args.pid c.args.addr c.args.segment c.args.offset c.args.pages c.self.invariant.none
+    (ap (λ b. if b then Some Esrch else stretch_refusal (mapped_of i.spaces) c.args.pid c.args.addr c.args.segment c.args.offset c.args.pages) (known_there (get nat_cmp i.spaces.processes c.args.pid) c.info.result c.is_none.result c.info.ensures c.is_none.ensures c.if-is_none.false) ∙ fine))
+
+pub invariant_of-self : goal.invariant_of-self
+invariant_of-self g c = record { kept = kept g (goal.at.invariant_of-self g c).After-attach; none = c.self.invariant.none }
 
 pub invariant_of-self-2 : goal.invariant_of-self-2
-invariant_of-self-2 g c =
-    let i = c.self.inside in
-    let known = known_there (get nat_cmp i.spaces.processes c.args.pid) c.info.result c.is_none.result c.info.ensures c.is_none.ensures c.if-is_none.false in
-    record {
-      kept =
-          made_or_same c.attach.result c.attach.ensures.done
-          (kept_same i.spaces c.attach.new.self i.frames i.online i.totals.moved i.totals.failed c.attach.ensures.same c.self.invariant.kept)
-          (λ fine. kept_attached i.spaces c.attach.new.self i.frames i.online i.totals.moved i.totals.failed c.attach.ensures.same c.self.invariant.kept c.args.pid c.args.addr c.args.segment c.args.offset c.args.pages c.self.invariant.none
-          (ap (λ b. if b then Some Esrch else stretch_refusal (mapped_of i.spaces) c.args.pid c.args.addr c.args.segment c.args.offset c.args.pages) known ∙ fine));
-      none = c.self.invariant.none;
-    }
+invariant_of-self-2 g c = record { kept = kept g (goal.at.invariant_of-self-2 g c).After-attach; none = c.self.invariant.none }

@@ -10,13 +10,13 @@ use Rattle.nm_types.specs.State.{State}
 use Rattle.nm_engine.specs.views.Shown.{state_of_parts}
 use Rattle.nm_model.specs.definitions.Seen.{frame_seen}
 use Rattle.nm_engine.proofs.Does.Touches.{touch_is}
-use Rattle.nm_laws.proofs.Seen.Frames.{page_of_frame, place_in_range}
 use Rattle.nm_engine.proofs.Shown.Reads.{reads_frame, reads_zeros}
 use Rattle.nm_engine.proofs.machine.Machine.read.Goals.{in-Some, in-None}
 use Rattle.nm_spaces.specs.views.AddressSpaces.{table_of}
 use Rattle.nm_engine.specs.views.Shown.{paged_frames, shown_by}
 use Rattle.nm_engine.specs.definitions.Does.{Accesses}
 use Rattle.nm_engine.proofs.Does.HandedOn.{read_handed_on}
+use Rattle.nm_engine.proofs.Shown.PopulatedFrames.{seen_frame}
 use Rattle.nm_engine.proofs.machine.Machine.read.Goals as goal
 
 pub invariant_of-self : goal.invariant_of-self
@@ -26,12 +26,7 @@ pub invariant_of-self-2 : goal.invariant_of-self-2
 invariant_of-self-2 g c = let i = c.self.inside in record { kept = c.touch.ensures.kept i.totals.moved i.totals.failed; none = c.touch.ensures.left ∙ c.self.invariant.none }
 
 pub read-requires-clause-frame : goal.read-requires-clause-frame
-read-requires-clause-frame g c =
-    let i = c.self.inside in
-    let y = c.touch.new.spaces in
-    let k = c.touch.new.frames in
-    let page = page_of_frame y.place _ c.in-Some.frame (sym c.in_ok-touched.ensures.frame ∙ c.in-Some.is) in
-    place_in_range (state_of_parts y.processes (table_of y) (paged_frames y k) i.online i.totals.moved i.totals.failed) _ page.0 c.in-Some.frame (c.touch.ensures.kept i.totals.moved i.totals.failed).sound page.2
+read-requires-clause-frame g c = (seen_frame c.touch.new.spaces c.touch.new.frames c.self.inside.online c.touch.ensures.kept _ c.in-Some.frame (sym c.in_ok-touched.ensures.frame ∙ c.in-Some.is)).0
 
 pub returns-clause-answer : goal.returns-clause-answer
 returns-clause-answer g c =

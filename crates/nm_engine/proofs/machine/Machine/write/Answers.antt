@@ -6,14 +6,12 @@ use Rattle.nm_types.specs.State.{State}
 use Rattle.nm_pool.specs.views.Frames.{FramesView}
 use Rattle.nm_model.specs.definitions.Touch.{AccessResult, touch, touch_site, write, write_after}
 use Rattle.nm_engine.specs.views.RunState.{IsSoundMachine}
-use Rattle.nm_engine.specs.views.Shown.{state_of_parts}
 use Rattle.nm_model.specs.definitions.Seen.{frame_seen}
 use Rattle.nm_engine.proofs.Does.Touches.{touch_is, written_is, written_kept}
-use Rattle.nm_laws.proofs.Seen.Frames.{page_of_frame, place_in_range}
 use Rattle.nm_spaces.specs.views.AddressSpaces.{table_of}
 use Rattle.nm_engine.specs.views.Shown.{paged_frames, shown_by}
 use Rattle.nm_engine.proofs.Shown.BothParts.{kept_stocked}
-use Rattle.nm_engine.proofs.Shown.PopulatedFrames.{place_populated}
+use Rattle.nm_engine.proofs.Shown.PopulatedFrames.{seen_frame}
 use Rattle.nm_engine.specs.definitions.Does.{AsksLast}
 use Rattle.nm_engine.proofs.Does.HandedOn.{memory_handed_on}
 use Rattle.nm_engine.proofs.machine.Machine.write.Goals as goal
@@ -25,19 +23,10 @@ pub invariant_of-self : goal.invariant_of-self
 invariant_of-self g c = let i = c.self.inside in record { kept = c.touch.ensures.kept i.totals.moved i.totals.failed; none = c.touch.ensures.left ∙ c.self.invariant.none }
 
 pub write-requires-clause-frame : goal.write-requires-clause-frame
-write-requires-clause-frame g c =
-    let i = c.self.inside in
-    let y = c.touch.new.spaces in
-    let k = c.touch.new.frames in
-    let page = page_of_frame y.place _ c.in-Some.frame (sym c.in_ok-touched.ensures.frame ∙ c.in-Some.is) in
-    place_in_range (state_of_parts y.processes (table_of y) (paged_frames y k) i.online i.totals.moved i.totals.failed) _ page.0 c.in-Some.frame (c.touch.ensures.kept i.totals.moved i.totals.failed).sound page.2
+write-requires-clause-frame g c = (seen_frame c.touch.new.spaces c.touch.new.frames c.self.inside.online c.touch.ensures.kept _ c.in-Some.frame (sym c.in_ok-touched.ensures.frame ∙ c.in-Some.is)).0
 
 pub write-requires-clause-populated : goal.write-requires-clause-populated
-write-requires-clause-populated g c =
-    let i = c.self.inside in
-    let y = c.touch.new.spaces in
-    let page = page_of_frame y.place _ c.in-Some.frame (sym c.in_ok-touched.ensures.frame ∙ c.in-Some.is) in
-    place_populated c.touch.new.frames.frames y.place page.0 c.in-Some.frame (c.touch.ensures.kept i.totals.moved i.totals.failed).sound.bytes.whole page.2
+write-requires-clause-populated g c = (seen_frame c.touch.new.spaces c.touch.new.frames c.self.inside.online c.touch.ensures.kept _ c.in-Some.frame (sym c.in_ok-touched.ensures.frame ∙ c.in-Some.is)).1
 
 pub invariant_of-self-2 : goal.invariant_of-self-2
 invariant_of-self-2 g c =

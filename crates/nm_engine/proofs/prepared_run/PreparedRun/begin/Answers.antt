@@ -22,14 +22,24 @@ use Rattle.nm_pool.specs.views.Copies.{CanCopy, HasBoth, without_moves, jobs_of,
 use Rattle.nm_pool.specs.views.Frames.{FramesView}
 use Rattle.nm_pool.proofs.Copies.Copied.{tickets_from}
 use Rattle.nm_pool.proofs.Copies.Populated.{after_populated}
-use Rattle.nm_engine.specs.views.Flights.{pair_of}
+use Rattle.nm_engine.specs.views.Flights.{IsReadyFor, pair_of}
 use Rattle.nm_engine.specs.views.RunState.{RunState, IsSoundMachine}
 use Rattle.nm_engine.specs.views.Shown.{shown_by}
 use Rattle.nm_engine.specs.views.Spaces.{spaces_of}
-use Rattle.nm_engine.proofs.InFlight.AllAtOnce.{prepared, lefts_populated, both_whole, remap, can_copy, can_meanwhile, finished_shows, finished_kept}
+use Rattle.nm_engine.proofs.InFlight.AllAtOnce.{IsPrepared, prepared, lefts_populated, both_whole, remap, can_copy, can_meanwhile, finished_shows, finished_kept}
 use Rattle.nm_engine.proofs.InFlight.Flights.{once_home, home_is, can_home, whole_then}
 use Rattle.nm_engine.proofs.InFlight.Moments.{begins, pages_of}
+use Rattle.nm_engine.proofs.prepared_run.PreparedRun.begin.Given.{Over}
+use Rattle.nm_engine.proofs.prepared_run.PreparedRun.begin.Goals.{After-vacate_each}
 use Rattle.nm_engine.proofs.prepared_run.PreparedRun.begin.Goals as goal
+
+-- what the beginning of the run stands on
+all_there : (g : Over) (c : After-vacate_each g) (target : ℕ) → IsReadyFor c.args.self target c.args.moves.now
+    → let i = c.self.inside in IsPrepared i.spaces i.frames i.online i.totals.moved i.totals.failed target c.args.moves.now []
+all_there g c target ready =
+    let i = c.self.inside in
+    prepared i.spaces i.frames i.online i.totals.moved i.totals.failed target c.args.moves.now [] c.args.self c.self.view_is c.self.invariant c.vacate_each.ensures.whole
+    ready.node ready.taken ready.sound ready.can tt c.vacate_each.ensures.populated
 
 pub vacate_each-requires-clause-populated : goal.vacate_each-requires-clause-populated
 vacate_each-requires-clause-populated g c =
@@ -37,37 +47,25 @@ vacate_each-requires-clause-populated g c =
     let r = c.requires.ready in
     lefts_populated i.spaces i.frames i.online i.totals.moved i.totals.failed r.0 c.args.moves.now [] c.args.self c.self.view_is r.1.sound r.1.can
 
-pub take_out-frames-requires-clause-can : goal.take_out-frames-requires-clause-can
-take_out-frames-requires-clause-can g c =
+pub take_out-frames-requires : goal.take_out-frames-requires
+take_out-frames-requires g c =
     let i = c.self.inside in
     let r = c.requires.ready in
     let moves = c.args.moves.now in
-    let h = prepared i.spaces i.frames i.online i.totals.moved i.totals.failed r.0 moves [] c.args.self c.self.view_is c.self.invariant c.vacate_each.ensures.whole
-    r.1.node r.1.taken r.1.sound r.1.can tt c.vacate_each.ensures.populated in
-    subst (λ (v : FramesView). CanCopy v.frames moves) (sym c.vacate_each.ensures.vacated) (can_copy i.spaces i.frames i.online i.totals.moved i.totals.failed r.0 moves [] h)
-
-pub take_out-frames-requires-clause-populated : goal.take_out-frames-requires-clause-populated
-take_out-frames-requires-clause-populated g c =
-    let i = c.self.inside in
-    let r = c.requires.ready in
-    let moves = c.args.moves.now in
-    let h = prepared i.spaces i.frames i.online i.totals.moved i.totals.failed r.0 moves [] c.args.self c.self.view_is c.self.invariant c.vacate_each.ensures.whole
-    r.1.node r.1.taken r.1.sound r.1.can tt c.vacate_each.ensures.populated in
-    subst (λ (v : FramesView). AllByRecursion (HasBoth v.frames) moves) (sym c.vacate_each.ensures.vacated) (both_whole i.spaces i.frames i.online i.totals.moved i.totals.failed r.0 moves [] h)
-
-pub take_out-frames-requires-clause-few : goal.take_out-frames-requires-clause-few
-take_out-frames-requires-clause-few g c =
-    let same = ap (λ (v : FramesView). v.room) c.vacate_each.ensures.vacated in
-    let room = ap (λ (x : RunState). x.room) c.self.view_is in
-    omega (arith, same, room, c.requires.few)
+    let h = all_there g (goal.at.take_out-frames-requires g c).After-vacate_each r.0 r.1 in
+    let vacated = c.vacate_each.ensures.vacated in
+    record {
+      can = subst (λ (v : FramesView). CanCopy v.frames moves) (sym vacated) (can_copy i.spaces i.frames i.online i.totals.moved i.totals.failed r.0 moves [] h);
+      populated = subst (λ (v : FramesView). AllByRecursion (HasBoth v.frames) moves) (sym vacated) (both_whole i.spaces i.frames i.online i.totals.moved i.totals.failed r.0 moves [] h);
+      few = omega (arith, ap (λ (v : FramesView). v.room) vacated, ap (λ (x : RunState). x.room) c.self.view_is, c.requires.few);
+    }
 
 pub hold-requires : goal.hold-requires
 hold-requires g c =
     let i = c.self.inside in
     let r = c.requires.ready in
     let moves = c.args.moves.now in
-    let h = prepared i.spaces i.frames i.online i.totals.moved i.totals.failed r.0 moves [] c.args.self c.self.view_is c.self.invariant c.vacate_each.ensures.whole
-    r.1.node r.1.taken r.1.sound r.1.can tt c.vacate_each.ensures.populated in
+    let h = all_there g (goal.at.hold-requires g c).After-vacate_each r.0 r.1 in
     record { moves = remap i.spaces i.frames i.online i.totals.moved i.totals.failed r.0 moves [] h }
 
 pub invariant_of-run : goal.invariant_of-run
@@ -76,8 +74,7 @@ invariant_of-run g c =
     let r = c.requires.ready in
     let y = i.spaces in
     let moves = c.args.moves.now in
-    let h = prepared i.spaces i.frames i.online i.totals.moved i.totals.failed r.0 moves [] c.args.self c.self.view_is c.self.invariant c.vacate_each.ensures.whole
-    r.1.node r.1.taken r.1.sound r.1.can tt c.vacate_each.ensures.populated in
+    let h = all_there g (goal.at.invariant_of-run g c).After-vacate_each r.0 r.1 in
     let can = remap i.spaces i.frames i.online i.totals.moved i.totals.failed r.0 moves [] h in
     record {
       entries = c.hold.ensures.entries;
@@ -100,8 +97,7 @@ returns-clause-state g c target ready =
     let i = c.self.inside in
     let k : FramesView = i.frames in
     let moves = c.args.moves.now in
-    let h = prepared i.spaces i.frames i.online i.totals.moved i.totals.failed target moves [] c.args.self c.self.view_is c.self.invariant c.vacate_each.ensures.whole
-    ready.node ready.taken ready.sound ready.can tt c.vacate_each.ensures.populated in
+    let h = all_there g (goal.at.returns-clause-state g c).After-vacate_each target ready in
     let w : FramesView = c.take_out-frames.result.0 in
     let jobs = c.take_out-frames.result.1.items in
     let is = once_home {A = g.row.A.Denot} k c.vacate_each.new.self w moves jobs c.vacate_each.ensures.vacated c.take_out-frames.ensures.frames c.take_out-frames.ensures.jobs
@@ -120,8 +116,7 @@ returns-clause-out g c =
     let k : FramesView = i.frames in
     let r = c.requires.ready in
     let moves = c.args.moves.now in
-    let h = prepared i.spaces i.frames i.online i.totals.moved i.totals.failed r.0 moves [] c.args.self c.self.view_is c.self.invariant c.vacate_each.ensures.whole
-    r.1.node r.1.taken r.1.sound r.1.can tt c.vacate_each.ensures.populated in
+    let h = all_there g (goal.at.returns-clause-out g c).After-vacate_each r.0 r.1 in
     let can = can_copy i.spaces i.frames i.online i.totals.moved i.totals.failed r.0 moves [] h in
     let v : FramesView = c.vacate_each.new.self in
     let w : FramesView = c.take_out-frames.result.0 in
