@@ -1,8 +1,7 @@
 -- How far the runs of a batch have come.
-use Rattle.std.proofs.Common.{arith, ◌≡◌, ℕ, suc, ℤ, ◌+◌, ◌<◌, ◌≤◌, List, [], ◌∷◌, ◌++◌, length, take, drop, refl, sym, ap, ◌∙◌, append_assoc, slice_index_or}
+use Rattle.std.proofs.Common.{arith, ◌≡◌, ℕ, suc, ℤ, ◌+◌, ◌<◌, ◌≤◌, List, [], ◌∷◌, ◌++◌, length, take, refl, sym, ap, ◌∙◌, append_assoc}
 use Rattle.std.proofs.lemmas.Grind.{common_steps}
 use Rattle.std.proofs.lemmas.List.Sums.{sum_by-cons}
-use Rattle.std.proofs.Math.Seq.{drop-cons}
 use Rattle.std.specs.List.{sum_by}
 use Rattle.std.specs.Prelude.{◌-◌}
 use Rattle.nm_types.specs.State.{State}
@@ -51,12 +50,6 @@ all_run start all left during k s statuses answers e h = (
 -- the state after the first `k` runs
 pub some_run : (start : State) (all left : List Stretch) (during : List (ℕ × Access)) (k : ℕ) (s : State) (statuses : List ℤ) (answers : List (List AccessAnswer)) → HaveRun start all left during k s statuses answers → s ≡ (runs_from 0 start (take k all) during).state
 some_run start all left during k s statuses answers h = h.front_is 0 ∙ ap (λ j. (runs_from 0 start (take j all) during).state) (omega arith)
-
--- the first of the runs that are left, and those after it
-pub next_left : {A : Type 0} (runs : List (Run A)) (k : ℕ) (run : Run A) → k < length runs → run ≡ slice_index_or runs k run → drop k runs ≡ run ∷ drop (k + 1) runs
-next_left runs k run lt is =
-    let n : suc k ≡ k + 1 = omega arith in
-    drop-cons runs k run lt ∙ ap (λ r. r ∷ drop (suc k) runs) (sym is) ∙ ap (λ n. run ∷ drop n runs) n
 
 -- before the last of them
 pub not_last : {A : Type 0} (runs : List (Run A)) (k : ℕ) → k < length runs → k ≤ length (stretches_of runs) - 1

@@ -23,10 +23,6 @@ pub on_err : {T E P : Type 0} (r : Result T E) → P → OnErr r P
 on_err (Ok value) p = tt
 on_err (Err e) p = p
 
-pub err_more : {T E P Q : Type 0} (r : Result T E) → (P → Q) → OnErr r P → OnErr r Q
-err_more (Ok value) more p = tt
-err_more (Err e) more p = more p
-
 -- a list that takes memory has room for some
 pub takes_some : (n : ℕ) → (n ≡ 0 → false ≡ true) → 0 < n
 takes_some zero h = let e = h refl in absurd (cc)

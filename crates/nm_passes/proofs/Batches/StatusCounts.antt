@@ -10,16 +10,15 @@ use Rattle.nm_types.specs.declared.errno.Errno.TheVariants.{Ebusy, Enomem}
 use Rattle.nm_types.specs.declared.sight.Sight.{Sight}
 use Rattle.nm_types.specs.declared.sight.Sight.TheVariants.{ZeroPage, Sees}
 use Rattle.nm_types.specs.declared.page.Page.{Page}
-use Rattle.nm_types.specs.State.{State, free_list}
-use Rattle.nm_types.specs.declared.request.Class.{Class}
-use Rattle.nm_types.specs.declared.request.Class.TheVariants.{Status, Move}
+use Rattle.nm_types.specs.State.{State}
 use Rattle.nm_types.specs.declared.request.Wanted.{Wanted}
-use Rattle.nm_model.specs.definitions.Status.{code, status_or_move}
+use Rattle.nm_model.specs.definitions.Status.{code}
 use Rattle.nm_model.specs.definitions.Seen.{sight_at}
 use Rattle.nm_model.specs.definitions.Touch.{Access, Read, Write, Held, AccessResult, access, touch, read_after, write_after, with_bytes}
 use Rattle.nm_model.specs.definitions.Touch.{is_held, site_of_access, access_during, all_in_flight}
 use Rattle.nm_laws.proofs.Early.Seen.{Shows, touch_shows}
-use Rattle.nm_model.specs.definitions.Run.{one_request, each_request, run, decision, moved_page, with_free, with_all_free, frames_left, failures}
+use Rattle.nm_model.specs.definitions.Run.{one_request, each_request, run, with_free, with_all_free, frames_left, failures}
+use Rattle.nm_laws.proofs.Seen.Rewritten.{requests_keep}
 
 -- whether a status is that of a failed request
 abbrev is_failure : ℤ → Bool
@@ -42,17 +41,8 @@ each_length s target (w ∷ ws) = ap suc (each_length (one_request s target w).s
 pub run_length : (s : State) (target : ℕ) (ws : List Wanted) (accesses : List Access) → length (run s target ws accesses).statuses ≡ length ws
 run_length s target ws accesses = each_length s target ws
 
-moved_layout : (s : State) (target : ℕ) (page : Page) (from : ℕ) (free : List ℕ) → (moved_page s target page from free).state.layout ≡ s.layout
-moved_layout s target page from [] = refl
-moved_layout s target page from (frame ∷ rest) = refl
-
-decided_layout : (s : State) (target : ℕ) (class : Class) → (decision s target class).state.layout ≡ s.layout
-decided_layout s target (Status status) = refl
-decided_layout s target (Move page from) = moved_layout s target page from (free_list s target)
-
 pub each_layout : (s : State) (target : ℕ) (ws : List Wanted) → (each_request s target ws).state.layout ≡ s.layout
-each_layout s target [] = refl
-each_layout s target (w ∷ ws) = each_layout (one_request s target w).state target ws ∙ decided_layout s target (status_or_move s target w)
+each_layout = requests_keep (λ s. s.layout) (λ s target page from frame rest. refl)
 
 freed_layout : (s : State) (frames : List ℕ) → (with_all_free s frames).layout ≡ s.layout
 freed_layout s [] = refl

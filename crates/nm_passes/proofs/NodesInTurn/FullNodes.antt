@@ -1,5 +1,5 @@
 -- Passes over nodes that have no free frame.
-use Rattle.std.proofs.Common.{arith, ⊎_elim, ◌≡◌, ℕ, zero, suc, ℤ, ◌+◌, ◌*◌, ◌<◌, ◌≤◌, Bool, true, false, not, ◌&&◌, ◌||◌, cond, List, [], ◌∷◌, ◌++◌, length, map, take, drop, refl, sym, ap, subst, ◌∙◌, length-append, length-drop, take-append-drop, suc-mul, mul-le-mul_right}
+use Rattle.std.proofs.Common.{arith, ⊎_elim, ◌≡◌, ℕ, zero, suc, ℤ, ◌+◌, ◌*◌, ◌<◌, ◌≤◌, Bool, true, false, not, ◌&&◌, ◌||◌, cond, List, [], ◌∷◌, ◌++◌, length, map, drop, refl, sym, ap, subst, ◌∙◌, length-append, length-drop, suc-mul, mul-le-mul_right}
 use Rattle.std.proofs.lemmas.List.{length-map, append-nil, map-append, get_or-set_other, drop_all}
 use Rattle.std.proofs.lemmas.Bool.{eq-eqb, cases_lt}
 use Rattle.std.proofs.lemmas.Grind.{div_ceil_times}
@@ -29,6 +29,7 @@ use Rattle.nm_laws.proofs.InFlight.Elsewhere.{IsElsewhere, status_elsewhere}
 use Rattle.nm_passes.specs.definitions.Passes.{short_of_frames}
 use Rattle.nm_passes.specs.laws.Full.{StandsOn, WouldMove, pass, rounded_up, FullNodeTakesNone, LeftWouldMove, MovesElsewhere, RunsGoByLength, NextPassTakesNone}
 use Rattle.nm_passes.proofs.Batches.StatusCounts.{each_layout, run_length}
+use Rattle.nm_runs.proofs.Pieces.{pieces_joined}
 
 -- the status of a page that does not move is not that of one without a frame
 abbrev IsOther : Class → Type 0
@@ -226,21 +227,12 @@ pass_runs limit node [] = refl
 pass_runs limit node (w ∷ ws) =
     ap (flat_map (pieces_within limit)) (cut_one node w ws) ∙ append-nil (pieces_within limit (record { target = node; wanted = w ∷ ws }))
 
--- the pieces of a list are all of it
-pieces_flat : (limit : ℕ) (ws : List Wanted) (n : ℕ) → 0 < limit → length ws ≤ n → flat (pieces_in limit ws n) ≡ ws
-pieces_flat limit [] n some enough = refl
-pieces_flat limit (w ∷ ws) zero some enough = let z : ⊥ = omega (arith, enough) in absurd z
-pieces_flat limit (w ∷ ws) (suc n) some enough =
-    let len = length-drop limit (w ∷ ws) in
-    let rest : length (drop limit (w ∷ ws)) ≤ n = omega (arith, len, some, enough) in
-    ap (λ vs. take limit (w ∷ ws) ++ vs) (pieces_flat limit (drop limit (w ∷ ws)) n some rest) ∙ take-append-drop limit (w ∷ ws)
-
 pass_waits : (limit : ℕ) (s : State) (node : ℕ) (ws : List Wanted) → 0 < limit → AllByRecursion (Waits (pass limit s node ws).state node) (short_of_frames ws (pass limit s node ws).statuses)
 pass_waits limit s node ws some =
     let made = runs_from 0 s (to_node node (pieces limit ws)) [] in
     let enough : length ws ≤ length ws = omega arith in
     subst (λ rs. AllByRecursion (Waits (runs_from 0 s rs []).state node) (short_of_frames ws (runs_from 0 s rs []).statuses)) (sym (pass_runs limit node ws))
-    (subst (λ vs. AllByRecursion (Waits made.state node) (short_of_frames vs made.statuses)) (pieces_flat limit ws (length ws) some enough) (runs_wait 0 s node (pieces limit ws)))
+    (subst (λ vs. AllByRecursion (Waits made.state node) (short_of_frames vs made.statuses)) (pieces_joined limit ws (length ws) some enough) (runs_wait 0 s node (pieces limit ws)))
 
 pub left_would_move : LeftWouldMove
 left_would_move limit s node ws some =
@@ -306,7 +298,7 @@ each_fails s node (w ∷ ws) none h =
     ap (then_each node ws) short ∙ ap add (each_fails s node ws none h.1)
 
 -- what follows the requests of a run
-abbrev then_run : Progress → RunResult
+abbrev pub then_run : Progress → RunResult
 then_run moves =
     record {
       state = with_counts (with_all_free moves.state (frames_left moves.taken)) (length moves.taken) (failures moves.statuses);
@@ -370,7 +362,7 @@ full_node_takes_none limit s node wanted some has none h =
     let enough : length wanted ≤ length wanted = omega arith in
     let fail : Fail s (length wanted) wanted (pass limit s node wanted) =
     subst (λ rs. Fail s (length wanted) wanted (runs_from 0 s rs [])) (sym (pass_runs limit node wanted))
-    (pieces_fail s node wanted (pieces limit wanted) (pieces_flat limit wanted (length wanted) some enough) has none h) in
+    (pieces_fail s node wanted (pieces limit wanted) (pieces_joined limit wanted (length wanted) some enough) has none h) in
     (fail.0, ap (short_of_frames wanted) fail.1 ∙ all_left wanted)
 
 pub next_pass_takes_none : NextPassTakesNone

@@ -13,7 +13,6 @@ use Rattle.nm_runs.proofs.Pieces.{each_limit_cuts}
 use Rattle.std.specs.Prelude.{◌^◌, ◌==◌, drop}
 use Rattle.std.proofs.lemmas.Bool.{eqb-true, eq-eqb, cases_lt}
 use Rattle.nm_types.proofs.Cases.{true_false}
-use Rattle.std.proofs.Math.Seq.{drop-cons}
 use Rattle.nm_model.specs.definitions.Run.{run, moves_all, HasOneAll}
 use Rattle.nm_model.specs.definitions.Run.{runs_from}
 use Rattle.nm_passes.specs.definitions.Moves.{states_of}
@@ -24,6 +23,7 @@ use Rattle.nm_passes.specs.definitions.Moves.{LacksMemory}
 use Rattle.nm_passes.specs.views.Runs.{Stops, IsCounted, later}
 use Rattle.nm_passes.proofs.Batches.StatusCounts.{run_layout, run_length}
 use Rattle.nm_passes.proofs.Trails.{states_are}
+use Rattle.nm_laws.proofs.Lists.{drop_item}
 
 -- the state after runs, whatever their numbers
 numbered : (j k : ℕ) (s : State) (rs : List Stretch) → (runs_from j s rs []).state ≡ (runs_from k s rs []).state
@@ -231,7 +231,4 @@ something_is n m e h = ⊎_elim (λ (none : n < 1). let zero_is : n ≡ 0 = omeg
 pub passes_at : (limit : ℕ) (s : State) (nodes : List ℕ) (k : ℕ) (node : ℕ) (ws : List Wanted) → k < length nodes → node ≡ slice_index_or nodes k node
     → passes limit s (drop k nodes) ws
     ≡ cut_within limit (all_to node ws) ++ passes limit (runs_from 0 s (cut_within limit (all_to node ws)) []).state (drop (k + 1) nodes) (short_of_frames ws (runs_from 0 s (cut_within limit (all_to node ws)) []).statuses)
-passes_at limit s nodes k node ws lt is =
-    let n : suc k ≡ k + 1 = omega arith in
-    let next : drop k nodes ≡ node ∷ drop (k + 1) nodes = drop-cons nodes k node lt ∙ ap (λ r. r ∷ drop (suc k) nodes) (sym is) ∙ ap (λ n. node ∷ drop n nodes) n in
-    ap (λ ns. passes limit s ns ws) next
+passes_at limit s nodes k node ws lt is = ap (λ ns. passes limit s ns ws) (drop_item nodes k node lt is)

@@ -16,7 +16,8 @@ use Rattle.nm_passes.proofs.Accesses.Loops.{list_there}
 use Rattle.nm_passes.proofs.Accesses.Lent.{one_lent, lent_shown}
 use Rattle.nm_passes.proofs.Batches.Results.{none_ran, on_err, takes_some}
 use Rattle.nm_passes.proofs.Trails.{states_are}
-use Rattle.nm_passes.proofs.Batches.Progress.{HaveRun, none_run, one_more_run, some_run, all_run, next_left, entries_left, not_last}
+use Rattle.nm_passes.proofs.Batches.Progress.{HaveRun, none_run, one_more_run, some_run, all_run, entries_left, not_last}
+use Rattle.nm_laws.proofs.Lists.{drop_item}
 use Rattle.nm_passes.proofs.batch.move_runs.Goals as goal
 
 some_first : (a b : ℕ) → 0 < a → 0 < a + b
@@ -95,7 +96,7 @@ pub unwrap-requires : goal.unwrap-requires
 unwrap-requires g c =
     let asked = c.index-runs-k.result in
     let n = ap length c.as_slice-in-loop-k.ensures.value ∙ ap (λ (r : RunResult). length r.statuses) c.in-Ok.ensures.run ∙ run_length c.loop-k.machine asked.target asked.wanted.items (map one_lent c.as_slice.result.now) in
-    let left = entries_left _ _ asked (next_left c.args.runs.now c.loop-k.k asked c.loop-k-test.true c.index-runs-k.is) in
+    let left = entries_left _ _ asked (drop_item c.args.runs.now c.loop-k.k asked c.loop-k-test.true c.index-runs-k.is) in
     c.extend_from_slice.ensures.succeeds (fits_in _ _ _ _ _ _ _ c.loop-k.statuses.ok.0 n left c.loop-k.invariant.room)
 
 pub overflow_add-failed : goal.overflow_add-failed
@@ -122,7 +123,7 @@ loop-k-preserved g c =
     let these : map one_lent c.as_slice.result.now ≡ own =
     ap (map one_lent) c.as_slice.ensures.value
     ∙ sym (list_there shown c.in_ok-accesses.accesses.items c.loop-k.k c.index.result.now there c.index.ensures) ∙ lists.1 c.loop-k.k few in
-    let next = next_left runs c.loop-k.k asked few c.index-runs-k.is in
+    let next = drop_item runs c.loop-k.k asked few c.index-runs-k.is in
     let left = entries_left _ _ asked next in
     let whole = c.in-Ok.ensures.run ∙ ap (λ xs. run s asked.target asked.wanted.items xs) these in
     let state = ap (λ (r : RunResult). r.state) whole in

@@ -4,9 +4,7 @@ use Rattle.nm_passes.proofs.Policies.Nodes.{tried_few}
 use Rattle.nm_passes.proofs.placement.by_distance.Goals as goal
 
 pub prove-unreachable-requires : goal.prove-unreachable-requires
-prove-unreachable-requires g c =
-    let few = set_is_few c.online-online.result c.len.ensures.nodes in
-    omega (arith, few, c.len.ensures.count, c.if-prove.true)
+prove-unreachable-requires g c = omega (arith, set_is_few c.online-online.result c.len.ensures.nodes, c.len.ensures.count, c.if-prove.true)
 
 pub returns-clause-few : goal.returns-clause-few
 returns-clause-few g c =

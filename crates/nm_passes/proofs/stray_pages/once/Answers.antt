@@ -1,6 +1,7 @@
-use Rattle.std.proofs.Common.{◌≡◌, suc, ◌+◌, List, [], ◌∷◌, length, drop, drop-cons, ap, sym, subst, ◌∙◌, arith, length-append}
+use Rattle.std.proofs.Common.{◌+◌, List, [], ◌∷◌, length, drop, ap, sym, subst, ◌∙◌, arith, length-append}
 use Rattle.nm_types.specs.declared.located_page.LocatedPage.{LocatedPage}
 use Rattle.nm_passes.proofs.Policies.StrayPages.{HaveListed, one_listed, one_again, not_true, not_false}
+use Rattle.nm_laws.proofs.Lists.{drop_item}
 use Rattle.nm_passes.proofs.stray_pages.once.Goals as goal
 use Rattle.nm_passes.proofs.stray_pages.once.Goals.{then-branch+in_ok-push, else-branch}
 
@@ -10,8 +11,7 @@ loop-page-preserved g c =
     let k = c.loop-page.page-index in
     let x = c.page-item.result in
     let inv = c.loop-page.invariant in
-    let more : suc k ≡ k + 1 = omega arith in
-    let some = drop-cons all k x c.loop-page-test.true ∙ ap (λ (y : LocatedPage). y ∷ drop (suc k) all) (sym c.page-item.is) ∙ ap (λ j. x ∷ drop j all) more in
+    let some = drop_item all k x c.loop-page-test.true c.page-item.is in
     elim c.if-branch.branch [
       | then-branch+in_ok-push w ↦
           let first = not_true _ (sym c.in_ok-insert.ensures.added ∙ w.if-branch.true) in

@@ -1,8 +1,9 @@
 use Rattle.std.proofs.Common.{◌<◌, arith, ap, ◌∙◌}
+use Rattle.std.proofs.lemmas.Result.{on_err_weaker}
 use Rattle.nm_types.specs.Layout.{node_count}
 use Rattle.nm_runs.specs.Stretches.{stretches_of}
 use Rattle.nm_passes.specs.definitions.Placement.{each_to}
-use Rattle.nm_passes.proofs.Batches.Results.{none_batched, batch_given, err_more}
+use Rattle.nm_passes.proofs.Batches.Results.{none_batched, batch_given}
 use Rattle.nm_passes.proofs.Batches.Requests.{run_targets, run_entries, runs_like, some_runs}
 use Rattle.nm_passes.proofs.Policies.Moves.{asked_all, turns_alike}
 use Rattle.nm_passes.proofs.Policies.SentPages.{sent_length}
@@ -40,4 +41,4 @@ returns-clause-allocates g c =
     let x = c.args in
     let len = sent_length x.pid x.all x.sent.now in
     let runs = ap stretches_of c.as_slice.ensures.value ∙ c.in_ok-runs.ensures.runs in
-    err_more c.make_runs.result (λ some. omega (arith, len, some_runs x.limit (each_to x.pid x.all x.sent.now) c.as_slice.result.now c.requires.some runs some)) c.make_runs.ensures.allocates
+    on_err_weaker c.make_runs.result (λ some. omega (arith, len, some_runs x.limit (each_to x.pid x.all x.sent.now) c.as_slice.result.now c.requires.some runs some)) c.make_runs.ensures.allocates
