@@ -1,13 +1,14 @@
 -- A call that is refused leaves the system as it was.
 use Rattle.std.proofs.Common.{◌≡◌, ℕ, Bool, true, false, Option, Some, None, refl, ap, sym, inl, inr, ◌∙◌}
 use Rattle.std.proofs.lemmas.Bool.{true≢false}
+use Rattle.std.specs.Option.{is_some}
 use Rattle.nm_types.specs.declared.errno.Errno.{Errno}
 use Rattle.nm_model.specs.definitions.Touch as engine
 use Rattle.nm_model.specs.definitions.Touch.{read, write}
 use Rattle.nm_model.specs.definitions.Run.{RunResult}
 use Rattle.nm_model.specs.definitions.Run.{runs_from}
 use Rattle.nm_requests.specs.Calls.{Call, Spawn, MapPages, Attach, Unmap, Exit, Pin, Unpin, ReadBytes, WriteBytes, MovePages, MigratePages, Query, FreeList, Pagemap, Vmstat, NumaMaps, Mbind, Offline, Online}
-use Rattle.nm_calls.specs.definitions.Answers.{Answer, Refusal, Done, Held, Failed, NewSegment, TheBytes, Statuses, Frames, Entries, TheTotals, Lines}
+use Rattle.nm_calls.specs.definitions.Answers.{Answer, Refusal, Done, Failed, NewSegment}
 use Rattle.nm_calls.specs.definitions.Systems.{SystemState}
 use Rattle.nm_calls.specs.definitions.Outcome.{refusal_in, access_answer, refusal_of, start, runs_asked, accesses_asked, end_of_call, unless, offline_outcome}
 use Rattle.std.specs.Prelude.{◌⊎◌, ◌&&◌, if◌then◌else◌}
@@ -18,18 +19,13 @@ use Rattle.nm_calls.specs.definitions.Offline.{still_on}
 use Rattle.nm_calls.specs.laws.Calls.{late_refusal}
 use Rattle.nm_calls.specs.laws.Calls.{RefusalsChangeNothing}
 
+-- why an answer is a refusal
+abbrev error_of : Answer → Option Errno
+error_of (Refusal e) = Some e
+error_of answer = None
+
 abbrev is_refusal : Answer → Bool
-is_refusal (Refusal e) = true
-is_refusal Done = false
-is_refusal (Failed failed) = false
-is_refusal Held = false
-is_refusal (NewSegment segment) = false
-is_refusal (TheBytes bytes) = false
-is_refusal (Statuses failed statuses answers) = false
-is_refusal (Frames frames) = false
-is_refusal (Entries entries) = false
-is_refusal (TheTotals moved failed) = false
-is_refusal (Lines lines) = false
+is_refusal answer = is_some (error_of answer)
 
 some_none : (e : Errno) → Some e ≡ None → ⊥
 some_none e h = true≢false (ap (λ (o : Option Errno). elim o [ Some d ↦ true | None ↦ false ]) h)
@@ -40,20 +36,6 @@ access_answers (engine.Bytes bytes) h = refl
 access_answers engine.Done h = refl
 access_answers engine.Held h = refl
 access_answers (engine.Refused e) h = absurd (some_none e h)
-
--- why an answer is a refusal
-abbrev error_of : Answer → Option Errno
-error_of (Refusal e) = Some e
-error_of Done = None
-error_of (Failed failed) = None
-error_of Held = None
-error_of (NewSegment segment) = None
-error_of (TheBytes bytes) = None
-error_of (Statuses failed statuses answers) = None
-error_of (Frames frames) = None
-error_of (Entries entries) = None
-error_of (TheTotals moved failed) = None
-error_of (Lines lines) = None
 
 no_error : (a : Answer) (e : Errno) → is_refusal a ≡ false → a ≡ Refusal e → ⊥
 no_error a e n is = true≢false (sym (ap is_refusal is) ∙ n)

@@ -13,6 +13,7 @@ use Rattle.nm_model.specs.definitions.Run.{runs_from}
 use Rattle.nm_model.specs.definitions.Cut.{cut_within}
 use Rattle.nm_passes.specs.definitions.Passes.{short_of_frames, passes}
 use Rattle.nm_calls.specs.definitions.Offline.{with_online, RunsIgnoreOnline}
+use Rattle.nm_passes.proofs.NodesInTurn.FullNodes.{then_run}
 
 abbrev decision_with : List ℕ → Decision → Decision
 decision_with online o = record o { state = with_online online o.state }
@@ -55,15 +56,6 @@ each_same online s target (w ∷ ws) =
 freed_same : (online : List ℕ) (s : State) (frames : List ℕ) → with_all_free (with_online online s) frames ≡ with_online online (with_all_free s frames)
 freed_same online s [] = refl
 freed_same online s (frame ∷ frames) = freed_same online (with_free s frame) frames
-
--- what follows the requests of a run
-abbrev then_run : Progress → RunResult
-then_run moves =
-    record {
-      state = with_counts (with_all_free moves.state (frames_left moves.taken)) (length moves.taken) (failures moves.statuses);
-      statuses = moves.statuses;
-      answers = [] ∷ [];
-    }
 
 run_same : (online : List ℕ) (s : State) (target : ℕ) (ws : List Wanted) → run (with_online online s) target ws [] ≡ ran_with online (run s target ws [])
 run_same online s target ws =

@@ -1,5 +1,5 @@
 -- No page is listed twice.
-use Rattle.std.proofs.Common.{◌≡◌, ◌≢◌, ℕ, Bool, true, false, cond, not, List, [], ◌∷◌, ◌++◌, map, refl, sym, ap, ◌∙◌, Option, Some, None}
+use Rattle.std.proofs.Common.{◌≡◌, ◌≢◌, ℕ, true, false, cond, not, List, [], ◌∷◌, ◌++◌, map, refl, sym, ap, ◌∙◌, Option, Some, None}
 use Rattle.std.specs.Prelude.{◌==◌, nat_eq}
 use Rattle.std.specs.List.{AllByRecursion, IsDistinct, filter, flat_map}
 use Rattle.std.specs.Map.{values_of}
@@ -17,49 +17,15 @@ use Rattle.nm_passes.specs.definitions.Listing.{pages_in}
 use Rattle.nm_passes.specs.definitions.Listing.{pages_seen, is_on, pages_on}
 use Rattle.nm_calls.specs.laws.Migrations.{EachPageIsListedOnce}
 use Rattle.nm_passes.proofs.PageLists.FirstPages.{once_valued}
+use Rattle.nm_calls.proofs.PageLists.RequestsDiffer.{Differs, AllDiffer, differ_filtered, left_differs}
 
--- two page numbers with different pages
-abbrev Differs : ℕ × Page → ℕ × Page → Type 0
-Differs e f = same_page e.1 f.1 ≡ false
+abbrev its_page : ℕ × Page → Page
+its_page e = e.1
 
--- each has another page than those after it
-abbrev AllDiffer : Map ℕ Page → Type 0
-AllDiffer [] = Unit {0}
-AllDiffer (e ∷ es) = AllByRecursion (Differs e) es × AllDiffer es
-
-all_filtered : (P : ℕ × Page → Type 0) (test : ℕ × Page → Bool) (es : Map ℕ Page) → AllByRecursion P es → AllByRecursion P (filter test es)
-all_filtered P test [] h = tt
-all_filtered P test (e ∷ es) h =
-    let rest = all_filtered P test es h.1 in
-    elim (test e) as (λ b. AllByRecursion P (cond b (e ∷ filter test es) (filter test es))) [
-      | true ↦ (h.0, rest)
-      | false ↦ rest
-    ]
-
-differ_filtered : (test : ℕ × Page → Bool) (es : Map ℕ Page) → AllDiffer es → AllDiffer (filter test es)
-differ_filtered test [] h = tt
-differ_filtered test (e ∷ es) h =
-    let rest = differ_filtered test es h.1 in
-    elim (test e) as (λ b. AllDiffer (cond b (e ∷ filter test es) (filter test es))) [
-      | true ↦ (all_filtered (Differs e) test es h.0, rest)
-      | false ↦ rest
-    ]
-
--- the rest does not have the page
-left_differs : (e : ℕ × Page) (es : Map ℕ Page) → AllByRecursion (Differs e) (filter (λ f. not (same_page e.1 f.1)) es)
-left_differs e [] = tt
-left_differs e (f ∷ es) =
-    let test : ℕ × Page → Bool = λ g. not (same_page e.1 g.1) in
-    let rest = left_differs e es in
-    elim (same_page e.1 f.1) as (λ b. same_page e.1 f.1 ≡ b → AllByRecursion (Differs e) (cond (not b) (f ∷ filter test es) (filter test es))) [
-      | true ↦ λ h. rest
-      | false ↦ λ h. (h, rest)
-    ] refl
-
-once_differs : (es : Map ℕ Page) → AllDiffer (once_valued same_page es)
+once_differs : (es : Map ℕ Page) → AllDiffer its_page (once_valued same_page es)
 once_differs [] = tt
 once_differs (e ∷ es) =
-    (left_differs e (once_valued same_page es), differ_filtered (λ f. not (same_page e.1 f.1)) (once_valued same_page es) (once_differs es))
+    (left_differs its_page e (once_valued same_page es), differ_filtered its_page (λ f. not (same_page e.1 f.1)) (once_valued same_page es) (once_differs es))
 
 -- a page is on one node
 on_one : (s : State) (n m : ℕ) (o : Option ℕ) → n ≢ m → unwrap_or (option_map (λ frame. node_of s.layout frame == n) o) false ≡ true → unwrap_or (option_map (λ frame. node_of s.layout frame == m) o) false ≡ false
@@ -83,12 +49,12 @@ all-append : (P : ℕ × Page → Type 0) (es fs : Map ℕ Page) → AllByRecurs
 all-append P [] fs h k = k
 all-append P (e ∷ es) fs h k = (h.0, all-append P es fs h.1 k)
 
-differ-append : (es fs : Map ℕ Page) → AllDiffer es → AllDiffer fs → AllByRecursion (λ e. AllByRecursion (Differs e) fs) es → AllDiffer (es ++ fs)
+differ-append : (es fs : Map ℕ Page) → AllDiffer its_page es → AllDiffer its_page fs → AllByRecursion (λ e. AllByRecursion (Differs its_page e) fs) es → AllDiffer its_page (es ++ fs)
 differ-append [] fs h k cross = k
-differ-append (e ∷ es) fs h k cross = (all-append (Differs e) es fs h.0 cross.0, differ-append es fs h.1 k cross.1)
+differ-append (e ∷ es) fs h k cross = (all-append (Differs its_page e) es fs h.0 cross.0, differ-append es fs h.1 k cross.1)
 
 -- a page on a node differs from any page that is not on it
-apart : (s : State) (n : ℕ) (e f : ℕ × Page) → is_on s n e.1 ≡ true → is_on s n f.1 ≡ false → Differs e f
+apart : (s : State) (n : ℕ) (e f : ℕ × Page) → is_on s n e.1 ≡ true → is_on s n f.1 ≡ false → Differs its_page e f
 apart s n e f here there =
     false_from_ne_true (same_page e.1 f.1) (λ same. false≢true (sym there ∙ ap (is_on s n) (sym (exact_page e.1 f.1 (equal _ same))) ∙ here))
 
@@ -104,19 +70,19 @@ none_on s pid n (p ∷ ps) h =
     (λ e on. on_one s p.from n (get page_cmp s.place e.1) (λ same. false≢true (sym h.0 ∙ eq-eqb n p.from (sym same))) on) (all_on s p.from (pages_seen s pid)))
     (none_on s pid n ps h.1)
 
-leaving_differ : (s : State) (pid : ℕ) (ps : List Pair) → IsDistinct nat_eq (map (λ p. p.from) ps) → AllDiffer (leaving s pid ps)
+leaving_differ : (s : State) (pid : ℕ) (ps : List Pair) → IsDistinct nat_eq (map (λ p. p.from) ps) → AllDiffer its_page (leaving s pid ps)
 unfolding IsDistinct
 leaving_differ s pid [] h = tt
 leaving_differ s pid (p ∷ ps) h =
-    differ-append (pages_on s pid p.from) (leaving s pid ps) (differ_filtered (λ e. is_on s p.from e.1) (pages_seen s pid) (once_differs (pages_in (sights s.processes pid)))) (leaving_differ s pid ps h.1)
-    (all_map (λ e. is_on s p.from e.1 ≡ true) (λ e. AllByRecursion (Differs e) (leaving s pid ps)) (pages_on s pid p.from)
-    (λ e on. all_map (λ f. is_on s p.from f.1 ≡ false) (Differs e) (leaving s pid ps) (λ f off. apart s p.from e f on off) (none_on s pid p.from ps h.0)) (all_on s p.from (pages_seen s pid)))
+    differ-append (pages_on s pid p.from) (leaving s pid ps) (differ_filtered its_page (λ e. is_on s p.from e.1) (pages_seen s pid) (once_differs (pages_in (sights s.processes pid)))) (leaving_differ s pid ps h.1)
+    (all_map (λ e. is_on s p.from e.1 ≡ true) (λ e. AllByRecursion (Differs its_page e) (leaving s pid ps)) (pages_on s pid p.from)
+    (λ e on. all_map (λ f. is_on s p.from f.1 ≡ false) (Differs its_page e) (leaving s pid ps) (λ f off. apart s p.from e f on off) (none_on s pid p.from ps h.0)) (all_on s p.from (pages_seen s pid)))
 
-others_of : (e : ℕ × Page) (es : Map ℕ Page) → AllByRecursion (Differs e) es → AllByRecursion (λ q. same_page e.1 q ≡ false) (values_of es)
+others_of : (e : ℕ × Page) (es : Map ℕ Page) → AllByRecursion (Differs its_page e) es → AllByRecursion (λ q. same_page e.1 q ≡ false) (values_of es)
 others_of e [] h = tt
 others_of e (f ∷ es) h = (h.0, others_of e es h.1)
 
-pages_differ : (es : Map ℕ Page) → AllDiffer es → IsDistinct same_page (values_of es)
+pages_differ : (es : Map ℕ Page) → AllDiffer its_page es → IsDistinct same_page (values_of es)
 unfolding IsDistinct
 pages_differ [] h = tt
 pages_differ (e ∷ es) h = (others_of e es h.0, pages_differ es h.1)

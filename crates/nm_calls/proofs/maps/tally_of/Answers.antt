@@ -1,4 +1,4 @@
-use Rattle.std.proofs.Common.{◌≡◌, ◌+◌, ◌<◌, ℕ, suc, length, ◌∷◌, drop, drop-cons, subst, slice_set, slice_index_or, ap, sym, refl, ◌∙◌, arith}
+use Rattle.std.proofs.Common.{◌≡◌, ◌+◌, ◌<◌, ℕ, length, drop, subst, slice_set, slice_index_or, ap, sym, refl, ◌∙◌, arith}
 use Rattle.std.specs.Prelude.{Some}
 use Rattle.std.specs.Ordering.{nat_cmp, ord_max}
 use Rattle.nm_types.specs.Layout.{node_count}
@@ -7,6 +7,7 @@ use Rattle.nm_types.specs.declared.located_page.LocatedPage.{LocatedPage}
 use Rattle.nm_model.specs.definitions.Seen.{users}
 use Rattle.nm_spaces.specs.views.AddressSpaces.{AddressSpacesView}
 use Rattle.nm_calls.proofs.Lines.Tallies.{Counted, none_counted, one_counted}
+use Rattle.nm_laws.proofs.Lists.{drop_item}
 use Rattle.nm_calls.proofs.maps.tally_of.Goals as goal
 
 pub loop-page-init : goal.loop-page-init
@@ -25,8 +26,7 @@ loop-page-preserved g c =
     let k = c.loop-page.page-index in
     let p = c.page-item.result in
     let low = c.loop-page-test.true in
-    let more : suc k ≡ k + 1 = omega arith in
-    let rest = drop-cons all k p low ∙ ap (λ (x : LocatedPage). x ∷ drop (suc k) all) (sym c.page-item.is) ∙ ap (λ j. p ∷ drop j all) more in
+    let rest = drop_item all k p low c.page-item.is in
     let below = subst (λ (q : LocatedPage). q.node < node_count s.layout) (sym c.page-item.is) (c.requires.nodes k p low) in
     let small : p.node < 64 = omega (arith, below, c.node_count.ensures.machine.few_nodes, ap node_count c.geometry.ensures.geometry) in
     let placed = subst (λ (q : LocatedPage). get page_cmp s.place q.page ≡ Some q.frame) (sym c.page-item.is) (c.requires.placed k p low) in

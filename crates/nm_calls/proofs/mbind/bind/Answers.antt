@@ -6,7 +6,7 @@ use Rattle.nm_model.specs.definitions.Areas.{with_policy}
 use Rattle.nm_model.specs.definitions.Cut.{Stretch}
 use Rattle.nm_model.specs.definitions.Effect.{areas_of, set_range_policy, with_areas_of}
 use Rattle.nm_model.specs.definitions.Run.{runs_from}
-use Rattle.nm_calls.specs.definitions.Mbind.{home_of, is_strict, mbind_runs}
+use Rattle.nm_calls.specs.definitions.Mbind.{checks_after_moves, has_stray, home_of, is_strict, mbind_runs}
 use Rattle.nm_passes.specs.definitions.Placement.{is_stray, runs_by}
 use Rattle.nm_passes.specs.definitions.Permission.{info_at, has_move_all}
 use Rattle.nm_passes.specs.declared.call_error.CallError.{CallError}
@@ -16,6 +16,8 @@ use Rattle.nm_passes.specs.views.Runs.{runs_in, CanGo, Stops}
 use Rattle.nm_calls.specs.views.Ends.{Binds, FailsBinding}
 use Rattle.nm_calls.proofs.Policies.Late.{flag_is, late_is, stops_fail}
 use Rattle.nm_calls.proofs.Policies.NoBytes.{listed_moves, runs_some, stops_some}
+use Rattle.nm_calls.proofs.mbind.bind.Given.{Over}
+use Rattle.nm_calls.proofs.mbind.bind.Goals.{In_ok-way, After-is_late}
 use Rattle.nm_calls.proofs.mbind.bind.Goals as goal
 
 -- no memory before the policy is set
@@ -49,61 +51,64 @@ returns-in-Err-clause-allocates g c = λ runs policy_set is.
     let some = runs_some limit (with_areas_of s m) b.policy c.args.asked.home b.pid c.moves_all-all.result c.as_slice.result.now (subst (λ n. 0 < n) by made) in
     inl (listed_moves s b c.args.asked.flags (subst (λ ps. 0 < length ps) (c.as_slice.ensures.value ∙ c.in_ok-pages.ensures.list) some))
 
+-- the runs are those of the call
+runs_are : (g : Over) (c : In_ok-way g)
+    → let b = c.args.binding.now in
+    let set = set_range_policy c.args.machine.now b.pid b.first b.end b.policy in
+    runs_in c.args.limit set c.in_ok-way.way ≡ mbind_runs c.args.limit set b c.args.asked.flags
+runs_are g c =
+    let s = c.args.machine.now in
+    let b = c.args.binding.now in
+    let flags = c.args.asked.flags in
+    let limit = c.args.limit in
+    let set = set_range_policy s b.pid b.first b.end b.policy in
+    let home = home_of (info_at s b.pid) in
+    c.in_ok-way.ensures.runs limit (with_policy (areas_of s) b.pid b.first b.end b.policy)
+    ∙ ap (λ h. runs_by limit set b.policy h b.pid c.moves_all-all.result c.as_slice.result.now) c.requires.home
+    ∙ ap (λ all. runs_by limit set b.policy home b.pid all c.as_slice.result.now) (flag_is _ _ c.moves_all-all.ensures)
+    ∙ ap (runs_by limit set b.policy home b.pid (has_move_all flags)) (c.as_slice.ensures.value ∙ c.in_ok-pages.ensures.list)
+
 pub returns-in-Err-clause-bound : goal.returns-in-Err-clause-bound
 returns-in-Err-clause-bound g c =
     let s = c.args.machine.now in
     let b = c.args.binding.now in
-    let flags = c.args.asked.flags in
     let limit = c.args.limit in
-    let way = c.in_ok-way.way in
     let set = set_range_policy s b.pid b.first b.end b.policy in
-    let home = home_of (info_at s b.pid) in
-    let runs = c.in_ok-way.ensures.runs limit (with_policy (areas_of s) b.pid b.first b.end b.policy)
-    ∙ ap (λ h. runs_by limit set b.policy h b.pid c.moves_all-all.result c.as_slice.result.now) c.requires.home
-    ∙ ap (λ all. runs_by limit set b.policy home b.pid all c.as_slice.result.now) (flag_is _ _ c.moves_all-all.ensures)
-    ∙ ap (runs_by limit set b.policy home b.pid (has_move_all flags)) (c.as_slice.ensures.value ∙ c.in_ok-pages.ensures.list) in
-    let stopped = subst (λ (t : State). Stops true c.in-Err.error t c.make_moves.new.machine (runs_in limit t way)) c.in_ok-set_range_policy.ensures.ok c.in-Err.ensures in
-    stops_fail c.in-Err.error s set c.make_moves.new.machine b (mbind_runs limit set b flags) flags (subst (λ (rs : List Stretch). Stops true c.in-Err.error set c.make_moves.new.machine rs) runs stopped)
+    let runs = runs_are g (goal.at.returns-in-Err-clause-bound g c).In_ok-way in
+    let stopped = subst (λ (t : State). Stops true c.in-Err.error t c.make_moves.new.machine (runs_in limit t c.in_ok-way.way)) c.in_ok-set_range_policy.ensures.ok c.in-Err.ensures in
+    stops_fail c.in-Err.error s set c.make_moves.new.machine b (mbind_runs limit set b c.args.asked.flags) c.args.asked.flags (subst (λ (rs : List Stretch). Stops true c.in-Err.error set c.make_moves.new.machine rs) runs stopped)
+
+-- all runs were made, and whether pages stray after them is found
+ends_bound : (g : Over) (c : After-is_late g)
+    → let b = c.args.binding.now in
+    let set = set_range_policy c.args.machine.now b.pid b.first b.end b.policy in
+    let end = (runs_from 0 set (mbind_runs c.args.limit set b c.args.asked.flags) []).state in
+    runs_in c.args.limit set c.in_ok-way.way ≡ mbind_runs c.args.limit set b c.args.asked.flags
+    → record { late : (checks_after_moves c.args.asked.flags && has_stray c.args.machine.now end b) ≡ c.is_late.result; made : c.make_moves.new.machine ≡ end }
+ends_bound g c runs =
+    let b = c.args.binding.now in
+    let flags = c.args.asked.flags in
+    let set = set_range_policy c.args.machine.now b.pid b.first b.end b.policy in
+    let end = (runs_from 0 set (mbind_runs c.args.limit set b flags) []).state in
+    let made : c.make_moves.new.machine ≡ end = c.in_default.ensures ∙ ap (λ (t : State). (runs_from 0 t (runs_in c.args.limit t c.in_ok-way.way) []).state) c.in_ok-set_range_policy.ensures.ok ∙ ap (λ (rs : List Stretch). (runs_from 0 set rs []).state) runs in
+    record {
+      late = sym (late_is c.args.machine.now end b flags)
+          ∙ ap (λ ps. is_strict flags && list_any (is_stray end b.policy) ps) (sym (c.as_slice-2.ensures.value ∙ c.in_ok-pages.ensures.list))
+          ∙ ap (λ (t : State). is_strict flags && list_any (is_stray t b.policy) c.as_slice-2.result.now) (sym made) ∙ sym c.is_late.ensures;
+      made = made;
+    }
 
 pub returns-then-is_late-clause-bound : goal.returns-then-is_late-clause-bound
 returns-then-is_late-clause-bound g c =
-    let s = c.args.machine.now in
-    let b = c.args.binding.now in
-    let flags = c.args.asked.flags in
-    let limit = c.args.limit in
-    let way = c.in_ok-way.way in
-    let set = set_range_policy s b.pid b.first b.end b.policy in
-    let home = home_of (info_at s b.pid) in
-    let runs = c.in_ok-way.ensures.runs limit (with_policy (areas_of s) b.pid b.first b.end b.policy)
-    ∙ ap (λ h. runs_by limit set b.policy h b.pid c.moves_all-all.result c.as_slice.result.now) c.requires.home
-    ∙ ap (λ all. runs_by limit set b.policy home b.pid all c.as_slice.result.now) (flag_is _ _ c.moves_all-all.ensures)
-    ∙ ap (runs_by limit set b.policy home b.pid (has_move_all flags)) (c.as_slice.ensures.value ∙ c.in_ok-pages.ensures.list) in
-    let made = c.in_default.ensures ∙ ap (λ (t : State). (runs_from 0 t (runs_in limit t way) []).state) c.in_ok-set_range_policy.ensures.ok ∙ ap (λ (rs : List Stretch). (runs_from 0 set rs []).state) runs in
-    let end = (runs_from 0 set (mbind_runs limit set b flags) []).state in
-    let late = sym (late_is s end b flags)
-    ∙ ap (λ ps. is_strict flags && list_any (is_stray end b.policy) ps) (sym (c.as_slice-2.ensures.value ∙ c.in_ok-pages.ensures.list))
-    ∙ ap (λ (t : State). is_strict flags && list_any (is_stray t b.policy) c.as_slice-2.result.now) (sym made) in
-    (late ∙ sym c.is_late.ensures ∙ c.if-is_late.true, refl, made)
+    let at = goal.at.returns-then-is_late-clause-bound g c in
+    let ends = ends_bound g at.After-is_late (runs_are g at.In_ok-way) in
+    (ends.late ∙ c.if-is_late.true, refl, ends.made)
 
 pub returns-clause-bound : goal.returns-clause-bound
 returns-clause-bound g c =
-    let s = c.args.machine.now in
-    let b = c.args.binding.now in
-    let flags = c.args.asked.flags in
-    let limit = c.args.limit in
-    let way = c.in_ok-way.way in
-    let set = set_range_policy s b.pid b.first b.end b.policy in
-    let home = home_of (info_at s b.pid) in
-    let runs = c.in_ok-way.ensures.runs limit (with_policy (areas_of s) b.pid b.first b.end b.policy)
-    ∙ ap (λ h. runs_by limit set b.policy h b.pid c.moves_all-all.result c.as_slice.result.now) c.requires.home
-    ∙ ap (λ all. runs_by limit set b.policy home b.pid all c.as_slice.result.now) (flag_is _ _ c.moves_all-all.ensures)
-    ∙ ap (runs_by limit set b.policy home b.pid (has_move_all flags)) (c.as_slice.ensures.value ∙ c.in_ok-pages.ensures.list) in
-    let made = c.in_default.ensures ∙ ap (λ (t : State). (runs_from 0 t (runs_in limit t way) []).state) c.in_ok-set_range_policy.ensures.ok ∙ ap (λ (rs : List Stretch). (runs_from 0 set rs []).state) runs in
-    let end = (runs_from 0 set (mbind_runs limit set b flags) []).state in
-    let late = sym (late_is s end b flags)
-    ∙ ap (λ ps. is_strict flags && list_any (is_stray end b.policy) ps) (sym (c.as_slice-2.ensures.value ∙ c.in_ok-pages.ensures.list))
-    ∙ ap (λ (t : State). is_strict flags && list_any (is_stray t b.policy) c.as_slice-2.result.now) (sym made) in
-    (late ∙ sym c.is_late.ensures ∙ c.if-is_late.false, made)
+    let at = goal.at.returns-clause-bound g c in
+    let ends = ends_bound g at.After-is_late (runs_are g at.In_ok-way) in
+    (ends.late ∙ c.if-is_late.false, ends.made)
 
 pub way_of-requires-clause-nodes : goal.way_of-requires-clause-nodes
 way_of-requires-clause-nodes g c κs within = c.requires.nodes

@@ -11,9 +11,7 @@ use Rattle.nm_calls.proofs.NodesOffline.Results.{by_distance_all}
 use Rattle.nm_calls.proofs.offline.refuges.Goals as goal
 
 pub prove-unreachable-requires : goal.prove-unreachable-requires
-prove-unreachable-requires g c =
-    let few = set_is_few c.others-others.result c.len.ensures.nodes in
-    omega (arith, few, c.len.ensures.count, c.if-prove.true)
+prove-unreachable-requires g c = omega (arith, set_is_few c.others-others.result c.len.ensures.nodes, c.len.ensures.count, c.if-prove.true)
 
 pub returns-clause-order : goal.returns-clause-order
 returns-clause-order g c =
