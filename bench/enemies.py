@@ -9,6 +9,7 @@ is the size."""
 import argparse
 import itertools
 import os
+import random
 import sys
 import tempfile
 
@@ -265,14 +266,41 @@ def crowd(size, pids):
     return trace([1, 1], steps + [spawn(2**32 - 1, [0, 1], ',"privileged":true')] + moves * (20 * size))
 
 
+def chosen():
+    """A thousand pids that a hash table without a seed of its own keeps in one place."""
+    return itertools.islice(filter(is_chosen, itertools.count(2)), 1000)
+
+
+def others():
+    """A thousand pids that are as far apart."""
+    return range(2, 1024002, 1024)
+
+
 def chosen_pids(size):
     """.. they have pids that a hash table without a seed of its own keeps in one place."""
-    return crowd(size, itertools.islice(filter(is_chosen, itertools.count(2)), 1000))
+    return crowd(size, chosen())
 
 
 def other_pids(size):
     """.. they have pids that are as far apart."""
-    return crowd(size, range(2, 1024002, 1024))
+    return crowd(size, others())
+
+
+def shuffled(pids):
+    """Pids in another order than upwards, the same each time."""
+    pids = list(pids)
+    random.Random(1).shuffle(pids)
+    return pids
+
+
+def shuffled_chosen_pids(size):
+    """.. they have the first pids, and come in an order as if drawn."""
+    return crowd(size, shuffled(chosen()))
+
+
+def shuffled_other_pids(size):
+    """.. they have the others, and come in an order as if drawn."""
+    return crowd(size, shuffled(others()))
 
 
 def large_machine(size):
@@ -287,6 +315,7 @@ KINDS = {
     range_with_hole: 1, empty_node: 1, whole_pages_in_flight: 1, large_machine: 10, strict_default: 1, strict_bound: 1,
     strict_zeros: 1, strict_areas: 1, followed_bind: 1, told_empty_areas: 1, pinned_migrations: 1, pinned_offline: 1, pinned_bind: 1,
     shared_migrations: 1, aliased_bind: 1, refused_runs_of_one: 1, chosen_pids: 1, other_pids: 1,
+    shuffled_chosen_pids: 1, shuffled_other_pids: 1,
 }
 
 

@@ -10,6 +10,7 @@ printed where all is well; otherwise what differs, and then the status is 1. Wit
 with --times it prints what each part took. The traces are the same each time."""
 import argparse
 import collections
+import ctypes
 import fcntl
 import glob
 import json
@@ -351,6 +352,31 @@ def check_reader():
     os.close(folder)
     if (ran.returncode, ran.stdout, ran.stderr) != (4, b"", b"numatrace: read fault\n"):
         raise Fault("a folder as input is not reported as a read fault")
+
+
+def without_random_bytes():
+    """Has the kernel refuse getrandom(2) to this process, and fails where the C library has random bytes all the same."""
+    libc = ctypes.CDLL(None)
+    # (by seccomp(2): the call's number; unless it is that of getrandom, skip one; fail with EPERM; allow)
+    rules = [(0x20, 0, 0, 0), (0x15, 0, 1, 318), (0x06, 0, 0, 0x50001), (0x06, 0, 0, 0x7FFF0000)]
+    code = ctypes.create_string_buffer(b"".join(struct.pack("HBBI", *rule) for rule in rules))
+    libc.prctl(38, 1, 0, 0, 0)
+    libc.prctl(22, 2, struct.pack("HxxxxxxP", len(rules), ctypes.addressof(code)))
+    if libc.getentropy(ctypes.create_string_buffer(8), 8) == 0:
+        raise OSError("random bytes without getrandom(2)")
+
+
+def check_random_bytes():
+    """A host without random bytes: what is read cannot be read, and words are answered as ever."""
+    version = play(b"", ("--version",))
+    for words, answer in (((), (4, b"", b"numatrace: read fault\n")), (("--version",), version)):
+        try:
+            ran = subprocess.run([SETTINGS["program"], *words], input=FIRST.encode(), capture_output=True,
+                                 preexec_fn=without_random_bytes, timeout=MOST_WAIT, check=False)
+        except subprocess.SubprocessError:
+            return
+        if (ran.returncode, ran.stdout, ran.stderr) != answer:
+            raise Fault(f"without random bytes the program ends with {ran.returncode}, {ran.stderr!r}")
 
 
 def limited(most):
@@ -770,6 +796,7 @@ def check_streams(_):
     check_writer(trace_of([1], steps), report, [*range(0, len(report), 4099), 65535, 65536, 65537, len(report)])
     check_closed_writers()
     check_short_error()
+    check_random_bytes()
 
 
 def within(data, most, words):

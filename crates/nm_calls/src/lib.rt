@@ -13,7 +13,7 @@ mod status;
 mod system;
 
 pub use answer::{Answer, PagemapEntry};
-pub use nm_engine::{AccessAnswer, RunCrew, Totals};
+pub use nm_engine::{AccessAnswer, FIXED_SEED, RunCrew, Totals};
 pub use nm_passes::{CallError, Moved, run_count};
 pub use nm_requests::{
     Attachment, Batch, Call, InFlight, MbindRequest, MigrateRequest, MoveRequest, NewArea,

@@ -22,7 +22,7 @@ use crate::mbind::{bind, check_binding};
 use crate::migrate::{migrate, migration_of};
 use crate::offline::{check_offline, empty_node};
 use crate::status::statuses_of;
-use nm_engine::{Machine, RunCrew, Totals};
+use nm_engine::{FIXED_SEED, Machine, RunCrew, Totals};
 use nm_passes::{CallError, Moved, check_targets, entries_of, move_batch, permit_of};
 use nm_requests::{
     Attachment, MbindRequest, MigrateRequest, MoveRequest, NewArea, NewProcess, Question,
@@ -101,8 +101,24 @@ impl<A: Allocator + Copy + Send + Sync> System<A> {
         requires within { run_limit ≤ default_limit }
         ensures { IfOk result (λ system. system ≡ system_with geometry run_limit) }
     {
+        System::with_hash_seed(alloc, geometry, run_limit, FIXED_SEED)
+    }
+
+    /// Makes a new machine as `with_run_limit` does, with a seed for the hash function by which it finds processes.
+    /// Whoever writes the calls and does not know the seed cannot choose pids that are slow to find. Nothing that a call
+    /// does or returns depends on it.
+    pub fn with_hash_seed(
+        alloc: A,
+        geometry: Geometry<A>,
+        run_limit: usize,
+        seed: u64,
+    ) -> Result<Self, AllocError>
+        requires some { 0 < run_limit }
+        requires within { run_limit ≤ default_limit }
+        ensures { IfOk result (λ system. system ≡ system_with geometry run_limit) }
+    {
         Ok(System {
-            machine: Machine::new(alloc, geometry)?,
+            machine: Machine::new(alloc, geometry, seed)?,
             run_limit,
             alloc,
         })

@@ -2,11 +2,20 @@
 
 use crate::jobs::Jobs;
 
+/// The seed where no host lends one.
+pub const FIXED_SEED: u64 = 0;
+
 /// Those who do jobs of one type: the caller, and threads if the crew has any.
 pub trait Crew<J: Jobs> {
     /// What holds of a crew, of jobs that it has done, and of what `work` returned. Code that takes any crew knows it
     /// from `copy_while` alone.
     ghost has_done: { Self → J → (X : Type 0) → X → Type 0 };
+
+    /// The seed of the hash function by which the processes of a system are found that this crew plays a trace on.
+    /// Whoever does not know it cannot choose pids that are slow to find; no report depends on it.
+    fn hash_seed(&self) -> u64 {
+        FIXED_SEED
+    }
 
     /// The caller has come to the access in flight with this number, counted from 0 in each run. The access is made once
     /// this returns.

@@ -8,6 +8,6 @@ mod jobs;
 mod looks;
 
 pub use alone::Alone;
-pub use crew::Crew;
+pub use crew::{Crew, FIXED_SEED};
 pub use jobs::Jobs;
 pub use looks::Looks;

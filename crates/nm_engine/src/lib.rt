@@ -13,6 +13,7 @@ mod touch;
 
 pub use answers::RunAnswer;
 pub use machine::{Machine, Totals};
+pub use nm_crew::FIXED_SEED;
 pub use nm_pool::AccessAnswer;
 pub use nm_types::{Access, MachineError};
 pub use run_crew::RunCrew;

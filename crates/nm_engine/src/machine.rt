@@ -91,13 +91,14 @@ impl<A: Allocator + Copy + Send + Sync> Model for Machine<A> {
 
 impl<A: Allocator + Copy + Send + Sync> Machine<A> {
     /// Makes a machine with these nodes, all online, with every frame free and no process. Each node's free list is in
-    /// ascending order. An error means that the host is out of memory.
-    pub fn new(alloc: A, geometry: Geometry<A>) -> Result<Self, AllocError>
+    /// ascending order. The seed is that of the hash function by which processes are found; nothing that a call does or
+    /// returns depends on it. An error means that the host is out of memory.
+    pub fn new(alloc: A, geometry: Geometry<A>, seed: u64) -> Result<Self, AllocError>
         ensures { IfOk result (λ machine. machine ≡ new_machine geometry) }
     {
         let online = all_nodes(geometry.node_count());
         Ok(Machine {
-            spaces: AddressSpaces::new(alloc, geometry.frame_count())?,
+            spaces: AddressSpaces::new(alloc, geometry.frame_count(), seed)?,
             frames: FramePool::new(alloc, geometry)?,
             online,
             totals: Totals {

@@ -63,12 +63,13 @@ impl<A: Allocator + Copy> Model for AddressSpaces<A> {
 }
 
 impl<A: Allocator + Copy> AddressSpaces<A> {
-    /// Makes address spaces without processes, and `frames` frames without pages.
-    pub fn new(alloc: A, frames: usize) -> Result<Self, AllocError>
+    /// Makes address spaces without processes, and `frames` frames without pages. The seed is that of the hash function
+    /// by which processes are found; contracts see nothing of it.
+    pub fn new(alloc: A, frames: usize, seed: u64) -> Result<Self, AllocError>
         ensures { IfOk result (λ spaces. spaces ≡ no_spaces frames) }
     {
         let parts = SpaceParts {
-            tasks: ProcessTable::new(alloc),
+            tasks: ProcessTable::new(alloc, seed),
             areas: Areas::new(alloc),
             rmap: ReverseMap::new(alloc, frames)?,
         };

@@ -4,6 +4,7 @@
 
 mod address_spaces;
 mod entry;
+mod pid_hash;
 mod process;
 mod process_table;
 

@@ -12,23 +12,21 @@ ghost use Rattle.nm_spaces.specs.views.ProcessTable.{new_task, task_info, task_t
 ghost use Rattle.nm_model.specs.definitions.PageTables.{entry_at, with_entry};
 ghost use Rattle.nm_model.specs.definitions.Seen.{between};
 
+use crate::pid_hash::PidHash;
 use crate::process;
 use indexmap::IndexMap;
 use nm_tables::{Entry, PageTable};
 use nm_types::{Pid, ProcessInfo, Vpn};
 use std::alloc::{AllocError, Allocator};
-use std::hash::{BuildHasherDefault, FoldHasher};
 use std::marker::Model;
 
 /// Processes by pid, in any order.
-type Tasks<A> = IndexMap<Pid, process::Task<A>, BuildHasherDefault<FoldHasher>, A>;
+type Tasks<A> = IndexMap<Pid, process::Task<A>, PidHash, A>;
 
 /// The processes by pid, in any order, each with its page table.
 #[derive(Drop)]
 pub(crate) struct ProcessTable<A: Allocator + Copy> {
     tasks: Tasks<A>,
-    /// The place after that of the process whose entry was replaced last.
-    next: usize,
     alloc: A,
 }
 
@@ -44,13 +42,12 @@ impl<A: Allocator + Copy> Model for ProcessTable<A> {
 }
 
 impl<A: Allocator + Copy> ProcessTable<A> {
-    /// Makes a table without processes. Does not allocate.
-    pub(crate) fn new(alloc: A) -> Self
+    /// Makes a table without processes, whose hash function has this seed. Does not allocate.
+    pub(crate) fn new(alloc: A, seed: u64) -> Self
         ensures { result ≡ [] }
     {
         ProcessTable {
-            tasks: IndexMap::new(alloc),
-            next: 0,
+            tasks: IndexMap::with_hasher(alloc, PidHash::new(seed)),
             alloc,
         }
     }
@@ -67,14 +64,14 @@ impl<A: Allocator + Copy> ProcessTable<A> {
     pub(crate) fn info(&self, pid: Pid) -> Option<ProcessInfo>
         ensures { result ≡ option_map task_info (get nat_cmp self.now pid) }
     {
-        task_of(&self.tasks, self.next, pid).map(|task| task.info)
+        task_of(&self.tasks, pid).map(|task| task.info)
     }
 
     /// The entry of a process at a page number. None if it is absent, or there is no such process.
     pub(crate) fn entry(&self, pid: Pid, vpn: Vpn) -> Option<Entry>
         ensures { result ≡ entry_at self.now pid vpn }
     {
-        task_of(&self.tasks, self.next, pid)?.table.get(vpn)
+        task_of(&self.tasks, pid)?.table.get(vpn)
     }
 
     /// All entries of a process, in order of page number. None if there is no such process.
@@ -85,7 +82,7 @@ impl<A: Allocator + Copy> ProcessTable<A> {
         ensures memory { OnErr result (IsSome (get nat_cmp self.now pid)) }
         ensures allocates { OnErr result (0 < length (entries_in self.now pid)) }
     {
-        match task_of(&self.tasks, self.next, pid) {
+        match task_of(&self.tasks, pid) {
             Some(task) => Ok(Some(task.table.entries()?)),
             None => Ok(None),
         }
@@ -98,7 +95,7 @@ impl<A: Allocator + Copy> ProcessTable<A> {
             (λ e. (v : ℕ) → at ≤ v → v < e.0 → entry_at self.now pid v ≡ None) }
         ensures none { IfNone result ((v : ℕ) → at ≤ v → entry_at self.now pid v ≡ None) }
     {
-        task_of(&self.tasks, self.next, pid)?.table.first_from(at)
+        task_of(&self.tasks, pid)?.table.first_from(at)
     }
 
     /// The entries of a process from one page number up to another, in order. Empty if there is no such process.
@@ -113,7 +110,7 @@ impl<A: Allocator + Copy> ProcessTable<A> {
         ensures allocates { OnErr result (0 < length (between first end (entries_in self.now pid))) }
     {
         let mut entries = Vec::new(self.alloc);
-        let Some(task) = task_of(&self.tasks, self.next, pid) else {
+        let Some(task) = task_of(&self.tasks, pid) else {
             return Ok(entries);
         };
         task.table.list_between(first, end, &mut entries)?;
@@ -159,18 +156,33 @@ impl<A: Allocator + Copy> ProcessTable<A> {
         task.table.set(vpn, entry)
     }
 
-    /// Replaces the entry at a page number of a process that has one. Does not allocate.
-    #[inline]
-    pub(crate) fn replace(&mut self, pid: Pid, vpn: Vpn, entry: Entry)
+    /// Replaces the entry at a page number of a process that has one. Returns the place after that of the process. Does
+    /// not allocate.
+    pub(crate) fn replace(&mut self, pid: Pid, vpn: Vpn, entry: Entry) -> usize
         requires { IsThere self.old (pid, vpn) }
         ensures { self.new ≡ put_entry self.old entry (pid, vpn) }
     {
-        let Some(place) = place_of(&self.tasks, self.next, pid) else {
+        let Some(place) = place_of(&self.tasks, pid) else {
             unreachable!()
         };
-        self.next = place.wrapping_add(1);
         let (_, task) = self.tasks.pair_mut(place);
         task.table.replace(vpn, entry);
+        place.wrapping_add(1)
+    }
+
+    /// Does the same, and looks for the process at this place first. Processes stand in the order in which they were
+    /// spawned, so whoever goes through them in that order finds each at the place that the call before returned.
+    #[inline]
+    pub(crate) fn replace_near(&mut self, place: usize, pid: Pid, vpn: Vpn, entry: Entry) -> usize
+        requires { IsThere self.old (pid, vpn) }
+        ensures { self.new ≡ put_entry self.old entry (pid, vpn) }
+    {
+        if !stands_at(&self.tasks, place, pid) {
+            return self.replace(pid, vpn, entry);
+        }
+        let (_, task) = self.tasks.pair_mut(place);
+        task.table.replace(vpn, entry);
+        place.wrapping_add(1)
     }
 
     /// Removes the entry at a page number of a process. Does not allocate.
@@ -196,23 +208,18 @@ impl<A: Allocator + Copy> ProcessTable<A> {
 }
 
 /// The process with this pid, if there is one.
-fn task_of<A: Allocator + Copy>(
-    tasks: &Tasks<A>,
-    next: usize,
-    pid: Pid,
-) -> Option<&process::Task<A>>
+fn task_of<A: Allocator + Copy>(tasks: &Tasks<A>, pid: Pid) -> Option<&process::Task<A>>
     ensures { option_copied result ≡ lookup (nat_eq pid) tasks.now.entries }
 {
-    let place = place_of(tasks, next, pid)?;
+    let place = place_of(tasks, pid)?;
     Some(&tasks[place])
 }
 
 /// The index of the process with this pid in the table, if there is one. Pids are mostly given one after another, and
 /// the table has processes in the order in which they came. So this looks first as far behind the first process as the
-/// pid is above its pid, then one further, in case another one came out of order. A walk over the processes that see a
-/// page mostly asks for one after another, so this looks at `next` too, and only then hashes the pid.
+/// pid is above its pid, then one further, in case another one came out of order, and only then hashes the pid.
 #[inline]
-fn place_of<A: Allocator + Copy>(tasks: &Tasks<A>, next: usize, pid: Pid) -> Option<usize>
+fn place_of<A: Allocator + Copy>(tasks: &Tasks<A>, pid: Pid) -> Option<usize>
     ensures within { IfSome result (λ i. i < length tasks.now.entries) }
     ensures key { IfSome result (λ i. slice_get (keys_of tasks.now.entries) i ≡ Some pid) }
     ensures value { IfSome result
@@ -226,9 +233,6 @@ fn place_of<A: Allocator + Copy>(tasks: &Tasks<A>, next: usize, pid: Pid) -> Opt
     }
     if stands_at(tasks, near + 1, pid) {
         return Some(near + 1);
-    }
-    if stands_at(tasks, next, pid) {
-        return Some(next);
     }
     tasks.get_index_of(&pid)
 }

@@ -92,6 +92,7 @@ impl<A: Allocator + Copy> PageTable<A> {
     }
 
     /// Replaces the entry at a page number that is not absent. Does not allocate.
+    #[inline]
     pub fn replace(&mut self, vpn: Vpn, entry: Entry)
         requires { IsSome (get nat_cmp self.old vpn) }
         ensures entry { self.new ≡ replace nat_cmp self.old vpn entry }

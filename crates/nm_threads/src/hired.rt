@@ -5,7 +5,7 @@ ghost use Rattle.std.specs.Prelude.{◌≡◌, ◌<◌, ◌≤◌};
 use crate::classes::classify;
 use crate::copying::copy_while;
 use crate::gate::OpenGate;
-use nm_crew::{Crew, Looks};
+use nm_crew::{Crew, FIXED_SEED, Looks};
 use nm_frames::CopyJob;
 use nm_refusing_alloc::Refusing;
 use nm_runs::{Class, Run};
@@ -22,6 +22,7 @@ use std::thread::Threads;
 pub struct Hired<'a, R: Threads + Wait> {
     rt: &'a R,
     workers: usize,
+    seed: u64,
 }
 
 impl<'a, R: Threads + Wait> Model for Hired<'a, R> {
@@ -40,12 +41,24 @@ impl<'a, R: Threads + Wait> Hired<'a, R> {
         requires { (0 < workers) × (workers ≤ 64) }
         ensures { result ≡ workers }
     {
-        Hired { rt, workers }
+        Hired::with_hash_seed(rt, workers, FIXED_SEED)
+    }
+
+    /// Makes a crew as `new` does, with a seed of the host's for the hash function by which processes are found.
+    pub fn with_hash_seed(rt: &'a R, workers: usize, seed: u64) -> Self
+        requires { (0 < workers) × (workers ≤ 64) }
+        ensures { result ≡ workers }
+    {
+        Hired { rt, workers, seed }
     }
 }
 
 impl<'a, R: Threads + Wait> Crew<Vec<CopyJob<Global>>> for Hired<'a, R> {
     ghost has_done = { λ crew jobs X answer. Unit {0} };
+
+    fn hash_seed(&self) -> u64 {
+        self.seed
+    }
 
     fn copy_while<T, W: FnOnce() -> T>(
         &self,
@@ -74,6 +87,10 @@ type Heap<'h> = &'h Refusing<Global>;
 
 impl<'a, 'h, R: Threads + Wait> Crew<Vec<CopyJob<Heap<'h>>, Heap<'h>>> for Hired<'a, R> {
     ghost has_done = { λ crew jobs X answer. Unit {0} };
+
+    fn hash_seed(&self) -> u64 {
+        self.seed
+    }
 
     fn copy_while<T, W: FnOnce() -> T>(
         &self,

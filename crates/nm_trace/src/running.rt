@@ -72,7 +72,8 @@ fn run_bytes<A: Allocator + Copy + Send + Sync, C: RunCrew<A>, W: ReportingWrite
         run_limit,
         calls,
     } = trace;
-    let Ok(mut system) = System::with_run_limit(alloc, geometry, run_limit) else {
+    let seed = crew.hash_seed();
+    let Ok(mut system) = System::with_hash_seed(alloc, geometry, run_limit, seed) else {
         return Err(TraceError::HostMemory(0));
     };
     let summary = play_calls(crew, alloc, &mut system, calls.as_slice(), writer)?;

@@ -12,7 +12,7 @@ mod calls;
 
 use crate::playing::make_step;
 use json::{Scratch, Value};
-use nm_calls::{Call, RunCrew, System};
+use nm_calls::{Call, FIXED_SEED, RunCrew, System};
 use nm_steps::{StepError, TraceError, geometry_of, run_limit_of, step_of, value_of};
 use nm_streams::{Block, ClosedWriter};
 use std::alloc::{Allocator, Global};
@@ -64,8 +64,21 @@ impl<A: Allocator + Copy + Send + Sync> Session<A> {
     /// Begins a session with the machine and the limit on runs at the top of a trace. Reads the
     /// top as `read_trace` does, except that `steps` is not looked at, and may be missing. Faults, in order: `NotJson`,
     /// `BadMachine`; `HostMemory(0)` if the host is out of memory: never for bytes that are not UTF-8.
-    #[tactic(auto, unfolding(crate::specs::definitions::Session::session_of, crate::specs::definitions::Session::new_session))]
     pub fn open(alloc: A, heap: Global, bytes: &[u8]) -> Result<Self, TraceError>
+        ensures session { Gives (λ s. s) result (session_of bytes.now) }
+        ensures allocates { result ≡ Err (HostMemory 0) → IsSomeText bytes.now }
+    {
+        Session::open_with_hash_seed(alloc, heap, bytes, FIXED_SEED)
+    }
+
+    /// Begins a session as `open` does, on a system with this seed (`System::with_hash_seed`). No lines depend on it.
+    #[tactic(auto, unfolding(crate::specs::definitions::Session::session_of, crate::specs::definitions::Session::new_session))]
+    pub fn open_with_hash_seed(
+        alloc: A,
+        heap: Global,
+        bytes: &[u8],
+        seed: u64,
+    ) -> Result<Self, TraceError>
         ensures session { Gives (λ s. s) result (session_of bytes.now) }
         ensures allocates { result ≡ Err (HostMemory 0) → IsSomeText bytes.now }
     {
@@ -73,7 +86,7 @@ impl<A: Allocator + Copy + Send + Sync> Session<A> {
         let value = value_of(heap, bytes, &mut scratch)?;
         let geometry = geometry_of(alloc, &value)?;
         let run_limit = run_limit_of(&value)?;
-        let Ok(system) = System::with_run_limit(alloc, geometry, run_limit) else {
+        let Ok(system) = System::with_hash_seed(alloc, geometry, run_limit, seed) else {
             return Err(TraceError::HostMemory(0));
         };
         Ok(Session {

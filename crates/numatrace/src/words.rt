@@ -96,12 +96,14 @@ pub(crate) fn unread_words<E: Write>(kind: io::ErrorKind, err: &mut E) -> u8
 }
 
 /// Runs the program: reads the words, then the trace from the reader, and writes the report to `out`. `--workers N`
-/// sets how many workers copy and look, 1 to 64, and 4 if it is not given; it changes no byte of the report. Returns the
+/// sets how many workers copy and look, 1 to 64, and 4 if it is not given; it changes no byte of the report, and neither
+/// does the seed, which keeps pids from being chosen so that they are slow to find (`Crew::hash_seed`). Returns the
 /// exit status: 0 after a whole report; 2 for a bad trace, for words that are refused, and for `--help` and `--version`;
 /// 3 if the host is out of memory; 4 for a read or write fault. A fault is reported on `err`, in one line or in clap's
 /// own text, and a fault of `err` does not change the status.
 pub fn run_words<T: Threads + Wait, R: ReportingReader, W: ReportingWriter, E: ReportingWriter>(
     rt: &T,
+    seed: u64,
     heap: Global,
     words: &[String],
     reader: &mut R,
@@ -115,7 +117,7 @@ pub fn run_words<T: Threads + Wait, R: ReportingReader, W: ReportingWriter, E: R
     let _work: PhantomData<(CopyJob<Global>, AddressSpaces<Global>)> = PhantomData;
     let hire = |workers: usize| -> Hired<'_, T>
         requires { (0 < workers) × (workers ≤ 64) }
-    { Hired::new(rt, workers) };
+    { Hired::with_hash_seed(rt, workers, seed) };
     run_words_by(hire, heap, heap, words, reader, out, err)
 }
 

@@ -21,12 +21,15 @@ ghost use Rattle.numatrace_session.specs.Replies.{bad_step_reply, has_line, Ends
 use nm_crew::Alone;
 use nm_frames::CopyJob;
 use nm_spaces::AddressSpaces;
-use nm_trace::{FlushingWriter, ReportingWriter, Session, TraceError, WatchedStream, write_lines};
+use nm_trace::{
+    FlushingWriter, ReportingWriter, Session, TraceError, WatchedStream, draw_seed, write_lines,
+};
 use std::alloc::Global;
 use std::io;
 use std::io::{BufRead, BufReader, BufWriter, ErrorKind, Read, Write};
 use std::marker::PhantomData;
 use std::process::ExitCode;
+use std::random::RandomSource;
 use std::sync::Wait;
 
 /// Why a session ends before its input does.
@@ -216,10 +219,10 @@ fn end_unopened(fault: TraceError) -> End
 }
 
 /// The session that a first line begins. The error is never `Stream`.
-fn begin(heap: Global, top: &[u8]) -> Result<Session<Global>, End>
+fn begin(heap: Global, seed: u64, top: &[u8]) -> Result<Session<Global>, End>
     ensures { Begins result top.now }
 {
-    match Session::open(heap, heap, top) {
+    match Session::open_with_hash_seed(heap, heap, top, seed) {
         Ok(session) => Ok(session),
         Err(fault) => Err(end_unopened(fault)),
     }
@@ -229,6 +232,7 @@ fn begin(heap: Global, top: &[u8]) -> Result<Session<Global>, End>
 fn talk<T: Wait, R: Read, W: FlushingWriter>(
     rt: &T,
     heap: Global,
+    seed: u64,
     input: &mut BufReader<WatchedStream<R>, Global>,
     out: &mut W,
 ) -> Result<(), End>
@@ -247,7 +251,7 @@ fn talk<T: Wait, R: Read, W: FlushingWriter>(
 {
     let mut line = Vec::new(heap);
     next_line(input, &mut line)?;
-    let mut session = begin(heap, line.as_slice())?;
+    let mut session = begin(heap, seed, line.as_slice())?;
     reply_to_lines(rt, heap, &mut session, input, out)
 }
 
@@ -255,6 +259,7 @@ fn talk<T: Wait, R: Read, W: FlushingWriter>(
 fn talk_to_end<T: Wait, R: Read, W: FlushingWriter>(
     rt: &T,
     heap: Global,
+    seed: u64,
     input: &mut BufReader<WatchedStream<R>, Global>,
     out: &mut W,
 ) -> Result<(), End>
@@ -275,7 +280,7 @@ fn talk_to_end<T: Wait, R: Read, W: FlushingWriter>(
     ensures flushed { ((result ≡ Err End.Stream) × (W.has_failed out.new ≡ true))
         ⊎ W.is_flushed out.new }
 {
-    let ended = talk(rt, heap, input, out);
+    let ended = talk(rt, heap, seed, input, out);
     let Ok(()) = out.flush_reporting() else {
         return Err(End::Stream);
     };
@@ -330,16 +335,19 @@ fn print_end<E: Write>(end: &End, err: &mut E) -> io::Result<()>
     }
 }
 
-/// Talks on an input and an output, each through a buffer.
-fn serve<T: Wait, R: Read + Drop, W: Write + Drop>(
+/// Talks on an input and an output, each through a buffer. A host that draws no seed is one whose input fails.
+fn serve<T: Wait + RandomSource, R: Read + Drop, W: Write + Drop>(
     rt: &T,
     heap: Global,
     from: R,
     to: W,
 ) -> Result<(), End> {
+    let Ok(seed) = draw_seed(rt) else {
+        return Err(End::Stream);
+    };
     let mut input = buffered_input(heap, from)?;
     let out = buffer_over(heap, to)?;
-    talk_to_end(rt, heap, &mut input, &mut WatchedStream::new(out))
+    talk_to_end(rt, heap, seed, &mut input, &mut WatchedStream::new(out))
 }
 
 fn main(rt: HostRuntime) -> ExitCode {

@@ -147,7 +147,9 @@ fn replace_each<A: Allocator + Copy>(
     ensures { tasks.new ≡ all_replaced tasks.old (mappers_shown mappers.entry) entry.now }
 {
     match mappers {
-        FrameMappers::Lone(pid, vpn) => tasks.replace(pid, vpn, *entry),
+        FrameMappers::Lone(pid, vpn) => {
+            tasks.replace_near(0, pid, vpn, *entry);
+        }
         FrameMappers::Set(set) => replace_set(tasks, set, entry),
     }
 }
@@ -161,7 +163,8 @@ fn replace_set<A: Allocator + Copy>(
     requires { AllByRecursion (IsThere tasks.old) mappings.now.keys }
     ensures { tasks.new ≡ all_replaced tasks.old mappings.now.keys entry.now }
 {
+    let mut place = 0;
     for (pid, vpn) in mappings.iter() {
-        tasks.replace(*pid, *vpn, *entry);
+        place = tasks.replace_near(place, *pid, *vpn, *entry);
     }
 }

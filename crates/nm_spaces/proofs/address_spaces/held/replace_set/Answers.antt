@@ -12,15 +12,15 @@ loop-pid-init g c =
       made = ap (λ l. all_replaced c.args.tasks.now l c.args.entry.now) all;
     }
 
-pub replace-requires : goal.replace-requires
-replace-requires g c = (subst (AllByRecursion (IsThere c.loop-pid.tasks)) c.in-Some.ensures.steps c.loop-pid.invariant.there).0
+pub replace_near-place-requires : goal.replace_near-place-requires
+replace_near-place-requires g c = (subst (AllByRecursion (IsThere c.loop-pid.tasks)) c.in-Some.ensures.steps c.loop-pid.invariant.there).0
 
 pub loop-pid-preserved : goal.loop-pid-preserved
 loop-pid-preserved g c =
     let there = subst (AllByRecursion (IsThere c.loop-pid.tasks)) c.in-Some.ensures.steps c.loop-pid.invariant.there in
     record {
-      there = subst (λ ts. AllByRecursion (IsThere ts) c.next.new.self) (sym c.replace.ensures) (all_there_stay c.loop-pid.tasks c.args.entry.now c.in-Some.field-0.now c.next.new.self there.0 there.1);
-      made = ap (λ ts. all_replaced ts c.next.new.self c.args.entry.now) c.replace.ensures
+      there = subst (λ ts. AllByRecursion (IsThere ts) c.next.new.self) (sym c.replace_near-place.ensures) (all_there_stay c.loop-pid.tasks c.args.entry.now c.in-Some.field-0.now c.next.new.self there.0 there.1);
+      made = ap (λ ts. all_replaced ts c.next.new.self c.args.entry.now) c.replace_near-place.ensures
           ∙ sym (ap (λ l. all_replaced c.loop-pid.tasks l c.args.entry.now) c.in-Some.ensures.steps) ∙ c.loop-pid.invariant.made;
     }
 

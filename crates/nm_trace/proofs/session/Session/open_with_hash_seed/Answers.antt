@@ -1,7 +1,7 @@
 use Rattle.nm_steps.proofs.Memory.{handed_on}
 use Rattle.nm_steps.proofs.Utf8.{text_of_read}
 use Rattle.nm_trace.proofs.Sessions.{text_of_memory}
-use Rattle.nm_trace.proofs.session.Session.open.Goals as goal
+use Rattle.nm_trace.proofs.session.Session.open_with_hash_seed.Goals as goal
 
 pub returns-in_err-value-clause-allocates : goal.returns-in_err-value-clause-allocates
 returns-in_err-value-clause-allocates g c = λ is.
