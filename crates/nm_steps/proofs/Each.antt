@@ -2,7 +2,7 @@
 use Rattle.std.proofs.Common.{◌≡◌, ℕ, zero, suc, ◌+◌, ◌≤◌, ◌<◌, List, [], ◌∷◌, ◌++◌, Bool, true, Option, Some, None, is_some, length, get_or, drop, option_map, refl, sym, ap, ◌∙◌, append_assoc, add-one, drop-cons, arith}
 use Rattle.std.proofs.lemmas.List.{append-nil, drop_all}
 use Rattle.serde_json.specs.Data.{Data}
-use Rattle.nm_steps.specs.Tree.{items_seen}
+use Rattle.nm_steps.specs.Lists.{items_seen}
 use Rattle.nm_steps.specs.declared.step_error.StepError.{StepError}
 use Rattle.nm_steps.specs.declared.step_error.StepError.TheVariants.{Bad, Memory}
 use Rattle.nm_requests.specs.Calls.{Call}

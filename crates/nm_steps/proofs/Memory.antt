@@ -10,7 +10,6 @@ use Rattle.nm_types.specs.Refusal.{refusal}
 use Rattle.nm_model.specs.definitions.Cut.{run_count}
 use Rattle.nm_steps.specs.declared.step_error.StepError.{StepError}
 use Rattle.nm_steps.specs.Gives.{FailsStep, GivesStep}
-use Rattle.nm_steps.specs.Tree.{items_seen}
 use Rattle.nm_steps.specs.Form.{◌>>=◌, below, each, u64_of, number_at, numbers_at, number_below, small_numbers_at, items_at, batch_of, during_of, limit_of, machine_of, row_of}
 use Rattle.nm_steps.specs.Memory.{has_items, holds, begins, begins_at, batch_starts, flight_allocates, row_allocates, machine_takes_memory, starts, starts_at, step_allocates, steps_take_memory}
 
@@ -47,33 +46,33 @@ pub is_there : {A : Type 0} (o : Option A) (x : A) → o ≡ Some x → is_some 
 is_there None x h = absurd (cc)
 is_there (Some a) x h = refl
 
-some_items : {V : Type 0} (view : V → Data) (vs : List V) → 0 < length vs → has_items (Some (items_seen view vs)) ≡ true
-some_items view [] some = absurd (omega (arith, some))
-some_items view (v ∷ vs) some = refl
-
 pub some_is : {A E : Type 0} (o : Option A) (e : E) (x : A) → ok_or o e ≡ Ok x → o ≡ Some x
 some_is None e x is = absurd (cc)
 some_is (Some y) e x is = cc
 
-module _ {V : Type 0} (view : V → Data) (vs : List V) where
-  -- what is a list of these values
-  pub has_listed : (o : Option Items) → o ≡ Some (items_seen view vs) → 0 < length vs → has_items o ≡ true
-  has_listed o is some = rw is (some_items view vs some)
+-- a list whose first item is read has an item
+some_started : {A : Type 0} (f : Data → Option A) (ds : Items) → starts f ds ≡ true → has_items (Some ds) ≡ true
+some_started f no_items first = absurd (cc)
+some_started f (item d ds) first = refl
 
-  pub starts_listed : {B : Type 0} (f : Data → Option B) (o : Option Items) → o ≡ Some (items_seen view vs) → starts f (items_seen view vs) ≡ true → starts_at f o ≡ true
+module _ (ds : Items) where
+  -- what is a list of these items
+  pub has_started : {A : Type 0} (f : Data → Option A) (o : Option Items) → o ≡ Some ds → starts f ds ≡ true → has_items o ≡ true
+  has_started f o is first = rw is (some_started f ds first)
+
+  pub starts_listed : {A : Type 0} (f : Data → Option A) (o : Option Items) → o ≡ Some ds → starts f ds ≡ true → starts_at f o ≡ true
   starts_listed f o is first = rw is first
 
-  pub begins_listed : (such : Data → Bool) (o : Option Items) → o ≡ Some (items_seen view vs) → begins such (items_seen view vs) ≡ true → begins_at such o ≡ true
+  pub begins_listed : (such : Data → Bool) (o : Option Items) → o ≡ Some ds → begins such ds ≡ true → begins_at such o ≡ true
   begins_listed such o is first = rw is first
 
-  -- these values are the rows of a machine
-  pub has_rows : (d m : Data) (sizes : List ℕ) → get (codes "machine") d ≡ Some m → small_numbers_at (codes "nodes") m ≡ Some sizes → items_at (codes "distance") m ≡ Some (items_seen view vs) → begins row_allocates (items_seen view vs) ≡ true
-      → machine_takes_memory d ≡ true
+  -- these items are the rows of a machine
+  pub has_rows : (d m : Data) (sizes : List ℕ) → get (codes "machine") d ≡ Some m → small_numbers_at (codes "nodes") m ≡ Some sizes → items_at (codes "distance") m ≡ Some ds → begins row_allocates ds ≡ true → machine_takes_memory d ≡ true
   has_rows d m sizes machine nodes is first =
       rw (machine, machine_takes_memory) (or_right (starts_at (number_below (2 ^ 32)) (items_at (codes "nodes") m)) _ (and_both _ _ (is_there _ sizes nodes) (begins_listed row_allocates _ is first)))
 
-  -- these values are the steps of a trace
-  pub steps_begin : (d : Data) (limit : ℕ) → limit_of d ≡ Some limit → items_at (codes "steps") d ≡ Some (items_seen view vs) → begins (step_allocates limit) (items_seen view vs) ≡ true → steps_take_memory d ≡ true
+  -- these items are the steps of a trace
+  pub steps_begin : (d : Data) (limit : ℕ) → limit_of d ≡ Some limit → items_at (codes "steps") d ≡ Some ds → begins (step_allocates limit) ds ≡ true → steps_take_memory d ≡ true
   steps_begin d limit read is first =
       ap (λ o. holds (option_map (λ n. begins_at (step_allocates n) (items_at (codes "steps") d)) o)) read ∙ begins_listed (step_allocates limit) _ is first
 

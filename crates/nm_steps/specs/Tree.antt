@@ -1,42 +1,51 @@
 -- The data of a tree of borrowed text.
-use Rattle.std.specs.Prelude.{List, map, Option, Some, None}
-use Rattle.std.specs.declared.alloc.Global.{Global}
-use Rattle.json.specs.Json as json
-use Rattle.json.specs.Value.{value_view}
-use Rattle.json.specs.declared.value.Value.{Value}
-use Rattle.serde_json.specs.Data.{Num, Data, null, boolean, number, string, array, object, Items, no_items, item, Members, no_members, put}
-use Rattle.serde_json.specs.Read.{number_of}
+use Rattle.std.specs.Prelude.{ℕ, List, [], ◌∷◌, map, Option, Some, None}
+use Rattle.std.specs.Borrow.{Bor}
+use Rattle.json.specs.Token.{Token}
+use Rattle.json.specs.Json.{items, value, parse_map}
+use Rattle.serde_json.specs.Data.{Num, Data, null, boolean, number, string, array, object, Items, item, Members, no_members, put}
+use Rattle.serde_json.specs.Read.{number_of, of_items, converted}
 use Rattle.serde_json.specs.View.{items_of}
+use Rattle.nm_steps.specs.Lists.{items_seen, whole}
+use Rattle.nm_steps.specs.declared.tree.Tree.{Tree, fold-Tree}
+use Rattle.nm_steps.specs.declared.tree.Tree.TheOpen.{Tree-F}
 
 -- a number; null if it is out of range
 abbrev pub number_or_null : Option Num → Data
 number_or_null None = null
 number_or_null (Some n) = number n
 
--- the data of a tree, number by number; of a key that occurs twice, the last value
-abbrev mutual
-  pub shown_data : json.Json → Data
-  shown_data json.null = null
-  shown_data (json.boolean b) = boolean b
-  shown_data (json.number s) = number_or_null (number_of s)
-  shown_data (json.string s) = string s
-  shown_data (json.array js) = array (shown_items js)
-  shown_data (json.object ms) = object (shown_members ms no_members)
+-- the members, with these put in one after another: of a key that occurs twice, the last value stays
+abbrev pub put_all : List (Bor (List ℕ) × Data) → Members → Members
+put_all [] found = found
+put_all (m ∷ ms) found = put_all ms (put m.0.now m.1 found)
 
-  pub shown_items : json.Items → Items
-  shown_items json.no_items = no_items
-  shown_items (json.item j js) = item (shown_data j) (shown_items js)
+-- one level, with each value inside already seen as its data
+abbrev pub view_step : Tree-F Data → Data
+view_step Tree-F.Null = null
+view_step (Tree-F.Bool b) = boolean b
+view_step (Tree-F.Whole n) = whole n
+view_step (Tree-F.Number s) = number_or_null (number_of s.now)
+view_step (Tree-F.Text s) = string s.now
+view_step (Tree-F.Numbers v) = array (items_seen whole v.items)
+view_step (Tree-F.List v) = array (items_of v.items)
+view_step (Tree-F.Object v) = object (put_all v.items no_members)
 
-  pub shown_members : json.Members → Members → Members
-  shown_members json.no_members found = found
-  shown_members (json.member k j ms) found = shown_members ms (put k (shown_data j) found)
+abbrev pub view : Tree → Data
+view = fold-Tree Data view_step
 
-abbrev pub view : Value Global → Data
-view v = shown_data (value_view v)
-
--- the items of a list of values, each seen as its data
-abbrev pub items_seen : {V : Type 0} → (V → Data) → List V → Items
-items_seen as_data vs = items_of (map as_data vs)
-
-abbrev pub items_view : List (Value Global) → Items
+abbrev pub items_view : List Tree → Items
 items_view vs = items_seen view vs
+
+-- the members of an object, in order
+abbrev pub members_view : List (Bor (List ℕ) × Tree) → Members
+members_view ms = put_all (map (λ m. (m.0, view m.1)) ms) no_members
+
+-- the items of a list that begins with these
+abbrev pub items_before : List Data → Items → Items
+items_before [] rest = rest
+items_before (d ∷ ds) rest = item d (items_before ds rest)
+
+-- the list that these tokens are after an opening bracket, where these items have been read; the number bounds the items
+abbrev pub list_after : ℕ → ℕ → List Data → List Token → Option (Data × List Token)
+list_after depth n ds ts = parse_map array (parse_map (items_before ds) (converted of_items (items (value depth) n ts)))

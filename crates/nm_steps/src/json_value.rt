@@ -3,7 +3,16 @@
 ghost use Rattle.std.specs.Prelude.{◌≡◌, option_map, option_and_then};
 ghost use Rattle.serde_json.specs.Data.{Data};
 ghost use Rattle.serde_json.specs.Find.{get, as_number, as_u64, as_bool, as_str, as_array};
-ghost use Rattle.nm_steps.specs.Tree.{items_seen};
+ghost use Rattle.nm_steps.specs.Lists.{list_seen};
+
+/// The items of a list.
+#[derive(Drop)]
+pub enum JsonList<'v, V> {
+    /// Whole numbers below 2^64.
+    Numbers(&'v [u64]),
+    /// Any values.
+    Values(&'v [V]),
+}
 
 /// A JSON value that steps can be read from: `serde_json::Value`, or the tree of a text (`value_of`), which owns no
 /// strings. Contracts see the value that it is, `as_data`.
@@ -23,8 +32,8 @@ pub trait JsonValue {
         ensures { option_map (λ s. s.now) result ≡ as_str (as_data self.now) };
 
     /// The items of a list, or None if this is not a list.
-    fn as_array(&self) -> Option<&[Self]>
-        ensures { option_map (λ v. items_seen as_data v.now) result ≡ as_array (as_data self.now) };
+    fn as_list(&self) -> Option<JsonList<'_, Self>>
+        ensures { option_map (list_seen as_data) result ≡ as_array (as_data self.now) };
 
     /// True or false, or None if this is neither.
     fn as_bool(&self) -> Option<bool>

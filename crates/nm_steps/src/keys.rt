@@ -1,14 +1,14 @@
 //! The values at the keys of a step, and the items of their lists.
 
-ghost use Rattle.std.specs.Prelude.{◌≡◌, ◌<◌, ◌^◌, length, true, Some, IfOk, IfErr};
-ghost use Rattle.nm_steps.specs.Tree.{items_seen};
+ghost use Rattle.std.specs.Prelude.{◌≡◌, ◌<◌, ◌^◌, true, Some, IfOk, IfErr};
+ghost use Rattle.nm_steps.specs.Lists.{items_seen, list_seen};
 ghost use Rattle.nm_steps.specs.Form.{number_at, small_at, text_at, flag_at, set_at, hex_at, hex_bytes};
 ghost use Rattle.nm_steps.specs.Form as form;
 ghost use Rattle.nm_steps.specs.declared.step_error.StepError.TheVariants.{Bad, Memory};
 ghost use Rattle.nm_steps.specs.Gives.{GivesStep};
 ghost use Rattle.nm_steps.specs.Memory.{has_items, has_pairs, starts, starts_at};
 
-use crate::json_value::JsonValue;
+use crate::json_value::{JsonList, JsonValue};
 use crate::step_error::StepError;
 use hex::FromHexError;
 use nm_types::{NodeId, NodeMask};
@@ -50,12 +50,12 @@ pub(crate) fn flag<V: JsonValue>(value: &V, key: &str) -> Result<bool, StepError
 }
 
 /// The list at a key.
-pub(crate) fn list<'v, V: JsonValue>(value: &'v V, key: &str) -> Result<&'v [V], StepError>
-    ensures value { GivesStep (λ v. items_seen V.as_data v.now) result
+pub(crate) fn list<'v, V: JsonValue>(value: &'v V, key: &str) -> Result<JsonList<'v, V>, StepError>
+    ensures value { GivesStep (list_seen V.as_data) result
         (form.items_at key.now (V.as_data value.now)) }
     ensures bad { IfErr result (λ e. e ≡ Bad) }
 {
-    value.get(key).and_then(V::as_array).ok_or(StepError::Bad)
+    value.get(key).and_then(V::as_list).ok_or(StepError::Bad)
 }
 
 /// A number of 64 bits, as an item of a list.
@@ -73,7 +73,6 @@ fn numbers_of<A: Allocator + Copy, V: JsonValue>(
 ) -> Result<Vec<u64, A>, StepError>
     ensures value { GivesStep (λ v. v.items) result
         (form.each form.u64_of (items_seen V.as_data values.now)) }
-    ensures allocates { result ≡ Err Memory → 0 < length values.now }
     ensures first { result ≡ Err Memory →
         starts form.u64_of (items_seen V.as_data values.now) ≡ true }
 {
@@ -83,6 +82,22 @@ fn numbers_of<A: Allocator + Copy, V: JsonValue>(
         numbers.push(number)?;
     }
     Ok(numbers)
+}
+
+/// The numbers that a list has, each of 64 bits.
+fn numbers_in<A: Allocator + Copy, V: JsonValue>(
+    alloc: A,
+    list: JsonList<'_, V>,
+) -> Result<Vec<u64, A>, StepError>
+    ensures value { GivesStep (λ v. v.items) result
+        (form.each form.u64_of (list_seen V.as_data list.entry)) }
+    ensures first { result ≡ Err Memory →
+        starts form.u64_of (list_seen V.as_data list.entry) ≡ true }
+{
+    match list {
+        JsonList::Numbers(numbers) => numbers_of(alloc, numbers),
+        JsonList::Values(values) => numbers_of(alloc, values),
+    }
 }
 
 /// The numbers of the list at a key, each of 64 bits.
@@ -97,7 +112,7 @@ pub(crate) fn numbers<A: Allocator + Copy, V: JsonValue>(
     ensures first { result ≡ Err Memory →
         starts_at form.u64_of (form.items_at key.now (V.as_data value.now)) ≡ true }
 {
-    numbers_of(alloc, list(value, key)?)
+    numbers_in(alloc, list(value, key)?)
 }
 
 /// A number below 2^32, as an item of a list.
@@ -115,7 +130,6 @@ fn smalls_of<A: Allocator + Copy, V: JsonValue>(
 ) -> Result<Vec<u32, A>, StepError>
     ensures value { GivesStep (λ v. v.items) result
         (form.each (form.number_below (2 ^ 32)) (items_seen V.as_data values.now)) }
-    ensures allocates { result ≡ Err Memory → 0 < length values.now }
     ensures first { result ≡ Err Memory →
         starts (form.number_below (2 ^ 32)) (items_seen V.as_data values.now) ≡ true }
 {
@@ -125,6 +139,22 @@ fn smalls_of<A: Allocator + Copy, V: JsonValue>(
         numbers.push(number)?;
     }
     Ok(numbers)
+}
+
+/// The numbers that a list has, each below 2^32.
+fn smalls_in<A: Allocator + Copy, V: JsonValue>(
+    alloc: A,
+    list: JsonList<'_, V>,
+) -> Result<Vec<u32, A>, StepError>
+    ensures value { GivesStep (λ v. v.items) result
+        (form.each (form.number_below (2 ^ 32)) (list_seen V.as_data list.entry)) }
+    ensures first { result ≡ Err Memory →
+        starts (form.number_below (2 ^ 32)) (list_seen V.as_data list.entry) ≡ true }
+{
+    match list {
+        JsonList::Numbers(numbers) => smalls_of(alloc, numbers),
+        JsonList::Values(values) => smalls_of(alloc, values),
+    }
 }
 
 /// The numbers of the list at a key, each below 2^32.
@@ -139,7 +169,7 @@ pub(crate) fn small_numbers<A: Allocator + Copy, V: JsonValue>(
     ensures first { result ≡ Err Memory →
         starts_at (form.number_below (2 ^ 32)) (form.items_at key.now (V.as_data value.now)) ≡ true }
 {
-    smalls_of(alloc, list(value, key)?)
+    smalls_in(alloc, list(value, key)?)
 }
 
 /// A node's number, below 64, as an item of a list.
@@ -169,12 +199,23 @@ fn set_of<V: JsonValue>(values: &[V]) -> Result<NodeMask, StepError>
     Ok(mask)
 }
 
+/// The set of the numbers that a list has, each below 64.
+fn set_in<V: JsonValue>(list: JsonList<'_, V>) -> Result<NodeMask, StepError>
+    ensures value { GivesStep (λ s. s) result (form.set_of (list_seen V.as_data list.entry)) }
+    ensures bad { IfErr result (λ e. e ≡ Bad) }
+{
+    match list {
+        JsonList::Numbers(numbers) => set_of(numbers),
+        JsonList::Values(values) => set_of(values),
+    }
+}
+
 /// The set of the numbers at a key, each below 64.
 pub(crate) fn set<V: JsonValue>(value: &V, key: &str) -> Result<NodeMask, StepError>
     ensures value { GivesStep (λ s. s) result (set_at key.now (V.as_data value.now)) }
     ensures bad { IfErr result (λ e. e ≡ Bad) }
 {
-    set_of(list(value, key)?)
+    set_in(list(value, key)?)
 }
 
 /// The bytes that hexadecimal digits spell.

@@ -11,10 +11,12 @@ mod step_error;
 mod trace;
 mod trace_error;
 mod tree;
+mod whole;
 
-pub use json_value::JsonValue;
+pub use json_value::{JsonList, JsonValue};
 pub use parsing::step_of;
 pub use reading::{geometry_of, read_trace, run_limit_of, value_of};
 pub use step_error::StepError;
 pub use trace::Trace;
 pub use trace_error::TraceError;
+pub use tree::Tree;

@@ -2,7 +2,7 @@
 
 ghost use Rattle.serde_json.specs.View.{view};
 
-use crate::json_value::JsonValue;
+use crate::json_value::{JsonList, JsonValue};
 use serde_json::Value;
 
 impl JsonValue for Value {
@@ -20,9 +20,9 @@ impl JsonValue for Value {
         self.as_str()
     }
 
-    fn as_array(&self) -> Option<&[Value]> {
+    fn as_list(&self) -> Option<JsonList<'_, Value>> {
         match self.as_array() {
-            Some(items) => Some(items.as_slice()),
+            Some(items) => Some(JsonList::Values(items.as_slice())),
             None => None,
         }
     }

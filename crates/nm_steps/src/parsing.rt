@@ -1,7 +1,7 @@
 //! Steps in JSON: the call that each asks for.
 
 ghost use Rattle.std.specs.Prelude.{◌≡◌, ◌<◌, ◌++◌, ◌∷◌, [], true, option_map, OnOk, IfErr, codes};
-ghost use Rattle.nm_steps.specs.Tree.{items_seen};
+ghost use Rattle.nm_steps.specs.Lists.{items_seen, list_seen};
 ghost use Rattle.nm_model.specs.views.Asked.{access_shown};
 ghost use Rattle.nm_requests.specs.Calls as calls;
 ghost use Rattle.nm_steps.specs.Form.{small_at, place_at};
@@ -11,7 +11,7 @@ ghost use Rattle.nm_steps.specs.Gives.{GivesStep};
 ghost use Rattle.nm_steps.specs.Memory.{takes_memory, access_takes_memory, batch_starts, begins, begins_at, flight_allocates, move_takes_memory, names_run, query_takes_memory, write_has_pairs};
 ghost use Rattle.nm_steps.specs.declared.step_error.StepError.TheVariants.{Bad, Memory};
 
-use crate::json_value::JsonValue;
+use crate::json_value::{JsonList, JsonValue};
 use crate::keys::{flag, hex, number, numbers, set, small_number, small_numbers, text};
 use crate::step_error::StepError;
 use nm_requests::{
@@ -130,6 +130,23 @@ fn flights_of<A: Allocator + Copy + Send + Sync, V: JsonValue>(
     Ok(flights)
 }
 
+/// The accesses that a list has, each of a run below `runs`.
+fn flights_in<A: Allocator + Copy + Send + Sync, V: JsonValue>(
+    alloc: A,
+    list: JsonList<'_, V>,
+    runs: usize,
+) -> Result<Vec<InFlight<A>, A>, StepError>
+    ensures flights { GivesStep (λ v. shown_during v.items) result
+        (form.each (form.during_of runs) (list_seen V.as_data list.entry)) }
+    ensures allocates { result ≡ Err Memory →
+        begins (flight_allocates runs) (list_seen V.as_data list.entry) ≡ true }
+{
+    match list {
+        JsonList::Numbers(numbers) => flights_of(alloc, numbers, runs),
+        JsonList::Values(values) => flights_of(alloc, values, runs),
+    }
+}
+
 /// The accesses in flight of a step with this many runs. Empty if the key is missing.
 fn flights_at<A: Allocator + Copy + Send + Sync, V: JsonValue>(
     alloc: A,
@@ -144,8 +161,8 @@ fn flights_at<A: Allocator + Copy + Send + Sync, V: JsonValue>(
     match value.get("during") {
         None => Ok(Vec::new(alloc)),
         Some(during) => {
-            let values = during.as_array().ok_or(StepError::Bad)?;
-            flights_of(alloc, values, runs)
+            let list = during.as_list().ok_or(StepError::Bad)?;
+            flights_in(alloc, list, runs)
         }
     }
 }

@@ -6,7 +6,8 @@ ghost use Rattle.nm_requests.specs.Views.{call_of};
 ghost use Rattle.std.specs.Option.{ok_or};
 ghost use Rattle.std.specs.Str.{is_utf8};
 ghost use Rattle.json.specs.Scratch.{room};
-ghost use Rattle.nm_steps.specs.Tree.{view, items_seen};
+ghost use Rattle.nm_steps.specs.Lists.{items_seen, list_seen};
+ghost use Rattle.nm_steps.specs.Tree.{view};
 ghost use Rattle.serde_json.specs.View as owned;
 ghost use Rattle.nm_steps.specs.Form as form;
 ghost use Rattle.nm_steps.specs.Faults as faults;
@@ -18,14 +19,14 @@ ghost use Rattle.nm_steps.specs.Gives as of_step;
 ghost use Rattle.nm_steps.specs.Memory.{IsSomeText, NeedsMemory, begins, has_items, machine_takes_memory, row_allocates, starts, starts_at, step_allocates, steps_take_memory};
 ghost use Rattle.serde_json.specs.Find.{as_array};
 
-use crate::json_value::JsonValue;
+use crate::json_value::{JsonList, JsonValue};
 use crate::keys::{list, number, small_numbers};
 use crate::parsing::step_of;
 use crate::step_error::StepError;
 use crate::trace::Trace;
 use crate::trace_error::TraceError;
-use crate::tree;
-use json::{Scratch, Value};
+use crate::tree::{self, Tree};
+use json::Scratch;
 use nm_requests::Call;
 use nm_types::Geometry;
 use nm_types::limits::MAX_BATCH;
@@ -48,7 +49,6 @@ fn distances_of<A: Allocator + Copy, V: JsonValue>(
 ) -> Result<Vec<u8, A>, StepError>
     ensures row { of_step.GivesStep (λ v. v.items) result
         (form.each (form.number_below (2 ^ 8)) (items_seen V.as_data values.now)) }
-    ensures allocates { result ≡ Err Memory → 0 < length values.now }
     ensures first { result ≡ Err Memory →
         starts (form.number_below (2 ^ 8)) (items_seen V.as_data values.now) ≡ true }
 {
@@ -60,6 +60,22 @@ fn distances_of<A: Allocator + Copy, V: JsonValue>(
     Ok(row)
 }
 
+/// The distances that a list has.
+fn distances_in<A: Allocator + Copy, V: JsonValue>(
+    alloc: A,
+    list: JsonList<'_, V>,
+) -> Result<Vec<u8, A>, StepError>
+    ensures row { of_step.GivesStep (λ v. v.items) result
+        (form.each (form.number_below (2 ^ 8)) (list_seen V.as_data list.entry)) }
+    ensures first { result ≡ Err Memory →
+        starts (form.number_below (2 ^ 8)) (list_seen V.as_data list.entry) ≡ true }
+{
+    match list {
+        JsonList::Numbers(numbers) => distances_of(alloc, numbers),
+        JsonList::Values(values) => distances_of(alloc, values),
+    }
+}
+
 /// A row of distances.
 fn row_of<A: Allocator + Copy, V: JsonValue>(alloc: A, value: &V) -> Result<Vec<u8, A>, StepError>
     ensures row { of_step.GivesStep (λ v. v.items) result (form.row_of (V.as_data value.now)) }
@@ -67,7 +83,7 @@ fn row_of<A: Allocator + Copy, V: JsonValue>(alloc: A, value: &V) -> Result<Vec<
     ensures first { result ≡ Err Memory →
         starts_at (form.number_below (2 ^ 8)) (as_array (V.as_data value.now)) ≡ true }
 {
-    distances_of(alloc, value.as_array().ok_or(StepError::Bad)?)
+    distances_in(alloc, value.as_list().ok_or(StepError::Bad)?)
 }
 
 /// The rows of a list.
@@ -77,7 +93,6 @@ fn rows_of<A: Allocator + Copy, V: JsonValue>(
 ) -> Result<Vec<Vec<u8, A>, A>, StepError>
     ensures rows { of_step.GivesStep (λ v. map (λ row. row.items) v.items) result
         (form.each form.row_of (items_seen V.as_data values.now)) }
-    ensures allocates { result ≡ Err Memory → 0 < length values.now }
     ensures first { result ≡ Err Memory →
         begins row_allocates (items_seen V.as_data values.now) ≡ true }
 {
@@ -87,6 +102,22 @@ fn rows_of<A: Allocator + Copy, V: JsonValue>(
         rows.push(row)?;
     }
     Ok(rows)
+}
+
+/// The rows that a list has.
+fn rows_in<A: Allocator + Copy, V: JsonValue>(
+    alloc: A,
+    list: JsonList<'_, V>,
+) -> Result<Vec<Vec<u8, A>, A>, StepError>
+    ensures rows { of_step.GivesStep (λ v. map (λ row. row.items) v.items) result
+        (form.each form.row_of (list_seen V.as_data list.entry)) }
+    ensures first { result ≡ Err Memory →
+        begins row_allocates (list_seen V.as_data list.entry) ≡ true }
+{
+    match list {
+        JsonList::Numbers(numbers) => rows_of(alloc, numbers),
+        JsonList::Values(values) => rows_of(alloc, values),
+    }
 }
 
 /// The machine at the top of a trace.
@@ -100,7 +131,7 @@ fn machine_of<A: Allocator + Copy, V: JsonValue>(
 {
     let machine = value.get("machine").ok_or(StepError::Bad)?;
     let sizes = small_numbers(alloc, machine, "nodes")?;
-    let distances = rows_of(alloc, list(machine, "distance")?)?;
+    let distances = rows_in(alloc, list(machine, "distance")?)?;
     match Geometry::new(sizes, distances) {
         Ok(geometry) => Ok(geometry),
         Err(_) => Err(StepError::Bad),
@@ -158,7 +189,6 @@ fn calls_of<A: Allocator + Copy + Send + Sync, V: JsonValue>(
     requires { 0 < limit }
     ensures calls { Gives (λ v. map call_of v.items) result
         (faults.calls_of limit (items_seen V.as_data values.now)) }
-    ensures allocates { result ≡ Err (HostMemory 0) → 0 < length values.now }
     ensures first { result ≡ Err (HostMemory 0) →
         begins (step_allocates limit) (items_seen V.as_data values.now) ≡ true }
 {
@@ -172,6 +202,24 @@ fn calls_of<A: Allocator + Copy + Send + Sync, V: JsonValue>(
         put(&mut calls, call)?;
     }
     Ok(calls)
+}
+
+/// The calls that the steps in a list ask for, or the first fault. A run has at most `limit` requests.
+fn calls_in<A: Allocator + Copy + Send + Sync, V: JsonValue>(
+    alloc: A,
+    list: JsonList<'_, V>,
+    limit: usize,
+) -> Result<Vec<Call<A>, A>, TraceError>
+    requires { 0 < limit }
+    ensures calls { Gives (λ v. map call_of v.items) result
+        (faults.calls_of limit (list_seen V.as_data list.entry)) }
+    ensures first { result ≡ Err (HostMemory 0) →
+        begins (step_allocates limit) (list_seen V.as_data list.entry) ≡ true }
+{
+    match list {
+        JsonList::Numbers(numbers) => calls_of(alloc, numbers, limit),
+        JsonList::Values(values) => calls_of(alloc, values, limit),
+    }
 }
 
 /// The fault of a trace's machine.
@@ -214,9 +262,9 @@ pub fn run_limit_of<V: JsonValue>(value: &V) -> Result<usize, TraceError>
     }
 }
 
-/// The values of the steps of a trace, or a fault if its top has none.
-fn values_of<'v, V: JsonValue>(value: &'v V) -> Result<&'v [V], TraceError>
-    ensures values { Gives (λ v. items_seen V.as_data v.now) result
+/// The list of the steps of a trace, or a fault if its top has none.
+fn steps_of<'v, V: JsonValue>(value: &'v V) -> Result<JsonList<'v, V>, TraceError>
+    ensures values { Gives (list_seen V.as_data) result
         (ok_or (form.items_at (codes "steps") (V.as_data value.now)) BadMachine) }
     ensures bad { IfErr result (λ e. e ≡ BadMachine) }
 {
@@ -234,8 +282,8 @@ fn trace_on<A: Allocator + Copy + Send + Sync, V: JsonValue>(
     ensures allocates { result ≡ Err (HostMemory 0) → steps_take_memory (V.as_data value.now) ≡ true }
 {
     let run_limit = run_limit_of(value)?;
-    let values = values_of(value)?;
-    let calls = calls_of(alloc, values, run_limit)?;
+    let list = steps_of(value)?;
+    let calls = calls_in(alloc, list, run_limit)?;
     Ok(Trace {
         geometry,
         run_limit,
@@ -262,7 +310,7 @@ pub fn value_of<'a>(
     heap: Global,
     bytes: &'a [u8],
     scratch: &'a mut Scratch,
-) -> Result<Value<'a>, TraceError>
+) -> Result<Tree<'a>, TraceError>
     ensures value { Gives view result (ok_or (faults.value_of bytes.now) NotJson) }
     ensures allocates { result ≡ Err (HostMemory 0) →
         (is_utf8 bytes.now ≡ true) × NeedsMemory (room scratch.old) bytes.now }

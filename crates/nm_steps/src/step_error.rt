@@ -1,8 +1,9 @@
 //! Why a value is not a step.
 
 ghost use Rattle.std.specs.Prelude.{◌≡◌};
-ghost use Rattle.nm_steps.specs.declared.step_error.StepError.TheVariants.{Memory};
+ghost use Rattle.nm_steps.specs.declared.step_error.StepError.TheVariants.{Bad, Memory};
 
+use json::Invalid;
 use std::alloc::{AllocError, AllocFailed};
 
 /// Why there is no step.
@@ -27,5 +28,13 @@ impl<T: Drop> From<AllocFailed<T>> for StepError {
 
     fn from(_e: AllocFailed<T>) -> StepError {
         StepError::Memory
+    }
+}
+
+impl From<Invalid> for StepError {
+    ghost from_gives = { λ _ e. e ≡ Bad };
+
+    fn from(_e: Invalid) -> StepError {
+        StepError::Bad
     }
 }

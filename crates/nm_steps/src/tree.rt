@@ -1,25 +1,25 @@
-//! A JSON text as a tree that borrows its strings and keeps its numbers as they are written.
+//! A JSON text as a tree that borrows its strings.
 
-ghost use Rattle.std.specs.Prelude.{ℕ, List, ◌≡◌, ◌<◌, ◌==◌, ◌^◌, length, slice_index, true, false, Some, is_some, option_map, option_and_then, IsTrue, IfSome, IfNone};
+ghost use Rattle.std.specs.Prelude.{ℕ, List, ◌≡◌, ◌<◌, ◌≤◌, ◌==◌, ◌∷◌, [], length, map, slice_index, true, false, Some, is_some, option_map, option_and_then, IsTrue, IfOk, OnOk, IfErr, IfSome, IfNone};
 ghost use Rattle.std.specs.Str.Parse.{IsNumeral};
 ghost use Rattle.fast_float.specs.Text.{minus};
-ghost use Rattle.json.specs.Json as grammar;
-ghost use Rattle.json.specs.Json.Json.{number};
-ghost use Rattle.json.specs.Reads.{opens};
+ghost use Rattle.json.specs.Json.{value, members};
+ghost use Rattle.json.specs.Reads.{opens, token_of};
+ghost use Rattle.json.specs.Token.{number as number_token};
 ghost use Rattle.json.specs.Scratch.{room};
-ghost use Rattle.nm_steps.specs.declared.step_error.StepError.TheVariants.{Memory};
-ghost use Rattle.json.specs.Value.{value_view, items_view as json_items, members_view as json_members};
-ghost use Rattle.serde_json.specs.Data.{no_members, unsigned};
-ghost use Rattle.serde_json.specs.Find.{get, as_number, as_u64, as_bool, as_str, as_array};
-ghost use Rattle.serde_json.specs.Read.{number_of, number_from, of_json, of_items, of_members, read};
-ghost use Rattle.nm_steps.specs.Tree.{view, items_seen};
+ghost use Rattle.serde_json.specs.Data.{unsigned, number as number_data, array, no_members};
+ghost use Rattle.serde_json.specs.Find.{get, get_member, as_number, as_u64, as_bool, as_str, as_array};
+ghost use Rattle.serde_json.specs.Read.{number_of, number_from, of_json, of_members, converted, read};
+ghost use Rattle.nm_steps.specs.Lists.{whole, list_seen};
+ghost use Rattle.nm_steps.specs.Tree.{view, list_after, items_view, members_view};
 ghost use Rattle.nm_steps.specs.Gives.{GivesStep};
 ghost use Rattle.nm_steps.specs.Memory.{NeedsMemory};
+ghost use Rattle.nm_steps.specs.declared.step_error.StepError.TheVariants.{Bad, Memory};
 
-use crate::json_value::JsonValue;
+use crate::json_value::{JsonList, JsonValue};
 use crate::step_error::StepError;
 use fast_float::Numeral;
-use json::{Error, Reader, Scratch, Value};
+use json::{Reader, Scratch, Token};
 use std::alloc::Global;
 
 /// How deep lists and objects may nest.
@@ -28,83 +28,25 @@ const MAX_DEPTH: usize = 127;
 /// Every number of at most this many digits is below 2^64.
 const SHORT_DIGITS: usize = 19;
 
-/// The tree of all that a reader reads. `Bad` if that is not one value.
-fn next_tree<'a>(heap: Global, reader: &mut Reader<'a>) -> Result<Value<'a>, StepError>
-    ensures value { GivesStep value_view result
-        (option_and_then (λ p. grammar.if_last p.0 p.1) (grammar.value 127 reader.old)) }
-    ensures allocates { result ≡ Err Memory → IsTrue (opens reader.old) }
-{
-    match Value::read(heap, reader, MAX_DEPTH) {
-        Ok(value) => {
-            if reader.next().is_some() {
-                Err(StepError::Bad)
-            } else {
-                Ok(value)
-            }
-        }
-        Err(Error::OutOfMemory) => Err(StepError::Memory),
-        Err(_) => Err(StepError::Bad),
-    }
-}
-
-/// The tree of a text. `Bad` if the text is not JSON: lists and objects may nest at most 127 deep, and each number must
-/// be in the range of a double. Strings with escapes are written to `scratch`.
-pub(crate) fn read<'a>(
-    heap: Global,
-    text: &'a str,
-    scratch: &'a mut Scratch,
-) -> Result<Value<'a>, StepError>
-    ensures value { GivesStep view result (read text.now) }
-    ensures allocates { result ≡ Err Memory → NeedsMemory (room scratch.old) text.now }
-{
-    let mut reader = Reader::new(text, scratch)?;
-    let value = next_tree(heap, &mut reader)?;
-    if all_in_range(&value) {
-        Ok(value)
-    } else {
-        Err(StepError::Bad)
-    }
-}
-
-/// The value at a key, the last one if the key occurs twice. None if the key is missing, or this is not an object.
-fn get<'v, 'a>(value: &'v Value<'a>, key: &str) -> Option<&'v Value<'a>>
-    ensures { option_map (λ v. view v.now) result ≡ get key.now (view value.now) }
-{
-    value.get(key)
-}
-
-/// The items of a list, or None if this is not a list.
-fn as_array<'v, 'a>(value: &'v Value<'a>) -> Option<&'v [Value<'a>]>
-    ensures { option_map (λ v. items_seen view v.now) result ≡ as_array (view value.now) }
-{
-    match value {
-        Value::Array(items) => Some(items.as_slice()),
-        _ => None,
-    }
-}
-
-/// A string, or None if this is not a string.
-fn as_str<'a>(value: &Value<'a>) -> Option<&'a str>
-    ensures { option_map (λ s. s.now) result ≡ as_str (view value.now) }
-{
-    value.as_str()
-}
-
-/// True or false, or None if this is neither.
-fn as_bool(value: &Value<'_>) -> Option<bool>
-    ensures { result ≡ as_bool (view value.now) }
-{
-    value.as_bool()
-}
-
-/// A whole number below 2^64, written without point and exponent, or None if this is not one.
-fn as_u64(value: &Value<'_>) -> Option<u64>
-    ensures { result ≡ option_and_then as_u64 (as_number (view value.now)) }
-{
-    match value {
-        Value::Number(number) => whole_of(number),
-        _ => None,
-    }
+/// A JSON value whose texts are borrowed. Its numbers are in the range of a double.
+#[derive(Drop)]
+pub enum Tree<'a> {
+    /// Null.
+    Null,
+    /// True or false.
+    Bool(bool),
+    /// A whole number below 2^64.
+    Whole(u64),
+    /// Any other number, as it is written.
+    Number(&'a str),
+    /// A string.
+    Text(&'a str),
+    /// A list of numbers of one to 19 digits, or of nothing.
+    Numbers(Vec<u64>),
+    /// A list with any other item.
+    List(Vec<Tree<'a>>),
+    /// An object: its keys and values in order. Of a key that occurs twice, the last value counts.
+    Object(Vec<(&'a str, Tree<'a>)>),
 }
 
 /// Whether a JSON number begins with a minus sign.
@@ -190,64 +132,273 @@ fn is_in_range(number: &str) -> bool
     }
 }
 
-/// Whether a value is a number of one to 19 digits, as most numbers of a trace are. Such numbers are in range.
-fn is_short_number(value: &Value<'_>) -> bool
-    ensures is_some { result ≡ true → is_some (of_json (value_view value.now)) ≡ true }
-    ensures other { result ≡ false
-        → (digits : List ℕ)
-        → value_view value.now ≡ number digits
-        → IsNumeral 10 digits
-        → 19 < length digits }
+/// The tree of a number.
+#[inline(always)]
+fn number_tree<'a>(text: &'a str) -> Result<Tree<'a>, StepError>
+    ensures value { GivesStep view result (option_map number_data (number_of text.now)) }
+    ensures bad { IfErr result (λ e. e ≡ Bad) }
 {
-    match value {
-        Value::Number(number) => short_of(number.as_bytes()).is_some(),
-        _ => false,
+    if let Some(whole) = whole_of(text) {
+        Ok(Tree::Whole(whole))
+    } else if is_in_range(text) {
+        Ok(Tree::Number(text))
+    } else {
+        Err(StepError::Bad)
     }
 }
 
-/// Whether all numbers of a value are in range.
-#[cycle(range)]
-fn all_in_range(value: &Value<'_>) -> bool
-    ensures { result ≡ is_some (of_json (value_view value.now)) }
+/// The next value of a reader. Lists and objects may nest `depth` deep.
+#[cycle(read)]
+#[inline(always)]
+fn read_value<'a>(
+    heap: Global,
+    reader: &mut Reader<'a>,
+    depth: usize,
+) -> Result<Tree<'a>, StepError>
+    ensures value { GivesStep (λ t. (view t, reader.new)) result
+        (converted of_json (value depth reader.old)) }
+    ensures left { OnOk result (length reader.new < length reader.old) }
+    ensures allocates { result ≡ Err Memory → IsTrue (opens reader.old) }
 {
-    match value {
-        Value::Number(number) => is_in_range(number),
-        Value::Array(items) => items_in_range(items),
-        Value::Object(members) => members_in_range(members),
-        _ => true,
-    }
+    let token = reader.next().ok_or(StepError::Bad)?;
+    read_from(heap, token, reader, depth)
 }
 
-/// Whether all numbers of these items are in range.
-#[cycle(range)]
-fn items_in_range(items: &Vec<Value<'_>>) -> bool
-    ensures { result ≡ is_some (of_items (json_items items.now.items)) }
+/// The value that begins with this token, which the reader has passed. Lists and objects may nest `depth` deep.
+#[cycle(read)]
+#[inline(always)]
+fn read_from<'a>(
+    heap: Global,
+    token: Token<'a>,
+    reader: &mut Reader<'a>,
+    depth: usize,
+) -> Result<Tree<'a>, StepError>
+    ensures value { GivesStep (λ t. (view t, reader.new)) result
+        (converted of_json (value depth (token_of token.entry ∷ reader.old))) }
+    ensures left { OnOk result (length reader.new ≤ length reader.old) }
+    ensures allocates { result ≡ Err Memory → IsTrue (opens (token_of token.entry ∷ reader.old)) }
 {
-    for item in items {
-        if !is_short_number(item) && !all_in_range(item) {
-            return false;
+    match token {
+        Token::String(text) => Ok(Tree::Text(text)),
+        Token::Number(text) => number_tree(text),
+        Token::Bool(b) => Ok(Tree::Bool(b)),
+        Token::Null => Ok(Tree::Null),
+        Token::EndObject | Token::EndArray | Token::Key(_) | Token::Bad => Err(StepError::Bad),
+        Token::BeginArray => {
+            if depth == 0 {
+                return Err(StepError::Bad);
+            }
+            read_list(heap, reader, depth - 1)
+        }
+        Token::BeginObject => {
+            if depth == 0 {
+                return Err(StepError::Bad);
+            }
+            Ok(Tree::Object(read_members(heap, reader, depth - 1)?))
         }
     }
-    true
 }
 
-/// Whether all numbers of these members are in range.
-#[cycle(range)]
-fn members_in_range<'a>(members: &Vec<(&'a str, Value<'a>)>) -> bool
-    ensures { result ≡ is_some (of_members (json_members members.now.items) no_members) }
+/// The whole number below 2^64 that a token is, if it is one.
+#[inline(always)]
+fn whole_at(token: &Token<'_>) -> Option<u64>
+    ensures { IfSome result (λ n. (text : List ℕ)
+        × (token_of token.now ≡ number_token text) × (number_of text ≡ Some (unsigned n))) }
 {
-    for member in members {
-        if !all_in_range(&member.1) {
-            return false;
+    match token {
+        Token::Number(text) => short_of(text.as_bytes()),
+        _ => None,
+    }
+}
+
+/// The trees of numbers.
+fn trees_of<'a>(heap: Global, numbers: &[u64]) -> Result<Vec<Tree<'a>>, StepError>
+    ensures trees { IfOk result (λ v. map view v.items ≡ map whole numbers.now) }
+    ensures memory { IfErr result (λ e. e ≡ Memory) }
+{
+    let mut trees = Vec::new(heap);
+    for number in numbers {
+        trees.push(Tree::Whole(*number))?;
+    }
+    Ok(trees)
+}
+
+/// A list, after its opening bracket.
+#[cycle(read)]
+#[inline(never)]
+fn read_list<'a>(heap: Global, reader: &mut Reader<'a>, depth: usize) -> Result<Tree<'a>, StepError>
+    ensures value { GivesStep (λ t. (view t, reader.new)) result
+        (list_after depth (length reader.old) [] reader.old) }
+    ensures left { OnOk result (length reader.new < length reader.old) }
+{
+    let mut numbers = Vec::new(heap);
+    loop {
+        let token = reader.next().ok_or(StepError::Bad)?;
+        if let Some(number) = whole_at(&token) {
+            numbers.push(number)?;
+        } else {
+            return read_rest(heap, numbers, token, reader, depth);
         }
     }
-    true
 }
 
-impl<'a> JsonValue for Value<'a> {
+/// A list that begins with these numbers, and goes on with this token.
+#[cycle(read)]
+#[inline(always)]
+fn read_rest<'a>(
+    heap: Global,
+    numbers: Vec<u64>,
+    token: Token<'a>,
+    reader: &mut Reader<'a>,
+    depth: usize,
+) -> Result<Tree<'a>, StepError>
+    ensures value { GivesStep (λ t. (view t, reader.new)) result
+        (list_after depth (length (token_of token.entry ∷ reader.old)) (map whole numbers.items) (token_of token.entry ∷ reader.old)) }
+    ensures left { OnOk result (length reader.new ≤ length reader.old) }
+{
+    if let Token::EndArray = token {
+        return Ok(Tree::Numbers(numbers));
+    }
+    let item = read_from(heap, token, reader, depth)?;
+    let mut trees = trees_of(heap, numbers.as_slice())?;
+    trees.push(item)?;
+    let items = read_items(heap, reader, depth, trees)?;
+    Ok(Tree::List(items))
+}
+
+/// The items of a list, after those that were read.
+#[cycle(read)]
+#[inline(never)]
+fn read_items<'a>(
+    heap: Global,
+    reader: &mut Reader<'a>,
+    depth: usize,
+    before: Vec<Tree<'a>>,
+) -> Result<Vec<Tree<'a>>, StepError>
+    ensures value { (n : ℕ) → length reader.old ≤ n →
+        GivesStep (λ v. (array (items_view v.items), reader.new)) result
+        (list_after depth n (map view before.entry.items) reader.old) }
+    ensures left { OnOk result (length reader.new < length reader.old) }
+{
+    let mut found = before;
+    while !reader.take_end_array() {
+        let item = read_value(heap, reader, depth)?;
+        found.push(item)?;
+    }
+    Ok(found)
+}
+
+/// The members of an object, after its opening bracket.
+#[cycle(read)]
+#[inline(never)]
+fn read_members<'a>(
+    heap: Global,
+    reader: &mut Reader<'a>,
+    depth: usize,
+) -> Result<Vec<(&'a str, Tree<'a>)>, StepError>
+    ensures value { GivesStep (λ v. (members_view v.items, reader.new)) result
+        (converted (λ ms. of_members ms no_members)
+        (members (value depth) (length reader.old) reader.old)) }
+    ensures left { OnOk result (length reader.new < length reader.old) }
+{
+    let mut found = Vec::new(heap);
+    while let Some(key) = reader.next_key()? {
+        let member = read_value(heap, reader, depth)?;
+        found.push((key, member))?;
+    }
+    Ok(found)
+}
+
+/// The tree of a text. `Bad` if the text is not JSON: lists and objects may nest at most 127 deep, and each number must
+/// be in the range of a double. Strings with escapes are written to `scratch`.
+pub(crate) fn read<'a>(
+    heap: Global,
+    text: &'a str,
+    scratch: &'a mut Scratch,
+) -> Result<Tree<'a>, StepError>
+    ensures value { GivesStep view result (read text.now) }
+    ensures allocates { result ≡ Err Memory → NeedsMemory (room scratch.old) text.now }
+{
+    let mut reader = Reader::new(text, scratch)?;
+    let value = read_value(heap, &mut reader, MAX_DEPTH)?;
+    if reader.next().is_some() {
+        return Err(StepError::Bad);
+    }
+    Ok(value)
+}
+
+/// The last value at a key.
+fn find<'v, 'a>(members: &'v [(&'a str, Tree<'a>)], key: &str) -> Option<&'v Tree<'a>>
+    ensures { option_map (λ v. view v.now) result
+        ≡ get_member key.now (members_view members.now) }
+{
+    let mut left = members.len();
+    while left > 0 {
+        left -= 1;
+        let member = &members[left];
+        if member.0 == key {
+            return Some(&member.1);
+        }
+    }
+    None
+}
+
+/// The value at a key, the last one if the key occurs twice. None if the key is missing, or this is not an object.
+fn get<'v, 'a>(tree: &'v Tree<'a>, key: &str) -> Option<&'v Tree<'a>>
+    ensures { option_map (λ v. view v.now) result ≡ get key.now (view tree.now) }
+{
+    match tree {
+        Tree::Object(members) => find(members.as_slice(), key),
+        _ => None,
+    }
+}
+
+/// A whole number below 2^64, written without point and exponent, or None if this is not one.
+fn as_u64(tree: &Tree<'_>) -> Option<u64>
+    ensures { result ≡ option_and_then as_u64 (as_number (view tree.now)) }
+{
+    match tree {
+        Tree::Whole(number) => Some(*number),
+        Tree::Number(text) => whole_of(text),
+        _ => None,
+    }
+}
+
+/// A string, or None if this is not a string.
+fn as_str<'a>(tree: &Tree<'a>) -> Option<&'a str>
+    ensures { option_map (λ s. s.now) result ≡ as_str (view tree.now) }
+{
+    match tree {
+        Tree::Text(text) => Some(*text),
+        _ => None,
+    }
+}
+
+/// The items of a list, or None if this is not a list.
+fn as_list<'v, 'a>(tree: &'v Tree<'a>) -> Option<JsonList<'v, Tree<'a>>>
+    ensures { option_map (list_seen view) result ≡ as_array (view tree.now) }
+{
+    match tree {
+        Tree::Numbers(numbers) => Some(JsonList::Numbers(numbers.as_slice())),
+        Tree::List(items) => Some(JsonList::Values(items.as_slice())),
+        _ => None,
+    }
+}
+
+/// True or false, or None if this is neither.
+fn as_bool(tree: &Tree<'_>) -> Option<bool>
+    ensures { result ≡ as_bool (view tree.now) }
+{
+    match tree {
+        Tree::Bool(flag) => Some(*flag),
+        _ => None,
+    }
+}
+
+impl<'a> JsonValue for Tree<'a> {
     ghost as_data = { view };
 
-    fn get(&self, key: &str) -> Option<&Value<'a>> {
+    fn get(&self, key: &str) -> Option<&Tree<'a>> {
         get(self, key)
     }
 
@@ -259,8 +410,8 @@ impl<'a> JsonValue for Value<'a> {
         as_str(self)
     }
 
-    fn as_array(&self) -> Option<&[Value<'a>]> {
-        as_array(self)
+    fn as_list(&self) -> Option<JsonList<'_, Tree<'a>>> {
+        as_list(self)
     }
 
     fn as_bool(&self) -> Option<bool> {

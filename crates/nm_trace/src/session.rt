@@ -11,9 +11,9 @@ ghost use Rattle.nm_steps.specs.declared.trace_error.TraceError.TheVariants.{Hos
 mod calls;
 
 use crate::playing::make_step;
-use json::{Scratch, Value};
+use json::Scratch;
 use nm_calls::{Call, FIXED_SEED, RunCrew, System};
-use nm_steps::{StepError, TraceError, geometry_of, run_limit_of, step_of, value_of};
+use nm_steps::{StepError, TraceError, Tree, geometry_of, run_limit_of, step_of, value_of};
 use nm_streams::{Block, ClosedWriter};
 use std::alloc::{Allocator, Global};
 use std::marker::Model;
@@ -42,7 +42,7 @@ impl<A: Allocator + Copy + Send + Sync> Model for Session<A> {
 /// The call of a value as the step with this number, or its fault.
 fn call_of<A: Allocator + Copy + Send + Sync>(
     alloc: A,
-    value: &Value<'_>,
+    value: &Tree<'_>,
     limit: usize,
     step: usize,
 ) -> Result<Call<A>, TraceError>

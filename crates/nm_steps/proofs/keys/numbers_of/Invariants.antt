@@ -1,5 +1,5 @@
 use Rattle.std.proofs.Common.{◌≡◌, ◌<◌, true, drop}
-use Rattle.nm_steps.specs.Tree.{items_seen}
+use Rattle.nm_steps.specs.Lists.{items_seen}
 use Rattle.nm_steps.specs.Form.{each, u64_of}
 use Rattle.nm_steps.specs.Memory.{starts}
 use Rattle.nm_steps.proofs.Each.{with_front}

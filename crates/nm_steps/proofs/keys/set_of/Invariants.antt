@@ -2,7 +2,7 @@ use Rattle.std.proofs.Common.{◌≡◌, [], drop, option_map}
 use Rattle.std.specs.List.{fold}
 use Rattle.std.specs.Ordering.{nat_cmp}
 use Rattle.std.specs.BTreeSet.{insert_key}
-use Rattle.nm_steps.specs.Tree.{items_seen}
+use Rattle.nm_steps.specs.Lists.{items_seen}
 use Rattle.nm_steps.specs.Form.{each, number_below}
 use Rattle.nm_steps.proofs.keys.set_of.Given as goal
 

@@ -1,5 +1,5 @@
 use Rattle.std.proofs.Common.{◌≡◌, ◌<◌, true, drop}
-use Rattle.nm_steps.specs.Tree.{items_seen}
+use Rattle.nm_steps.specs.Lists.{items_seen}
 use Rattle.nm_requests.specs.Views.{shown_during}
 use Rattle.nm_steps.specs.Form.{each, during_of}
 use Rattle.nm_steps.specs.Memory.{begins, flight_allocates}

@@ -8,7 +8,7 @@ use Rattle.nm_steps.specs.declared.trace_error.TraceError.TheVariants.{BadStep}
 use Rattle.nm_steps.specs.Faults.{first_bad}
 use Rattle.nm_steps.specs.Form.{step_of}
 use Rattle.nm_steps.specs.Gives.{FailsStep}
-use Rattle.nm_steps.specs.Tree.{items_seen}
+use Rattle.nm_steps.specs.Lists.{items_seen}
 use Rattle.nm_requests.specs.Views.{call_of}
 use Rattle.nm_steps.specs.Memory.{step_allocates}
 use Rattle.nm_steps.proofs.Each.{goes_on, ends, is_done, is_here, is_later, begins_by}

@@ -1,5 +1,5 @@
 use Rattle.std.proofs.Common.{◌≡◌, ◌+◌, ◌<◌, true, drop, map}
-use Rattle.nm_steps.specs.Tree.{items_seen}
+use Rattle.nm_steps.specs.Lists.{items_seen}
 use Rattle.nm_steps.specs.Form.{each, step_of}
 use Rattle.nm_steps.specs.Faults.{first_bad}
 use Rattle.nm_requests.specs.Views.{call_of}

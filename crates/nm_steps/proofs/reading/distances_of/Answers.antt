@@ -9,9 +9,6 @@ returns-in_err-distance-clause-row g c =
     fails_on _ c.from_residual.result _ _ c.from_residual.ensures
     (ends (number_below (2 ^ 8)) c.loop-value.row.items g.V.JsonValue.as_data c.args.values.now c.loop-value.value-index c.value-item.result _ c.loop-value-test.true c.value-item.is _ c.in_err-distance.ensures.value c.loop-value.invariant.read)
 
-pub returns-in_err-push-clause-allocates : goal.returns-in_err-push-clause-allocates
-returns-in_err-push-clause-allocates g c = λ is. omega (arith, c.loop-value-test.true)
-
 pub returns-in_err-push-clause-first : goal.returns-in_err-push-clause-first
 returns-in_err-push-clause-first g c = λ is.
     starts_by (number_below (2 ^ 8)) g.V.JsonValue.as_data c.args.values.now c.loop-value.value-index c.value-item.result c.loop-value-test.true c.value-item.is (is_there _ _ c.in_ok-distance.ensures.value) c.loop-value.invariant.first

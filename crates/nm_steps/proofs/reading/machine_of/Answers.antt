@@ -11,5 +11,5 @@ returns-in_err-sizes-clause-allocates g c = λ is.
 pub returns-in_err-distances-clause-allocates : goal.returns-in_err-distances-clause-allocates
 returns-in_err-distances-clause-allocates g c = λ is.
     let machine = sym (rw c.in_ok-machine.ensures.ok_part at c.get.ensures) in
-    let memory = handed_on c.from_residual-in_err-distances.result c.rows_of.result _ _ c.from_residual-in_err-distances.ensures c.in_err-distances.was is in
-    has_rows g.V.JsonValue.as_data c.in_ok-list.field-0.now (g.V.JsonValue.as_data c.args.value.now) _ _ machine c.in_ok-sizes.ensures.value c.in_ok-list.ensures.value (c.rows_of.ensures.first memory)
+    let memory = handed_on c.from_residual-in_err-distances.result c.rows_in.result _ _ c.from_residual-in_err-distances.ensures c.in_err-distances.was is in
+    has_rows _ (g.V.JsonValue.as_data c.args.value.now) _ _ machine c.in_ok-sizes.ensures.value c.in_ok-list.ensures.value (c.rows_in.ensures.first memory)

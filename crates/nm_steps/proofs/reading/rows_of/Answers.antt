@@ -11,16 +11,10 @@ returns-in_err-row-clause-rows g c =
     fails_on _ c.from_residual.result _ _ c.from_residual.ensures
     (ends row_of (map (λ row. row.items) c.loop-value.rows.items) g.V.JsonValue.as_data c.args.values.now c.loop-value.value-index c.value-item.result _ c.loop-value-test.true c.value-item.is _ c.in_err-row.ensures.row c.loop-value.invariant.read)
 
-pub returns-in_err-row-clause-allocates : goal.returns-in_err-row-clause-allocates
-returns-in_err-row-clause-allocates g c = λ is. omega (arith, c.loop-value-test.true)
-
 pub returns-in_err-row-clause-first : goal.returns-in_err-row-clause-first
 returns-in_err-row-clause-first g c = λ is.
     let memory = handed_on c.from_residual.result c.row_of.result _ _ c.from_residual.ensures c.in_err-row.was is in
     begins_by row_allocates g.V.JsonValue.as_data c.args.values.now c.loop-value.value-index c.value-item.result c.loop-value-test.true c.value-item.is (or_right _ _ (c.row_of.ensures.first memory)) c.loop-value.invariant.first
-
-pub returns-in_err-push-clause-allocates : goal.returns-in_err-push-clause-allocates
-returns-in_err-push-clause-allocates g c = λ is. omega (arith, c.loop-value-test.true)
 
 pub returns-in_err-push-clause-first : goal.returns-in_err-push-clause-first
 returns-in_err-push-clause-first g c = λ is.

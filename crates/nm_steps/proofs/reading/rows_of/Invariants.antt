@@ -1,5 +1,5 @@
 use Rattle.std.proofs.Common.{◌≡◌, ◌<◌, true, drop, map}
-use Rattle.nm_steps.specs.Tree.{items_seen}
+use Rattle.nm_steps.specs.Lists.{items_seen}
 use Rattle.nm_steps.specs.Form.{each, row_of}
 use Rattle.nm_steps.specs.Memory.{begins, row_allocates}
 use Rattle.nm_steps.proofs.Each.{with_front}
