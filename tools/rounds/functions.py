@@ -72,13 +72,18 @@ class Function:
     def __init__(self, file, path, owner, name, start, header):
         self.file, self.modules, self.owner, self.name, self.start = file, path, owner, name, start
         self.is_public = bool(re.search(r"\bpub\s+(?:(?:const|unsafe|final|default|extern\s+\S+)\s+)*fn\b", header)) or bool(owner.trait)
-        self.is_in_cycle = bool(re.search(r"#\[cycle\b", header))
+        cycle = re.search(r"#\[cycle\((\w+)\)", header)
+        self.cycle = cycle[1] if cycle else ""
         self.body = self.end = None
 
     @property
     def key(self):
         """A name for people: modules, type and name."""
         return "::".join([*self.modules, *(each for each in [self.owner.type + self.owner.trait] if each), self.name])
+
+    def proofs(self, crate):
+        """The names of proofs that are its own besides that of its name: that of the cycle of calls that it is in, if it is in one."""
+        return [f"{crate}::{'::'.join([*self.modules, '+' + self.cycle])}"] if self.cycle else []
 
     def path(self):
         """What names it to `--only` before a log has its name, or None: of a method the end of its name, as its type may be of another module;

@@ -30,29 +30,30 @@ def proved_by(name):
     return f"{found[1]}::{found[2].replace('.', '::')}" if found else None
 
 
-def callees(name, text):
-    """The functions whose proofs a function or a block waits for, by its status; none where it has an open goal of its own."""
+def callees(name, text, own=()):
+    """The functions whose proofs a function or a block waits for, by its status; none where it has an open goal of its own, in its proof or
+    in one of these."""
     called, waits, stands = CALLS.match(text), BLOCK.fullmatch(text), STANDS.match(text)
     if stands:
         others = {proved_by(each) for each in re.findall(r"`([^`]+)`", stands[1])}
-        return set() if name in others or None in others else others
+        return set() if others.intersection((name, None, *own)) else others
     if waits:
         return {f"{name}::{each}" for each in re.findall(r"`([^`]+)`", waits[1])}
     return set(re.findall(r"`([^`]+)`", called[1])) if called else set()
 
 
-def waited_for(log, names):
+def waited_for(log, names, own):
     """The functions whose proofs these functions wait for, directly or through others."""
     found, left = set(), set(names)
     while left:
-        left = {callee for name in left for callee in callees(name, log.of.get(name, ""))} - found
+        left = {callee for name in left for callee in callees(name, log.of.get(name, ""), own)} - found
         found |= left
     return found
 
 
-def is_open(name, text):
+def is_open(name, text, own=()):
     """Whether a status says that its function is not proved, for a reason of its own."""
-    return text.startswith(("not proved", "no proof")) and not callees(name, text)
+    return text.startswith(("not proved", "no proof")) and not callees(name, text, own)
 
 
 class Line:
@@ -131,23 +132,24 @@ def by_lines(told):
     return REFUSED, str(meant) if meant else ""
 
 
-def of_functions(log, names, crate, spans):
-    """The verdict on an edit of functions with these names, and why; for one that waits, the functions that it waits for."""
+def of_functions(log, names, crate, spans, own=()):
+    """The verdict on an edit of functions with these names and further proofs of their own, and why; for one that waits, the functions that
+    it waits for."""
     if not names:
         return NOT_JUDGED, "the check's log has no line of its function"
     said = {name: log.of[name] for name in names}
     lost = [name for name, text in said.items() if "could not tell" in text]
     if lost:
         return NOT_JUDGED, f"the prover could not tell of {lost[0]}: {log.why_none()}"
-    told = told_of(log, names, crate, spans)
+    told = told_of(log, [*names, *own], crate, spans)
     unread = [line for line in told if line.is_unread()]
     if unread:
         return by_lines(unread)
-    open_ones = [text for name, text in said.items() if is_open(name, text)]
+    open_ones = [text for name, text in said.items() if is_open(name, text, own)]
     if open_ones:
         verdict, why = by_lines(told)
         return verdict, why or open_ones[0][:170]
-    waits = waited_for(log, names)
+    waits = waited_for(log, names, own)
     if waits - set(names):
         return WAITS, sorted(waits - set(names))
     return (NOT_JUDGED, f"the log says '{list(said.values())[0]}'") if waits else (LET_THROUGH, "")

@@ -43,7 +43,7 @@ def places(crate, folder, sources, files):
             modules = of_type.get(each.owner.type, []) if each.owner.type else [each.modules]
             if len(modules) == 1:
                 paths = ["/".join([*modules[0], *([each.owner.type] if each.owner.type else []), each.name])]
-        found[each] = [] if each.is_in_cycle or each.name == "main" else paths
+        found[each] = [] if each.cycle or each.name == "main" else paths
     return found
 
 

@@ -43,12 +43,16 @@ class Tries:
         return [one for one in self.tries if not one.verdict]
 
     def fits(self, one, chosen, used):
-        """Whether a try fits into a round: no other changes its function, none waits for it, and it waits for none."""
-        if one.is_alone or len(chosen) >= self.most or used.intersection(one.functions):
+        """Whether a try fits into a round: no other changes its function or one of its cycle, none waits for it, and it waits for none."""
+        if one.is_alone or len(chosen) >= self.most or used.intersection(one.functions) or self.proofs(used).intersection(self.proofs(one.functions)):
             return False
         own = {name for each in one.functions for name in self.names.get(each, ())}
         theirs = {name for each in used for name in self.names.get(each, ())}
         return not one.waits & theirs and not any(each.waits & own for each in chosen)
+
+    def proofs(self, functions):
+        """The names of the proofs of cycles that these functions are in."""
+        return {name for each in functions for name in each.proofs(self.checks.name)}
 
     def next_round(self):
         """The tries of the next round, and the changed files; those that are tried alone come last."""
@@ -183,9 +187,9 @@ class Tries:
         no verdict, or where it may be for another's sake."""
         names = [name for each in one.functions for name in self.names[each]]
         spans = [(each.file, *self.sources.span(each)) for each in one.functions]
-        verdict, why = logs.of_functions(log, names, self.checks.name, spans)
+        verdict, why = logs.of_functions(log, names, self.checks.name, spans, self.proofs(one.functions))
         one.seconds = sum(log.took.get(name, 0) for name in names)
-        if verdict == WAITS and is_last:
+        if verdict == WAITS and (is_last or one.waits.issuperset(why)):
             one.judge(NOT_JUDGED, f"it waits for {why[0]}")
         elif verdict == WAITS:
             one.waits.update(why)
