@@ -115,6 +115,8 @@ pub fn all(numbers: &[u8; 2]) -> bool
 {
     numbers.iter().all(|number| *number > 0)
 }
+#[cycle(round)]
+fn turns(number: u8) -> u8 { if number == 0 { 0 } else { turns(number - 1) } }
 """
 NAMES = {
     "inner::TextShown::shown": ["numbers::places::inner::TextShown::shown"],
@@ -122,7 +124,10 @@ NAMES = {
     "TextDrop::drop": ["numbers::text::Text::drop"],
     "Gate::worth": ["numbers::places::Gate::worth", "numbers::places::OpenGate::worth"],
     "all": ["numbers::places::all", "numbers::places::fn::all::all", "numbers::places::fn::all::all+FnMut::call_mut"],
+    "turns": ["numbers::places::turns"],
 }
+# The proof of the cycle that the last of them is in.
+CYCLE = "numbers::places::+round"
 
 # A log of a check of five edits, and what it says of each function.
 LOG = """./proofs/gone/Answers.antt:5:1: error: `returns`: module `Rattle.numbers.proofs.gone.Goals` has no `returns-then` that can be named
@@ -133,6 +138,7 @@ fn numbers::gone: not proved
 fn numbers::fits_no_more: not proved; it calls `numbers::open`, which is not proved
 fn numbers::stands: not proved; it stands on `Rattle.numbers.proofs.gone.Answers.returns`, which antt refuses; it calls `numbers::gone`, which is not proved
 fn numbers::stands_too: not proved; it stands on `Rattle.numbers.proofs.gone.Answers.returns`, `Rattle.numbers.proofs.stands_too.Answers.returns`, which antt refuses
+fn numbers::places::turns: not proved; it stands on `Rattle.numbers.proofs.places.+round.Answers.turns-returns`, which antt refuses
 fn numbers::by_lemma: not proved; it stands on `Rattle.numbers.proofs.Lemmas.more`, which antt refuses
 fn numbers::waits: no proof: it calls `numbers::open` and `numbers::gone`, which are not proved
 fn numbers::same: proved, may abort
@@ -165,7 +171,10 @@ def test_names():
         found.setdefault(function.key.removeprefix("places::"), []).extend(names)
     if found != NAMES:
         print(f"tests/edits_test.py: functions have the names {found}, not {NAMES}")
-    return found != NAMES
+    proofs = [name for function in functions for name in function.proofs("numbers")]
+    if proofs != [CYCLE]:
+        print(f"tests/edits_test.py: functions in cycles have the proofs {proofs}, not {[CYCLE]}")
+    return found != NAMES or proofs != [CYCLE]
 
 
 def test_logs():
@@ -173,9 +182,11 @@ def test_logs():
     log = logs.Log(1, LOG, {})
     found = {name: logs.of_functions(log, [f"numbers::{name}"], "numbers", [])[0] for name in SAID}
     none = logs.of_functions(log, [], "numbers", [])
-    if found != SAID or none[0] != logs.NOT_JUDGED or not log.has_verdict():
-        print(f"tests/edits_test.py: a log says {found}, not {SAID}; of no function it says {none}")
-    return found != SAID or none[0] != logs.NOT_JUDGED
+    in_cycle = [logs.of_functions(log, ["numbers::places::turns"], "numbers", [], own)[0] for own in ((), (CYCLE,))]
+    are_right = found == SAID and none[0] == logs.NOT_JUDGED and in_cycle == [logs.WAITS, logs.REFUSED] and log.has_verdict()
+    if not are_right:
+        print(f"tests/edits_test.py: a log says {found}, not {SAID}; of no function it says {none}, of one in a cycle {in_cycle}")
+    return not are_right
 
 
 def main():
