@@ -141,6 +141,7 @@ fn numbers::stands_too: not proved; it stands on `Rattle.numbers.proofs.gone.Ans
 fn numbers::places::turns: not proved; it stands on `Rattle.numbers.proofs.places.+round.Answers.turns-returns`, which antt refuses
 fn numbers::by_lemma: not proved; it stands on `Rattle.numbers.proofs.Lemmas.more`, which antt refuses
 fn numbers::waits: no proof: it calls `numbers::open` and `numbers::gone`, which are not proved
+fn numbers::turns_too: no proof: in `numbers::back`, of this cycle of calls: it calls `numbers::open`, which is not proved
 fn numbers::same: proved, may abort
 fn numbers::lost: could not tell
 impl numbers::NumberDisplay: not proved; it waits for the proof of `fmt`
@@ -156,6 +157,7 @@ SAID = {
     "stands_too": logs.REFUSED,
     "by_lemma": logs.REFUSED,
     "waits": logs.WAITS,
+    "turns_too": logs.WAITS,
     "same": logs.LET_THROUGH,
     "lost": logs.NOT_JUDGED,
     "NumberDisplay": logs.WAITS,

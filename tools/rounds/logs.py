@@ -11,7 +11,7 @@ OF_NAMES = re.compile(r"has no field|is not in scope|has no `|was not admitted")
 # A proof that was not admitted since another was not.
 OF_OTHERS = re.compile(r"was not admitted")
 # A function with no open goal of its own, which waits for those that it calls. (`not proved; it calls ..` has one.)
-CALLS = re.compile(r"no proof: it calls (.*), which (?:is|are) not proved")
+CALLS = re.compile(r"no proof: (?:in `[^`]*`, of this cycle of calls: )?it calls (.*), which (?:is|are) not proved")
 # A function whose proof stands on refused answers: its own, or those of a function that it calls, directly or not.
 STANDS = re.compile(r"not proved; it stands on ((?:`[^`]*`(?:, | and )?)+)")
 OF_PROOF = re.compile(r"Rattle\.(\w+)\.proofs\.(.+)\.(?:Answers|Invariants|Proof)\.[^.]+")
