@@ -173,10 +173,10 @@ def test_names():
         found.setdefault(function.key.removeprefix("places::"), []).extend(names)
     if found != NAMES:
         print(f"tests/edits_test.py: functions have the names {found}, not {NAMES}")
-    proofs = [name for function in functions for name in function.proofs("numbers")]
-    if proofs != [CYCLE]:
-        print(f"tests/edits_test.py: functions in cycles have the proofs {proofs}, not {[CYCLE]}")
-    return found != NAMES or proofs != [CYCLE]
+    in_cycles = [(PLACES[function.begin :].split("\n")[0], *function.proofs("numbers")) for function in functions if function.cycle]
+    if in_cycles != [("#[cycle(round)]", CYCLE)]:
+        print(f"tests/edits_test.py: functions in cycles begin so, and have these proofs: {in_cycles}, not {[CYCLE]}")
+    return found != NAMES or in_cycles != [("#[cycle(round)]", CYCLE)]
 
 
 def test_logs():

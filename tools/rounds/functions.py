@@ -67,10 +67,10 @@ def closing(text):
 
 
 class Function:
-    """A function of a file: its module's names, its owner, and where it, its body and its end are in the text."""
+    """A function of a file: its module's names, its owner, and where its attributes, it, its body and its end are in the text."""
 
-    def __init__(self, file, path, owner, name, start, header):
-        self.file, self.modules, self.owner, self.name, self.start = file, path, owner, name, start
+    def __init__(self, file, path, owner, name, begin, start, header):
+        self.file, self.modules, self.owner, self.name, self.begin, self.start = file, path, owner, name, begin, start
         self.is_public = bool(re.search(r"\bpub\s+(?:(?:const|unsafe|final|default|extern\s+\S+)\s+)*fn\b", header)) or bool(owner.trait)
         cycle = re.search(r"#\[cycle\((\w+)\)", header)
         self.cycle = cycle[1] if cycle else ""
@@ -162,8 +162,8 @@ class Scan:
         if not self.is_inside():
             named = NAMED.search(header)
             if named:
-                begin = self.begin + named.start()
-                self.pending = Function(self.file, self.path(), self.owner(), named[1], begin, header)
+                begin = self.begin + len(header) - len(header.lstrip())
+                self.pending = Function(self.file, self.path(), self.owner(), named[1], begin, self.begin + named.start(), header)
             kind, value = self.kind_of(header)
         self.stack.append((kind, value, depth))
         if kind == "body":
@@ -229,8 +229,8 @@ class Sources:
         return self.lines[file]
 
     def span(self, function):
-        """The first and the last line of a function, its contract included."""
-        return tuple(bisect.bisect_right(self.starts(function.file), at) for at in (function.start, function.end - 1))
+        """The first and the last line of a function, its attributes and its contract included."""
+        return tuple(bisect.bisect_right(self.starts(function.file), at) for at in (function.begin, function.end - 1))
 
     def at_line(self, file, line):
         """The function that has this line of the file, or None."""
